@@ -1,0 +1,16 @@
+//! The memory of one guest, and checked access to it.
+//!
+//! A guest's driver hands addresses to its devices, and may hand any. Each access here is tested against
+//! the memory's range first, so the layers above never reach beside it. They stand on this crate for
+//! every byte of a descriptor, a ring or a buffer.
+#![tactic(auto)]
+
+mod fault;
+mod memory;
+mod numbers;
+
+pub use fault::MemoryFault;
+pub use memory::GuestMemory;
+
+#[cfg(test)]
+mod tests;

@@ -1,0 +1,73 @@
+// A heap for tests that refuses memory on demand. A test hands `&heap` to the code under test, sets the first request to be
+// refused, and asks afterwards whether it came. Requests that are not refused go to an inner allocator, and so does each block
+// that is given back. A request is an `allocate`; since `grow` and `shrink` are the trait's own, each of those is one too.
+#![tactic(auto)]
+
+ghost use Rattle.std.specs.Prelude.{◌≡◌};
+
+use std::alloc::{AllocError, Allocator, Global};
+use std::cell::Cell;
+
+mod refusal;
+
+use refusal::Refusal;
+
+/// A heap that refuses memory from a chosen request on. A `&` to it is an allocator that can be copied.
+#[derive(Drop)]
+pub struct RefusingHeap<A: Allocator = Global> {
+    /// The allocator that owns the memory.
+    pub inner: A,
+    refusal: Cell<Refusal>,
+}
+
+impl<A: Allocator> RefusingHeap<A> {
+    /// A heap that refuses nothing until `refuse_from` is called.
+    pub fn new(inner: A) -> RefusingHeap<A>
+        ensures passes_on { result.inner ≡ inner }
+    {
+        RefusingHeap {
+            inner,
+            refusal: Cell::new(Refusal::new(0)),
+        }
+    }
+
+    /// Refuses the nth request from now and each later one, or none where `n` is 0. The count of requests begins anew.
+    pub fn refuse_from(&self, n: u64) {
+        self.refusal.set(Refusal::new(n));
+    }
+
+    /// Whether a request was refused since `refuse_from` was last called.
+    pub fn has_refused(&self) -> bool {
+        self.refusal.get().has_come()
+    }
+
+    /// How many requests came since `refuse_from` was last called, or since `new`; refused ones count.
+    pub fn requests(&self) -> u64 {
+        self.refusal.get().requests
+    }
+}
+
+// Counts a request, and answers whether it is refused. It takes the cell alone, so that the proof of `allocate` lends that field.
+fn refuses_next(refusal: &Cell<Refusal>) -> bool {
+    let now = refusal.get().with_request();
+    refusal.set(now);
+    now.has_come()
+}
+
+unsafe impl<A: Allocator> Allocator for RefusingHeap<A> {
+    ghost dealloc_token = { λ heap ty ptr. A.dealloc_token heap.inner ty ptr };
+
+    fn allocate(&self, size: usize, align: usize) -> Result<*mut u8, AllocError> {
+        if refuses_next(&self.refusal) {
+            return Err(AllocError);
+        }
+        self.inner.allocate(size, align)
+    }
+
+    unsafe fn deallocate(&self, ptr: *mut u8, size: usize, align: usize) {
+        self.inner.deallocate(ptr, size, align);
+    }
+}
+
+#[cfg(test)]
+mod tests;
