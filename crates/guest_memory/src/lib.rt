@@ -9,7 +9,7 @@ mod fault;
 mod memory;
 mod numbers;
 
-pub use fault::MemoryFault;
+pub use fault::{MemoryFault, fault_of};
 pub use memory::GuestMemory;
 
 #[cfg(test)]

@@ -6,15 +6,9 @@ ghost use Rattle.guest_memory.specs.Memory.{Inside, SameRange, part_of, zeroed};
 ghost use Rattle.guest_memory.specs.Lending.{LendsPart};
 ghost use Rattle.std.specs.Borrow.{sem};
 
-use crate::fault::MemoryFault;
+use crate::fault::{MemoryFault, fault_of};
 use std::alloc::{Allocator, Global};
 use std::marker::Model;
-
-/// Sizes and bases are multiples of this many bytes.
-const PAGE: u64 = 4096;
-
-/// The largest guest memory, in bytes.
-const MOST: u64 = 1 << 28;
 
 /// The memory of one guest: bytes from a base address on.
 #[derive(Drop)]
@@ -45,11 +39,8 @@ impl<A: Allocator> GuestMemory<A> {
         ensures bad_size { (result ≡ Err MemoryFault.BadSize) ↔ ¬ IsSize len }
         ensures bad_base { (result ≡ Err MemoryFault.BadBase) ↔ (IsSize len × ¬ IsBase base len) }
     {
-        if len < PAGE || len > MOST || len % PAGE != 0 {
-            return Err(MemoryFault::BadSize);
-        }
-        if base % PAGE != 0 || base > u64::MAX - len + 1 {
-            return Err(MemoryFault::BadBase);
+        if let Some(fault) = fault_of(base, len) {
+            return Err(fault);
         }
         match vec![in alloc; 0; len as usize] {
             Ok(bytes) => Ok(GuestMemory { base, bytes }),

@@ -4,9 +4,9 @@
 ghost use Rattle.std.specs.Prelude.{◌≡◌, [], ◌∷◌};
 ghost use Rattle.guest_memory.specs.Memory.{Inside, put};
 
-use crate::{GuestMemory, MemoryFault};
+use crate::{GuestMemory, MemoryFault, fault_of};
 use refusing::RefusingHeap;
-use std::alloc::{Allocator, Global};
+use std::alloc::Allocator;
 
 const BASE: u64 = 0x8000_0000;
 
@@ -17,11 +17,6 @@ fn write_name<A: Allocator>(memory: &mut GuestMemory<A>, addr: u64)
     ensures { memory.new ≡ put memory.old addr (118 ∷ 105 ∷ 114 ∷ 116 ∷ []) }
 {
     memory.part_mut(addr, 4).copy_from_slice(b"virt");
-}
-
-/// The fault of a memory that must be refused.
-fn fault_of(alloc: Global, base: u64, len: u64) -> Option<MemoryFault> {
-    GuestMemory::new(alloc, base, len).err()
 }
 
 #[test]
@@ -139,11 +134,7 @@ fn the_first_fault_counts(rt: HostRuntime) {
         (0xffff_ffff_ffff_f000, 0x1000, None),
         (0, 4096, None),
     ] {
-        assert_eq!(rt;
-            fault_of(rt.alloc(), base, len),
-            want,
-            "{len} bytes at {base:x}"
-        );
+        assert_eq!(rt; fault_of(base, len), want, "{len} bytes at {base:x}");
     }
 }
 

@@ -1,0 +1,5 @@
+pub mod Sets
+pub mod Status
+pub mod Features
+pub mod Negotiation
+pub mod History
