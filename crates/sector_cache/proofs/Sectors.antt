@@ -1,0 +1,181 @@
+-- Sectors and extents of a list of bytes: how long they are, and what each is after one sector was
+-- put in place of another. Callers of an image cite these of the bytes that it tells. Throughout,
+-- a sector lies inside of the bytes where 512 * (sector + 1) is at most their length.
+use Rattle.std.proofs.Common.{◌≡◌, ℕ, ◌+◌, ◌-◌, ◌*◌, ◌<◌, ◌≤◌, ◌⊎◌, ◌≢◌, inl, inr, List, ◌++◌, length, take, drop, get_or, sym, ◌∙◌, ap, arith}
+use Rattle.std.proofs.Math.Seq.{take-add}
+use Rattle.std.proofs.lemmas.Bool.{cases_lt}
+use Rattle.std.proofs.lemmas.List.{length-take-le, length-take, length-drop, length-append, get_or-take, get_or-drop, get_or_append_left, get_or-append_right, drop-drop, drop-take, take-take, take-append-drop, take_at, drop_at, same_lists}
+use borrow.Rule.Slice.PartMut.{put_mid}
+use Rattle.sector_cache.specs.Sector.{extent_of, sector_of, with_sector}
+
+-- a write to the 512 bytes from 512 * sector on is a write of the sector
+pub put_mid-sector : (bytes new : List ℕ) (sector at n : ℕ) → at ≡ sector * 512 → n ≡ 512 → put_mid at n bytes new ≡ with_sector bytes sector new
+put_mid-sector bytes new sector at n e f =
+    ap (λ rest. take at bytes ++ (new ++ rest)) (drop-drop n at bytes)
+    ∙ ap (λ m. take m bytes ++ (new ++ drop (at + n) bytes)) (omega (arith, e))
+    ∙ ap (λ m. take (512 * sector) bytes ++ (new ++ drop m bytes)) (omega (arith, e, f))
+
+-- Lengths.
+
+pub length-extent_of : (bytes : List ℕ) (start count : ℕ) → 512 * (start + count) ≤ length bytes → length (extent_of bytes start count) ≡ 512 * count
+length-extent_of bytes start count inside =
+    length-take-le (512 * count) (drop (512 * start) bytes) (omega (arith, length-drop (512 * start) bytes))
+
+pub length-sector_of : (bytes : List ℕ) (sector : ℕ) → 512 * (sector + 1) ≤ length bytes → length (sector_of bytes sector) ≡ 512
+length-sector_of bytes sector inside = length-extent_of bytes sector 1 inside
+
+pub length-with_sector : (bytes : List ℕ) (sector : ℕ) (new : List ℕ) → 512 * (sector + 1) ≤ length bytes → length new ≡ 512 → length (with_sector bytes sector new) ≡ length bytes
+length-with_sector bytes sector new inside whole =
+    omega (arith, length-append (take (512 * sector) bytes) (new ++ drop (512 * (sector + 1)) bytes), length-append new (drop (512 * (sector + 1)) bytes), length-take-le (512 * sector) bytes (omega arith), length-drop (512 * (sector + 1)) bytes)
+
+-- Byte by byte.
+
+-- a byte before the sector is as it was
+pub get_or-with_sector_before : (bytes : List ℕ) (sector : ℕ) (new : List ℕ) (i d : ℕ) → 512 * sector ≤ length bytes → i < 512 * sector → get_or (with_sector bytes sector new) i d ≡ get_or bytes i d
+get_or-with_sector_before bytes sector new i d inside before =
+    get_or_append_left (take (512 * sector) bytes) (new ++ drop (512 * (sector + 1)) bytes) d i (omega (arith, length-take-le (512 * sector) bytes inside))
+    ∙ get_or-take (512 * sector) bytes i d before
+
+-- a byte of the sector is one of the new bytes
+pub get_or-with_sector_within : (bytes : List ℕ) (sector : ℕ) (new : List ℕ) (i d : ℕ) → 512 * sector ≤ length bytes → length new ≡ 512 → i < 512 → get_or (with_sector bytes sector new) (512 * sector + i) d ≡ get_or new i d
+get_or-with_sector_within bytes sector new i d inside whole within =
+    get_or-append_right (take (512 * sector) bytes) (new ++ drop (512 * (sector + 1)) bytes) (512 * sector) (512 * sector + i) d (length-take-le (512 * sector) bytes inside) (omega arith)
+    ∙ ap (λ j. get_or (new ++ drop (512 * (sector + 1)) bytes) j d) (let e : 512 * sector + i - 512 * sector ≡ i = omega arith in e)
+    ∙ get_or_append_left new (drop (512 * (sector + 1)) bytes) d i (omega arith)
+
+-- a byte after the sector is as it was
+pub get_or-with_sector_after : (bytes : List ℕ) (sector : ℕ) (new : List ℕ) (i d : ℕ) → 512 * sector ≤ length bytes → length new ≡ 512 → 512 * (sector + 1) ≤ i → get_or (with_sector bytes sector new) i d ≡ get_or bytes i d
+get_or-with_sector_after bytes sector new i d inside whole after =
+    get_or-append_right (take (512 * sector) bytes) (new ++ drop (512 * (sector + 1)) bytes) (512 * sector) i d (length-take-le (512 * sector) bytes inside) (omega arith)
+    ∙ get_or-append_right new (drop (512 * (sector + 1)) bytes) 512 (i - 512 * sector) d whole (omega arith)
+    ∙ get_or-drop (512 * (sector + 1)) bytes (i - 512 * sector - 512) d
+    ∙ ap (λ j. get_or bytes j d) (omega arith)
+
+-- a byte of another sector is as it was
+pub get_or-with_sector_other : (bytes : List ℕ) (sector : ℕ) (new : List ℕ) (i d : ℕ) → 512 * sector ≤ length bytes → length new ≡ 512 → (i < 512 * sector) ⊎ (512 * (sector + 1) ≤ i) → get_or (with_sector bytes sector new) i d ≡ get_or bytes i d
+get_or-with_sector_other bytes sector new i d inside whole other =
+    elim other [
+      | inl before ↦ get_or-with_sector_before bytes sector new i d inside before
+      | inr after ↦ get_or-with_sector_after bytes sector new i d inside whole after
+    ]
+
+-- byte i of an extent
+pub get_or-extent_of : (bytes : List ℕ) (start count i d : ℕ) → i < 512 * count → get_or (extent_of bytes start count) i d ≡ get_or bytes (512 * start + i) d
+get_or-extent_of bytes start count i d within =
+    get_or-take (512 * count) (drop (512 * start) bytes) i d within ∙ get_or-drop (512 * start) bytes i d
+
+-- Sectors after a write of one.
+
+-- the sector written reads as what was written
+pub sector_of-with_sector : (bytes : List ℕ) (sector : ℕ) (new : List ℕ) → 512 * sector ≤ length bytes → length new ≡ 512 → sector_of (with_sector bytes sector new) sector ≡ new
+sector_of-with_sector bytes sector new inside whole =
+    ap (take 512) (drop_at (take (512 * sector) bytes) (new ++ drop (512 * (sector + 1)) bytes) (512 * sector) (length-take-le (512 * sector) bytes inside))
+    ∙ take_at new (drop (512 * (sector + 1)) bytes) 512 whole
+
+-- an extent that the sector isn't in is as it was
+pub extent_of-with_sector_apart : (bytes : List ℕ) (sector : ℕ) (new : List ℕ) (start count : ℕ) → 512 * (sector + 1) ≤ length bytes → length new ≡ 512 → (sector < start) ⊎ (start + count ≤ sector) → extent_of (with_sector bytes sector new) start count ≡ extent_of bytes start count
+extent_of-with_sector_apart bytes sector new start count inside whole apart =
+    same_lists _ _ same_length same_bytes
+  where
+    same_length : length (extent_of (with_sector bytes sector new) start count) ≡ length (extent_of bytes start count)
+    same_length =
+        length-take (512 * count) (drop (512 * start) (with_sector bytes sector new))
+        ∙ omega (arith, length-take (512 * count) (drop (512 * start) bytes), length-drop (512 * start) bytes, length-drop (512 * start) (with_sector bytes sector new), length-with_sector bytes sector new inside whole)
+
+    same_bytes : (i d : ℕ) → i < length (extent_of (with_sector bytes sector new) start count) → get_or (extent_of (with_sector bytes sector new) start count) i d ≡ get_or (extent_of bytes start count) i d
+    same_bytes i d within =
+        let below : i < 512 * count = omega (arith, within, length-take (512 * count) (drop (512 * start) (with_sector bytes sector new))) in
+        let other : (512 * start + i < 512 * sector) ⊎ (512 * (sector + 1) ≤ 512 * start + i) =
+        elim apart [ inl before ↦ inr (omega arith) | inr after ↦ inl (omega arith) ] in
+        get_or-extent_of (with_sector bytes sector new) start count i d below
+        ∙ get_or-with_sector_other bytes sector new (512 * start + i) d (omega arith) whole other
+        ∙ sym (get_or-extent_of bytes start count i d below)
+
+-- another sector is as it was
+pub sector_of-with_sector_other : (bytes : List ℕ) (sector : ℕ) (new : List ℕ) (other : ℕ) → 512 * (sector + 1) ≤ length bytes → length new ≡ 512 → other ≢ sector → sector_of (with_sector bytes sector new) other ≡ sector_of bytes other
+sector_of-with_sector_other bytes sector new other inside whole differs =
+    extent_of-with_sector_apart bytes sector new other 1 inside whole
+    (elim (cases_lt sector other) [ inl below ↦ inl below | inr above ↦ inr (omega arith) ])
+
+-- an extent that the sector is in has the new bytes at the sector counted from its start
+pub extent_of-with_sector : (bytes : List ℕ) (start count sector : ℕ) (new : List ℕ) → 512 * (start + count) ≤ length bytes → sector < count → length new ≡ 512 → extent_of (with_sector bytes (start + sector) new) start count ≡ with_sector (extent_of bytes start count) sector new
+extent_of-with_sector bytes start count sector new inside within whole =
+    same_lists _ _ (long ∙ sym long_extent) same_bytes
+  where
+    long : length (extent_of (with_sector bytes (start + sector) new) start count) ≡ 512 * count
+    long = length-extent_of (with_sector bytes (start + sector) new) start count (omega (arith, length-with_sector bytes (start + sector) new (omega arith) whole))
+
+    old_long : length (extent_of bytes start count) ≡ 512 * count
+    old_long = length-extent_of bytes start count inside
+
+    long_extent : length (with_sector (extent_of bytes start count) sector new) ≡ 512 * count
+    long_extent = length-with_sector (extent_of bytes start count) sector new (omega (arith, old_long)) whole ∙ old_long
+
+    same_bytes : (i d : ℕ) → i < length (extent_of (with_sector bytes (start + sector) new) start count) → get_or (extent_of (with_sector bytes (start + sector) new) start count) i d ≡ get_or (with_sector (extent_of bytes start count) sector new) i d
+    same_bytes i d under =
+        let below : i < 512 * count = omega (arith, long, under) in
+        get_or-extent_of (with_sector bytes (start + sector) new) start count i d below
+        ∙ (elim (cases_lt i (512 * sector)) [
+          | inl before ↦
+              get_or-with_sector_before bytes (start + sector) new (512 * start + i) d (omega arith) (omega arith)
+              ∙ sym (get_or-extent_of bytes start count i d below)
+              ∙ sym (get_or-with_sector_before (extent_of bytes start count) sector new i d (omega (arith, old_long)) before)
+          | inr from ↦
+              elim (cases_lt i (512 * (sector + 1))) [
+                | inl inner ↦
+                    ap (λ j. get_or (with_sector bytes (start + sector) new) j d) (let e : 512 * start + i ≡ 512 * (start + sector) + (i - 512 * sector) = omega arith in e)
+                    ∙ get_or-with_sector_within bytes (start + sector) new (i - 512 * sector) d (omega arith) whole (omega arith)
+                    ∙ sym (get_or-with_sector_within (extent_of bytes start count) sector new (i - 512 * sector) d (omega (arith, old_long)) whole (omega arith))
+                    ∙ ap (λ j. get_or (with_sector (extent_of bytes start count) sector new) j d) (let e : 512 * sector + (i - 512 * sector) ≡ i = omega arith in e)
+                | inr after ↦
+                    get_or-with_sector_after bytes (start + sector) new (512 * start + i) d (omega arith) whole (omega arith)
+                    ∙ sym (get_or-extent_of bytes start count i d below)
+                    ∙ sym (get_or-with_sector_after (extent_of bytes start count) sector new i d (omega (arith, old_long)) whole after)
+              ]
+        ])
+
+-- writing what stands there changes nothing
+pub with_sector-sector_of : (bytes : List ℕ) (sector : ℕ) → with_sector bytes sector (sector_of bytes sector) ≡ bytes
+with_sector-sector_of bytes sector =
+    ap (λ rest. take (512 * sector) bytes ++ (sector_of bytes sector ++ rest)) (ap (λ n. drop n bytes) (omega arith) ∙ sym (drop-drop 512 (512 * sector) bytes))
+    ∙ ap (λ rest. take (512 * sector) bytes ++ rest) (take-append-drop 512 (drop (512 * sector) bytes))
+    ∙ take-append-drop (512 * sector) bytes
+
+-- of two writes to one sector the later stands
+pub with_sector-with_sector : (bytes : List ℕ) (sector : ℕ) (old new : List ℕ) → 512 * (sector + 1) ≤ length bytes → length old ≡ 512 → with_sector (with_sector bytes sector old) sector new ≡ with_sector bytes sector new
+with_sector-with_sector bytes sector old new inside whole =
+    ap (λ front. front ++ (new ++ drop (512 * (sector + 1)) (with_sector bytes sector old))) (take_at (take (512 * sector) bytes) (old ++ drop (512 * (sector + 1)) bytes) (512 * sector) front_long)
+    ∙ ap (λ rest. take (512 * sector) bytes ++ (new ++ rest)) rest_same
+  where
+    front_long : length (take (512 * sector) bytes) ≡ 512 * sector
+    front_long = length-take-le (512 * sector) bytes (omega arith)
+
+    rest_same : drop (512 * (sector + 1)) (with_sector bytes sector old) ≡ drop (512 * (sector + 1)) bytes
+    rest_same =
+        ap (λ n. drop n (with_sector bytes sector old)) (let e : 512 * (sector + 1) ≡ 512 * sector + 512 = omega arith in e)
+        ∙ sym (drop-drop 512 (512 * sector) (with_sector bytes sector old))
+        ∙ ap (drop 512) (drop_at (take (512 * sector) bytes) (old ++ drop (512 * (sector + 1)) bytes) (512 * sector) front_long)
+        ∙ drop_at old (drop (512 * (sector + 1)) bytes) 512 whole
+
+-- Extents of extents.
+
+-- an extent within an extent is one of the bytes
+pub extent_of-extent_of : (bytes : List ℕ) (start count from some : ℕ) → from + some ≤ count → extent_of (extent_of bytes start count) from some ≡ extent_of bytes (start + from) some
+extent_of-extent_of bytes start count from some within =
+    ap (λ n. take (512 * some) (drop (512 * from) (take n (drop (512 * start) bytes)))) (let e : 512 * count ≡ 512 * from + 512 * (count - from) = omega arith in e)
+    ∙ ap (take (512 * some)) (drop-take (512 * from) (512 * (count - from)) (drop (512 * start) bytes))
+    ∙ take-take (512 * some) (512 * (count - from)) (drop (512 * from) (drop (512 * start) bytes)) (omega arith)
+    ∙ ap (take (512 * some)) (drop-drop (512 * from) (512 * start) bytes)
+    ∙ ap (λ n. take (512 * some) (drop n bytes)) (let e : 512 * start + 512 * from ≡ 512 * (start + from) = omega arith in e)
+
+-- a sector of an extent is one of the bytes
+pub sector_of-extent_of : (bytes : List ℕ) (start count sector : ℕ) → sector < count → sector_of (extent_of bytes start count) sector ≡ sector_of bytes (start + sector)
+sector_of-extent_of bytes start count sector within = extent_of-extent_of bytes start count sector 1 (omega arith)
+
+-- one sector more
+pub extent_of-more : (bytes : List ℕ) (start count : ℕ) → extent_of bytes start (count + 1) ≡ extent_of bytes start count ++ sector_of bytes (start + count)
+extent_of-more bytes start count =
+    ap (λ n. take n (drop (512 * start) bytes)) (let e : 512 * (count + 1) ≡ 512 * count + 512 = omega arith in e)
+    ∙ take-add (512 * count) 512 (drop (512 * start) bytes)
+    ∙ ap (λ rest. extent_of bytes start count ++ take 512 rest) (drop-drop (512 * count) (512 * start) bytes)
+    ∙ ap (λ n. extent_of bytes start count ++ take 512 (drop n bytes)) (let e : 512 * start + 512 * count ≡ 512 * (start + count) = omega arith in e)

@@ -1,0 +1,6 @@
+pub mod Sector
+pub mod Disk
+pub mod Fault
+pub mod MemoryImage
+pub mod Script
+pub mod ScriptedImage

@@ -1,0 +1,13 @@
+-- What a scripted image is seen as: its disk, and its script beside that.
+use Rattle.sector_cache.specs.Disk.{Disk}
+use Rattle.sector_cache.specs.MemoryImage as memory
+use Rattle.sector_cache.specs.Script.{Script}
+use Rattle.sector_cache.specs.declared.scripted.ScriptedImage.{ScriptedImage}
+
+-- the image in memory behind it, with the failures that were called for
+abbrev pub disk_of : {A : Type 0} → ScriptedImage A → Disk
+disk_of image = record (memory.disk_of image.memory) { failures = image.failures }
+
+abbrev pub script_of : {A : Type 0} → ScriptedImage A → Script
+script_of image =
+    record { failing = image.failing.items; calls = image.calls; flushes = image.flushes }

@@ -1,0 +1,101 @@
+//! A cache of sectors over an image.
+
+ghost use Rattle.std.specs.Prelude.{◌≡◌, ◌<◌, IfOk, IfErr, OnOk, OnErr, replicate};
+ghost use Rattle.sector_cache.specs.Disk.{IsAsTold, IsTorn, failed, written, flushed};
+ghost use Rattle.sector_cache.specs.Fault.{IsCapacity, RefusesCapacity};
+
+use crate::fault::{CacheFault, Refused};
+use crate::image::{Image, ImageError};
+use std::alloc::{Allocator, Global};
+use std::marker::Model;
+
+/// How many sectors a cache may keep at most.
+const MOST_SECTORS: u32 = 65536;
+
+/// An image behind a cache. Writes go through to it.
+///
+/// What is kept is never seen: a cache is seen as its image, and reads give what that tells.
+#[derive(Drop)]
+pub struct SectorCache<I: Image, A: Allocator = Global> {
+    image: I,
+    // For the sectors that are kept; none are yet.
+    alloc: A,
+}
+
+impl<I: Image, A: Allocator> Model for SectorCache<I, A> {
+    ghost Value = { I };
+
+    ghost view = { λ cache. cache.image };
+}
+
+impl<I: Image, A: Allocator + Copy> SectorCache<I, A> {
+    /// Puts a cache of at most `capacity` sectors before an image.
+    pub fn new(alloc: A, image: I, capacity: u32) -> Result<Self, Refused<I, CacheFault>>
+        ensures ok { OnOk result (IsCapacity capacity) }
+        ensures seen { IfOk result (λ cache. cache ≡ image) }
+        ensures fault { IfErr result (λ refused. RefusesCapacity capacity refused.why) }
+        ensures returned { IfErr result (λ refused. refused.image ≡ image) }
+    {
+        if capacity == 0 || capacity > MOST_SECTORS {
+            return Err(Refused {
+                image,
+                why: CacheFault::BadCapacity,
+            });
+        }
+        Ok(SectorCache { image, alloc })
+    }
+
+    /// Reads a sector. After an `Err` `into` may hold any bytes.
+    pub fn read(&mut self, sector: u64, into: &mut [u8; 512]) -> Result<(), ImageError>
+        requires { sector < (I.disk self.old).sector_count }
+        ensures read { OnOk result (IsAsTold (I.disk self.old) sector into.new) }
+        ensures ok { OnOk result (I.disk self.new ≡ I.disk self.old) }
+        ensures err { OnErr result (I.disk self.new ≡ failed (I.disk self.old)) }
+    {
+        self.image.read_sector(sector, into)
+    }
+
+    /// Writes a sector. After an `Err` that sector may hold any 512 bytes.
+    pub fn write(&mut self, sector: u64, from: &[u8; 512]) -> Result<(), ImageError>
+        requires { sector < (I.disk self.old).sector_count }
+        ensures ok { OnOk result (I.disk self.new ≡ written sector from.now (I.disk self.old)) }
+        ensures err { OnErr result (IsTorn sector (I.disk self.old) (I.disk self.new)) }
+    {
+        self.image.write_sector(sector, from)
+    }
+
+    /// Writes 512 zeros.
+    pub fn zero(&mut self, sector: u64) -> Result<(), ImageError>
+        requires { sector < (I.disk self.old).sector_count }
+        ensures ok { OnOk result
+            (I.disk self.new ≡ written sector (replicate 512 0) (I.disk self.old)) }
+        ensures err { OnErr result (IsTorn sector (I.disk self.old) (I.disk self.new)) }
+    {
+        self.write(sector, &[0; 512])
+    }
+}
+
+impl<I: Image, A: Allocator> SectorCache<I, A> {
+    /// Hands what was written so far to the medium.
+    pub fn flush(&mut self) -> Result<(), ImageError>
+        ensures ok { OnOk result (I.disk self.new ≡ flushed (I.disk self.old)) }
+        ensures err { OnErr result (I.disk self.new ≡ failed (I.disk self.old)) }
+    {
+        self.image.flush()
+    }
+
+    /// The image as it stands.
+    pub fn image(&self) -> &I
+        ensures { result.now ≡ self.now }
+    {
+        &self.image
+    }
+
+    /// Gives the image back as it stands.
+    pub fn into_image(self) -> I
+        ensures { result ≡ self }
+    {
+        let SectorCache { image, alloc: _ } = self;
+        image
+    }
+}

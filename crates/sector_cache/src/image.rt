@@ -1,0 +1,56 @@
+//! What a disk image is: the calls that the cache makes, and what each of them leaves.
+
+ghost use Rattle.std.specs.Prelude.{◌≡◌, ◌^◌, ◌<◌, OnOk, OnErr};
+ghost use Rattle.sector_cache.specs.Disk.{Disk, IsWhole, IsAsTold, IsTorn, failed, written, flushed};
+
+use std::error::Error;
+use std::fmt;
+
+/// A call of an image failed. What stands in `into` after a failed read is left open.
+#[derive(Clone, Copy, Debug, PartialEq, Eq, Hash)]
+pub struct ImageError;
+
+impl fmt::Display for ImageError {
+    fn fmt<W: fmt::Write>(&self, f: &mut fmt::Formatter<W>) -> fmt::Result {
+        f.write_str("the image failed")
+    }
+}
+
+impl Error for ImageError {}
+
+/// A disk of `sectors()` sectors of 512 bytes, numbered from 0.
+///
+/// Its meaning is its `disk`: the bytes that it tells, the number of its failures and its mark. An
+/// image of which nothing is known, as one over a file, tells no bytes; what is said of bytes then
+/// says nothing of it, and the rest holds as of any image. An image that tells its bytes goes on
+/// telling them, since every call says what they are then.
+pub trait Image {
+    ghost disk: { Self → Disk };
+
+    fn sectors(&self) -> u64
+        ensures { result ≡ (disk self.now).sector_count };
+
+    /// After an `Err` `into` may hold any bytes.
+    fn read_sector(&mut self, sector: u64, into: &mut [u8; 512]) -> Result<(), ImageError>
+        requires { sector < (disk self.old).sector_count }
+        ensures read { OnOk result (IsAsTold (disk self.old) sector into.new) }
+        ensures ok { OnOk result (disk self.new ≡ disk self.old) }
+        ensures err { OnErr result (disk self.new ≡ failed (disk self.old)) };
+
+    /// After an `Err` the sector may hold any 512 bytes.
+    fn write_sector(&mut self, sector: u64, from: &[u8; 512]) -> Result<(), ImageError>
+        requires { sector < (disk self.old).sector_count }
+        ensures ok { OnOk result (disk self.new ≡ written sector from.now (disk self.old)) }
+        ensures err { OnErr result (IsTorn sector (disk self.old) (disk self.new)) };
+
+    /// Hands what was written so far to the medium.
+    fn flush(&mut self) -> Result<(), ImageError>
+        ensures ok { OnOk result (disk self.new ≡ flushed (disk self.old)) }
+        ensures err { OnErr result (disk self.new ≡ failed (disk self.old)) };
+
+    // 512 bytes are told for each sector
+    ghost whole: { (image : Self) → IsWhole (disk image) };
+
+    // a `u64` numbers them
+    ghost fits: { (image : Self) → (disk image).sector_count < 2 ^ 64 };
+}

@@ -1,0 +1,91 @@
+//! An image that is a list of bytes in memory. Its calls never fail.
+
+ghost use Rattle.std.specs.Prelude.{◌≡◌, ◌≢◌, ◌%◌, ◌<◌, ◌↔◌, length, Some, OnOk, IfOk, IsOk, IsErrOf};
+ghost use Rattle.sector_cache.specs.Disk.{IsAsTold, new_disk, written, flushed};
+
+use crate::fault::ImageFault;
+use crate::image::{Image, ImageError};
+use crate::sector;
+use std::alloc::{Allocator, Global};
+
+/// An image in memory.
+#[derive(Drop)]
+pub struct MemoryImage<A: Allocator = Global> {
+    bytes: Vec<u8, A>,
+    mark: bool,
+    ghost whole: { length bytes.items % 512 ≡ 0 },
+}
+
+impl<A: Allocator> MemoryImage<A> {
+    ghost use Rattle.sector_cache.specs.MemoryImage.{disk_of};
+
+    /// An image of these bytes. Where their number is no multiple of 512 they are dropped.
+    pub fn new(bytes: Vec<u8, A>) -> Result<Self, ImageFault>
+        ensures ok { OnOk result (length bytes.items % 512 ≡ 0) }
+        ensures seen { IfOk result (λ image. disk_of image ≡ new_disk bytes.items) }
+        ensures bad_size { IsErrOf result ImageFault.BadSize ↔ (length bytes.items % 512 ≢ 0) }
+    {
+        if !bytes.len().is_multiple_of(sector::SECTOR_BYTES) {
+            return Err(ImageFault::BadSize);
+        }
+        Ok(MemoryImage { bytes, mark: false })
+    }
+
+    /// The bytes as they stand.
+    pub fn bytes(&self) -> &[u8]
+        ensures { (disk_of self.now).told ≡ Some result.now }
+    {
+        self.bytes.as_slice()
+    }
+
+    /// Gives the bytes back as they stand.
+    pub fn into_bytes(self) -> Vec<u8, A>
+        ensures { (disk_of self).told ≡ Some result.items }
+    {
+        let MemoryImage { bytes, mark: _ } = self;
+        bytes
+    }
+}
+
+impl<A: Allocator> Image for MemoryImage<A> {
+    ghost use Rattle.std.proofs.Common.{arith};
+    ghost use Rattle.sector_cache.specs.MemoryImage.{disk_of};
+
+    ghost disk = { disk_of };
+
+    fn sectors(&self) -> u64 {
+        self.bytes.len() as u64 / 512
+    }
+
+    fn read_sector(&mut self, sector: u64, into: &mut [u8; 512]) -> Result<(), ImageError>
+        requires { sector < (disk_of self.old).sector_count }
+        ensures succeeds { IsOk result }
+        ensures read { IsAsTold (disk_of self.old) sector into.new }
+        ensures after { disk_of self.new ≡ disk_of self.old }
+    {
+        sector::copy_from(&self.bytes, sector, into);
+        Ok(())
+    }
+
+    fn write_sector(&mut self, sector: u64, from: &[u8; 512]) -> Result<(), ImageError>
+        requires { sector < (disk_of self.old).sector_count }
+        ensures succeeds { IsOk result }
+        ensures after { disk_of self.new ≡ written sector from.now (disk_of self.old) }
+    {
+        self.mark = true;
+        sector::copy_into(&mut self.bytes, sector, from);
+        Ok(())
+    }
+
+    fn flush(&mut self) -> Result<(), ImageError>
+        ensures succeeds { IsOk result }
+        ensures after { disk_of self.new ≡ flushed (disk_of self.old) }
+    {
+        self.mark = false;
+        Ok(())
+    }
+
+    ghost whole = { λ image. Prim.omega (arith, image.whole) };
+
+    ghost fits = { λ image. Prim.omega (arith, image.bytes.ok) };
+}
