@@ -1,0 +1,118 @@
+-- Which buffers may stand behind others: one by one, and all at once.
+use Rattle.std.proofs.Common.{◌≡◌, List, [], ◌∷◌, ◌++◌, refl, arith, append_assoc, length-append}
+use Rattle.std.specs.Prelude.{All}
+use Rattle.std.proofs.lemmas.List.{length_push, append-nil}
+use Rattle.std.proofs.lemmas.List.Sums.{sum_by_push, sum_by-append, sum_by-cons}
+use Rattle.std.proofs.lemmas.List.Elements.{All-push, All-nil, All-head, All-tail}
+use Rattle.guest_memory.specs.Memory.{Memory}
+use Rattle.chain.specs.declared.segment.Buffer.{Buffer}
+use Rattle.chain.specs.declared.fault.Fault.{Fault}
+use Rattle.chain.specs.declared.fault.Fault.TheVariants.{Jump, Index, Loop, TooMany, Table, Nested, Joined, NoIndirect, Range, TooLong}
+use Rattle.chain.specs.Buffers.{Within, Good, Admits, AdmitsAll, Refuses}
+
+module _ (m : Memory) where
+  -- one more behind those that may stand there
+  pub AdmitsAll-push : (before xs : List Buffer) (b : Buffer) → AdmitsAll m before xs → Admits m (before ++ xs) b → AdmitsAll m before (xs ++ b ∷ [])
+  AdmitsAll-push before [] b h a = (rw append-nil at a, tt)
+  AdmitsAll-push before (x ∷ xs) b h a = (h.0, AdmitsAll-push (before ++ x ∷ []) xs b h.1 (rw (append_assoc before (x ∷ []) xs) a))
+
+  -- what may stand behind a good list makes a good list
+  pub Good-append : (before xs : List Buffer) → Good m before → AdmitsAll m before xs → Good m (before ++ xs)
+  Good-append before [] g h = rw append-nil g
+  Good-append before (x ∷ xs) g h =
+      let more : Good m (before ++ x ∷ []) = record {
+        inside = All-push (Within m) before x g.inside h.0.inside;
+        few = omega (arith, length_push before x, h.0.room);
+        fits = omega (arith, sum_by_push (λ (b : Buffer). b.segment.len) before x, h.0.fits);
+      } in
+      rw (← append_assoc before (x ∷ []) xs) (Good-append (before ++ x ∷ []) xs more h.1)
+
+  -- no buffer is good
+  pub good_nil : Good m []
+  good_nil = record { inside = All-nil (Within m); few = omega arith; fits = omega arith }
+
+  -- what may stand behind nothing is good
+  pub Good-from_AdmitsAll : (xs : List Buffer) → AdmitsAll m [] xs → Good m xs
+  Good-from_AdmitsAll xs h = Good-append [] xs good_nil h
+
+  -- and the other way round: the tail of a good list may stand behind its front
+  pub AdmitsAll-from_Good : (before xs : List Buffer) → Good m (before ++ xs) → AdmitsAll m before xs
+  AdmitsAll-from_Good before [] g = tt
+  AdmitsAll-from_Good before (x ∷ xs) g =
+      let n = length-append before (x ∷ xs) in
+      let s = sum_by-append (λ (b : Buffer). b.segment.len) before (x ∷ xs) in
+      let c = sum_by-cons (λ (b : Buffer). b.segment.len) x xs in (
+        record { inside = All-here before x xs g.inside; room = omega (arith, n, g.few); fits = omega (arith, s, c, g.fits) },
+        AdmitsAll-from_Good (before ++ x ∷ []) xs (rw (append_assoc before (x ∷ []) xs) g),
+      )
+    where
+      All-here : (before : List Buffer) (x : Buffer) (xs : List Buffer) → All (Within m) (before ++ x ∷ xs) → Within m x
+      All-here [] x xs h = All-head (Within m) x xs h
+      All-here (b ∷ before) x xs h = All-here before x xs (All-tail (Within m) b (before ++ x ∷ xs) h)
+
+  -- the first of those that may stand behind a front
+  pub Admits-at : (before front : List Buffer) (b : Buffer) (rest : List Buffer) → AdmitsAll m before (front ++ b ∷ rest) → Admits m (before ++ front) b
+  Admits-at before [] b rest h = rw append-nil h.0
+  Admits-at before (x ∷ front) b rest h = rw (append_assoc before (x ∷ []) front) at (Admits-at (before ++ x ∷ []) front b rest h.1)
+
+  -- no buffer is both admitted and refused
+  pub Admits-Refuses : (buffers : List Buffer) (b : Buffer) (fault : Fault) → Admits m buffers b → Refuses m buffers b fault → ⊥
+  Admits-Refuses buffers b Range a r = r a.inside
+  Admits-Refuses buffers b TooMany a r = absurd (omega (arith, a.room, r.1))
+  Admits-Refuses buffers b TooLong a r = absurd (omega (arith, a.fits, r.2))
+  Admits-Refuses buffers b Jump a r = r
+  Admits-Refuses buffers b Index a r = r
+  Admits-Refuses buffers b Loop a r = r
+  Admits-Refuses buffers b Table a r = r
+  Admits-Refuses buffers b Nested a r = r
+  Admits-Refuses buffers b Joined a r = r
+  Admits-Refuses buffers b NoIndirect a r = r
+
+  -- a buffer is refused for one cause
+  pub Refuses-unique : (buffers : List Buffer) (b : Buffer) (f g : Fault) → Refuses m buffers b f → Refuses m buffers b g → f ≡ g
+  Refuses-unique buffers b Jump g r s = absurd r
+  Refuses-unique buffers b Index g r s = absurd r
+  Refuses-unique buffers b Loop g r s = absurd r
+  Refuses-unique buffers b TooMany Jump r s = absurd s
+  Refuses-unique buffers b TooMany Index r s = absurd s
+  Refuses-unique buffers b TooMany Loop r s = absurd s
+  Refuses-unique buffers b TooMany TooMany r s = refl
+  Refuses-unique buffers b TooMany Table r s = absurd s
+  Refuses-unique buffers b TooMany Nested r s = absurd s
+  Refuses-unique buffers b TooMany Joined r s = absurd s
+  Refuses-unique buffers b TooMany NoIndirect r s = absurd s
+  Refuses-unique buffers b TooMany Range r s = absurd (s r.0)
+  Refuses-unique buffers b TooMany TooLong r s = absurd (omega (arith, r.1, s.1))
+  Refuses-unique buffers b Table g r s = absurd r
+  Refuses-unique buffers b Nested g r s = absurd r
+  Refuses-unique buffers b Joined g r s = absurd r
+  Refuses-unique buffers b NoIndirect g r s = absurd r
+  Refuses-unique buffers b Range Jump r s = absurd s
+  Refuses-unique buffers b Range Index r s = absurd s
+  Refuses-unique buffers b Range Loop r s = absurd s
+  Refuses-unique buffers b Range TooMany r s = absurd (r s.0)
+  Refuses-unique buffers b Range Table r s = absurd s
+  Refuses-unique buffers b Range Nested r s = absurd s
+  Refuses-unique buffers b Range Joined r s = absurd s
+  Refuses-unique buffers b Range NoIndirect r s = absurd s
+  Refuses-unique buffers b Range Range r s = refl
+  Refuses-unique buffers b Range TooLong r s = absurd (r s.0)
+  Refuses-unique buffers b TooLong Jump r s = absurd s
+  Refuses-unique buffers b TooLong Index r s = absurd s
+  Refuses-unique buffers b TooLong Loop r s = absurd s
+  Refuses-unique buffers b TooLong TooMany r s = absurd (omega (arith, r.1, s.1))
+  Refuses-unique buffers b TooLong Table r s = absurd s
+  Refuses-unique buffers b TooLong Nested r s = absurd s
+  Refuses-unique buffers b TooLong Joined r s = absurd s
+  Refuses-unique buffers b TooLong NoIndirect r s = absurd s
+  Refuses-unique buffers b TooLong Range r s = absurd (s r.0)
+  Refuses-unique buffers b TooLong TooLong r s = refl
+
+  -- the same buffer under another name
+  pub Refuses-at : (buffers : List Buffer) (b c : Buffer) (f : Fault) → b ≡ c → Refuses m buffers b f → Refuses m buffers c f
+  Refuses-at buffers b c f e r = rw e at r
+
+  -- what may stand behind these buffers, without its end
+  pub AdmitsAll-front : (before xs ys : List Buffer) → AdmitsAll m before (xs ++ ys) → AdmitsAll m before xs
+  AdmitsAll-front before [] ys h = tt
+  AdmitsAll-front before (x ∷ xs) ys h = (h.0, AdmitsAll-front (before ++ x ∷ []) xs ys h.1)

@@ -1,0 +1,163 @@
+-- Places of the two lists: the segment that a place lies in, and what stands there from the place on.
+use Rattle.std.proofs.Common.{◌≡◌, ℕ, ◌+◌, ◌-◌, ◌<◌, ◌≤◌, Bool, true, false, List, [], ◌∷◌, ◌++◌, length, sum_by, get_or, take, drop, refl, sym, ap, ◌∙◌, arith, inl, inr}
+use Rattle.std.specs.Prelude.{All}
+use Rattle.std.specs.List.{flat_map, range_with_len}
+use mathlib.Core.Bool.{beq}
+use Rattle.std.proofs.lemmas.Bool.{cases_lt, lt-ltb, le-ltb}
+use Rattle.std.proofs.lemmas.List.{drop_more, drop_at, drop-drop, drop-take, drop-append-le, take-append-le, take-take, length-drop, length-take, ext_get_or, get_or-drop, get_or-take}
+use Rattle.std.proofs.lemmas.List.Elements.{All-head, All-tail}
+use Rattle.std.proofs.lemmas.List.FromFn.{length-range_with_len, get_or-range_with_len}
+use Rattle.std.proofs.lemmas.List.Sums.{sum_by-cons}
+use Rattle.guest_memory.specs.Memory.{Memory, Inside, part_of}
+use Rattle.chain.specs.declared.segment.Segment.{Segment}
+use Rattle.chain.specs.declared.segment.Buffer.{Buffer}
+use Rattle.chain.specs.Bytes.{segments_of, addresses, rest_at}
+use Rattle.chain.proofs.Directions.{length-part_of}
+
+abbrev pub InMemory : Memory → Segment → Type 0
+InMemory m s = Inside m s.addr s.len
+
+abbrev pub size : List Segment → ℕ
+size ss = sum_by (λ (s : Segment). s.len) ss
+
+-- a segment that the place lies in, and one that it lies behind
+rest_here : (s : Segment) (ss : List Segment) (k : ℕ) → k < s.len → rest_at (s ∷ ss) k ≡ record { addr = s.addr + k; len = s.len - k }
+rest_here s ss k h = rw (lt-ltb k s.len h) refl
+
+rest_behind : (s : Segment) (ss : List Segment) (k : ℕ) → s.len ≤ k → rest_at (s ∷ ss) k ≡ rest_at ss (k - s.len)
+rest_behind s ss k h = rw (le-ltb k s.len h) refl
+
+behind_size : (s : Segment) (ss : List Segment) (k : ℕ) → s.len ≤ k → k < size (s ∷ ss) → k - s.len < size ss
+behind_size s ss k h l = omega (arith, sum_by-cons (λ (s : Segment). s.len) s ss)
+
+-- the list of pieces behind the first
+drop_behind : {X : Type 0} (p rest : List X) (n k : ℕ) → length p ≡ n → n ≤ k → drop k (p ++ rest) ≡ drop (k - n) rest
+drop_behind p rest n k e h =
+    let s : k ≡ n + (k - n) = omega arith in
+    ap (λ j. drop j (p ++ rest)) s ∙ sym (drop-drop (k - n) n (p ++ rest)) ∙ ap (drop (k - n)) (drop_at p rest n e)
+
+-- a part of the first piece
+take_within : {X : Type 0} (p rest : List X) (n k : ℕ) → k + n ≤ length p → take n (drop k (p ++ rest)) ≡ take n (drop k p)
+take_within p rest n k h =
+    ap (take n) (drop-append-le k p rest (omega arith)) ∙ take-append-le n (drop k p) rest (rw length-drop (omega arith))
+
+part_of_part : (m : Memory) (a len k n : ℕ) → Inside m a len → k + n ≤ len → take n (drop k (part_of m a len)) ≡ part_of m (a + k) n
+part_of_part m a len k n h l =
+    let s : len ≡ k + (len - k) = omega arith in
+    let t : (a - m.base) + k ≡ a + k - m.base = omega arith in
+    ap (λ j. take n (drop k (take j (drop (a - m.base) m.bytes)))) s
+    ∙ ap (take n) (drop-take k (len - k) (drop (a - m.base) m.bytes))
+    ∙ take-take n (len - k) (drop k (drop (a - m.base) m.bytes)) (omega arith)
+    ∙ ap (take n) (drop-drop k (a - m.base) m.bytes)
+    ∙ ap (λ j. take n (drop j m.bytes)) t
+
+range_of_range : (a len k n : ℕ) → k + n ≤ len → take n (drop k (range_with_len a len)) ≡ range_with_len (a + k) n
+range_of_range a len k n l =
+    ext_get_or 0 (take n (drop k (range_with_len a len))) (range_with_len (a + k) n)
+    (let e = length-range_with_len a len in let f = length-range_with_len (a + k) n in simp (length-take, length-drop) (omega (arith, e, f)))
+    (λ i h. let u : i < n = omega (arith, h, length-take n (drop k (range_with_len a len))) in
+    get_or-take n (drop k (range_with_len a len)) i 0 u ∙ get_or-drop k (range_with_len a len) i 0
+    ∙ get_or-range_with_len a len (k + i) 0 (omega (arith, u, l)) ∙ (omega arith) ∙ sym (get_or-range_with_len (a + k) n i 0 u))
+
+-- At a place of the list some bytes are left, they lie in the memory, and they stand in the list from there on.
+pub rest_some : (ss : List Segment) (k : ℕ) → k < size ss → 0 < (rest_at ss k).len
+rest_some [] k h = absurd (omega arith)
+rest_some (s ∷ ss) k h =
+    elim (cases_lt k s.len) [
+      | inl near ↦ rw (rest_here s ss k near) (omega arith)
+      | inr far ↦ rw (rest_behind s ss k far) (rest_some ss (k - s.len) (behind_size s ss k far h))
+    ]
+
+pub rest_inside : (m : Memory) (ss : List Segment) (k : ℕ) → All (InMemory m) ss → k < size ss → InMemory m (rest_at ss k)
+rest_inside m [] k a h = absurd (omega arith)
+rest_inside m (s ∷ ss) k a h =
+    let here = All-head (InMemory m) s ss a in
+    elim (cases_lt k s.len) [
+      | inl near ↦ rw (rest_here s ss k near) (record { above = omega (arith, here.above); below = omega (arith, here.below) })
+      | inr far ↦ rw (rest_behind s ss k far) (rest_inside m ss (k - s.len) (All-tail (InMemory m) s ss a) (behind_size s ss k far h))
+    ]
+
+pub rest_reads : (m : Memory) (ss : List Segment) (k n : ℕ) → All (InMemory m) ss → k < size ss → n ≤ (rest_at ss k).len
+    → take n (drop k (flat_map (λ s. part_of m s.addr s.len) ss)) ≡ part_of m (rest_at ss k).addr n
+rest_reads m [] k n a h l = absurd (omega arith)
+rest_reads m (s ∷ ss) k n a h l =
+    let here = All-head (InMemory m) s ss a in
+    let p = part_of m s.addr s.len in
+    let len = length-part_of m s.addr s.len here in
+    let rest = flat_map (λ (s : Segment). part_of m s.addr s.len) ss in
+    elim (cases_lt k s.len) [
+      | inl near ↦
+          let e = rest_here s ss k near in
+          let fits : k + n ≤ s.len = omega (arith, near, rw e at l) in
+          rw e (take_within p rest n k (omega (arith, fits, len)) ∙ part_of_part m s.addr s.len k n here fits)
+      | inr far ↦
+          let e = rest_behind s ss k far in
+          rw e (ap (take n) (drop_behind p rest s.len k len far)
+          ∙ rest_reads m ss (k - s.len) n (All-tail (InMemory m) s ss a) (behind_size s ss k far h) (rw e at l))
+    ]
+
+pub rest_addresses : (ss : List Segment) (k n : ℕ) → k < size ss → n ≤ (rest_at ss k).len
+    → take n (drop k (flat_map addresses ss)) ≡ range_with_len (rest_at ss k).addr n
+rest_addresses [] k n h l = absurd (omega arith)
+rest_addresses (s ∷ ss) k n h l =
+    let p = addresses s in
+    let len = length-range_with_len s.addr s.len in
+    let rest = flat_map addresses ss in
+    elim (cases_lt k s.len) [
+      | inl near ↦
+          let e = rest_here s ss k near in
+          let fits : k + n ≤ s.len = omega (arith, near, rw e at l) in
+          rw e (take_within p rest n k (omega (arith, fits, len)) ∙ range_of_range s.addr s.len k n fits)
+      | inr far ↦
+          let e = rest_behind s ss k far in
+          rw e (ap (take n) (drop_behind p rest s.len k len far)
+          ∙ rest_addresses ss (k - s.len) n (behind_size s ss k far h) (rw e at l))
+    ]
+
+-- a buffer of the other direction has no segment here, one of this direction has the first
+segments_of-miss : (w : Bool) (b : Buffer) (bs : List Buffer) → beq b.writable w ≡ false → segments_of w (b ∷ bs) ≡ segments_of w bs
+segments_of-miss w b bs h = go w b.writable h
+  where
+    go : (w v : Bool) → beq v w ≡ false → segments_of w (record { segment = b.segment; writable = v } ∷ bs) ≡ segments_of w bs
+    go true true e = cc
+    go true false e = refl
+    go false true e = refl
+    go false false e = cc
+
+segments_of-hit : (w : Bool) (b : Buffer) (bs : List Buffer) → beq b.writable w ≡ true → segments_of w (b ∷ bs) ≡ b.segment ∷ segments_of w bs
+segments_of-hit w b bs h = go w b.writable h
+  where
+    go : (w v : Bool) → beq v w ≡ true → segments_of w (record { segment = b.segment; writable = v } ∷ bs) ≡ b.segment ∷ segments_of w bs
+    go true true e = refl
+    go true false e = cc
+    go false true e = cc
+    go false false e = refl
+
+-- the place is looked for among the buffers from the i-th on, left places behind their first
+pub record Sought (w : Bool) (xs : List Buffer) (place i left : ℕ) : Type 0 where
+  pub in_list : left < size (segments_of w (drop i xs))
+  pub same : rest_at (segments_of w (drop i xs)) left ≡ rest_at (segments_of w xs) place
+
+module _ (w : Bool) (xs : List Buffer) (place i left : ℕ) (d : Buffer) (h : i < length xs) where
+  pub sought_skip : beq (get_or xs i d).writable w ≡ false → Sought w xs place i left → Sought w xs place (i + 1) left
+  sought_skip e s =
+      let f = ap (segments_of w) (drop_more xs i d h) ∙ segments_of-miss w (get_or xs i d) (drop (i + 1) xs) e in
+      record { in_list = rw f at s.in_list; same = rw f at s.same }
+
+  pub sought_behind : beq (get_or xs i d).writable w ≡ true → (get_or xs i d).segment.len ≤ left → Sought w xs place i left
+      → Sought w xs place (i + 1) (left - (get_or xs i d).segment.len)
+  sought_behind e l s =
+      let f = ap (segments_of w) (drop_more xs i d h) ∙ segments_of-hit w (get_or xs i d) (drop (i + 1) xs) e in
+      let b = get_or xs i d in
+      let rest = segments_of w (drop (i + 1) xs) in
+      record {
+        in_list = behind_size b.segment rest left l (rw f at s.in_list);
+        same = sym (rest_behind b.segment rest left l) ∙ (rw f at s.same);
+      }
+
+  pub sought_here : beq (get_or xs i d).writable w ≡ true → left < (get_or xs i d).segment.len → Sought w xs place i left
+      → record { addr = (get_or xs i d).segment.addr + left; len = (get_or xs i d).segment.len - left } ≡ rest_at (segments_of w xs) place
+  sought_here e l s =
+      let f = ap (segments_of w) (drop_more xs i d h) ∙ segments_of-hit w (get_or xs i d) (drop (i + 1) xs) e in
+      let b = get_or xs i d in
+      sym (rest_here b.segment (segments_of w (drop (i + 1) xs)) left l) ∙ (rw f at s.same)

@@ -1,0 +1,43 @@
+-- Bytes put at addresses one after another.
+use Rattle.std.proofs.Common.{◌≡◌, ℕ, ◌+◌, ◌<◌, ◌≤◌, List, [], ◌∷◌, length, get_or, drop, refl, ap, ◌∙◌, arith, ◌++◌}
+use Rattle.std.specs.Prelude.{All}
+use Rattle.std.proofs.lemmas.List.{drop_more, drop_all}
+use Rattle.std.proofs.lemmas.List.Elements.{All-weaker}
+use Rattle.guest_memory.specs.Memory.{Memory, Inside, SameRange, put}
+use Rattle.chain.specs.declared.segment.Buffer.{Buffer}
+use Rattle.chain.specs.Buffers.{Within}
+use Rattle.chain.specs.Bytes.{scatter}
+
+-- a range stays inside a memory of the same addresses
+pub inside_same : (old new : Memory) (a n : ℕ) → SameRange old new → Inside old a n → Inside new a n
+inside_same old new a n s h = record { above = omega arith; below = omega arith }
+
+pub within_same : (old new : Memory) (xs : List Buffer) → SameRange old new → All (Within old) xs → All (Within new) xs
+within_same old new xs s h = All-weaker (Within old) (Within new) (λ b i. inside_same old new b.segment.addr b.segment.len s i) xs h
+
+pub same_trans : (a b c : Memory) → SameRange a b → SameRange b c → SameRange a c
+same_trans a b c p q = record { base = q.base ∙ p.base; size = q.size ∙ p.size }
+
+-- what is left to put is one byte and the rest
+pub scatter_step : (m new : Memory) (addrs bytes : List ℕ) (place i : ℕ) → place < length addrs → i < length bytes
+    → new ≡ put m (get_or addrs place 0) (get_or bytes i 0 ∷ [])
+    → scatter new (drop (place + 1) addrs) (drop (i + 1) bytes) ≡ scatter m (drop place addrs) (drop i bytes)
+scatter_step m new addrs bytes place i p l e =
+    rw (drop_more addrs place 0 p, drop_more bytes i 0 l, e) refl
+
+-- no byte is left
+pub scatter_none : (m : Memory) (addrs : List ℕ) → scatter m addrs [] ≡ m
+scatter_none m [] = refl
+scatter_none m (a ∷ addrs) = refl
+
+pub scatter_done : (m : Memory) (addrs bytes : List ℕ) (place i : ℕ) → length bytes ≤ i → scatter m (drop place addrs) (drop i bytes) ≡ m
+scatter_done m addrs bytes place i h =
+    ap (scatter m (drop place addrs)) (drop_all i bytes h) ∙ scatter_none m (drop place addrs)
+
+-- the last byte
+pub scatter-push : (m : Memory) (addrs bytes : List ℕ) (a x : ℕ) → length addrs ≡ length bytes
+    → scatter m (addrs ++ a ∷ []) (bytes ++ x ∷ []) ≡ put (scatter m addrs bytes) a (x ∷ [])
+scatter-push m [] [] a x e = refl
+scatter-push m [] (y ∷ bytes) a x e = absurd (omega (arith, e))
+scatter-push m (b ∷ addrs) [] a x e = absurd (omega (arith, e))
+scatter-push m (b ∷ addrs) (y ∷ bytes) a x e = scatter-push (put m b (y ∷ [])) addrs bytes a x (omega (arith, e))

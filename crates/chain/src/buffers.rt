@@ -1,0 +1,125 @@
+//! The chain itself: its buffers, filled one after another, and its two lengths.
+
+ghost use Rattle.std.specs.Prelude.{◌≡◌, [], ◌∷◌, ◌++◌, ◌+◌, ◌^◌, ◌<◌, ◌≤◌, length, false, All, IfErr, OnOk, OnErr};
+ghost use Rattle.guest_memory.specs.Memory.{Memory};
+ghost use Rattle.chain.specs.Buffers.{Admits, Good, Refuses, Within, buffer_of, total_len};
+ghost use Rattle.chain.specs.Bytes.{len_of, readable_of, writable_of};
+
+use crate::fault::Fault;
+use crate::segment::{Buffer, Segment};
+use arrayvec::ArrayVec;
+use guest_memory::GuestMemory;
+use std::alloc::Allocator;
+use std::marker::Model;
+
+/// How many buffers a chain may have.
+const MOST_BUFFERS: usize = 256;
+
+/// How many bytes the buffers of a chain may have in all (2.7.5.2).
+const MOST_BYTES: u32 = u32::MAX;
+
+/// The buffers of one request, in the order of their descriptors. It holds them in place, some 6 KB, so
+/// one chain serves for a whole service.
+#[derive(Drop)]
+pub struct Chain {
+    buffers: ArrayVec<Buffer, MOST_BUFFERS>,
+    readable: u32,
+    writable: u32,
+}
+
+impl Model for Chain {
+    ghost use Rattle.std.specs.Prelude.{List};
+    ghost use Rattle.chain.specs.declared.segment.Buffer.{Buffer};
+    ghost use Rattle.chain.specs.Held.{IsHeld};
+
+    ghost Value = { List Buffer };
+
+    ghost view = { λ c. c.buffers.items };
+
+    ghost invariant = { λ c. IsHeld c.buffers.items c.readable c.writable };
+}
+
+impl Chain {
+    /// A chain without buffers.
+    pub fn new() -> Chain
+        ensures { result ≡ [] }
+    {
+        Chain {
+            buffers: ArrayVec::new(),
+            readable: 0,
+            writable: 0,
+        }
+    }
+
+    /// Takes all buffers out.
+    pub fn clear(&mut self)
+        ensures { self.new ≡ [] }
+    {
+        self.buffers.clear();
+        self.readable = 0;
+        self.writable = 0;
+    }
+
+    /// Puts the buffer of `len` bytes from `addr` on behind the others: one for the device to write, or one
+    /// to read. Refused are, in this order, a buffer that isn't inside memory (`Range`), one behind 256
+    /// others (`TooMany`), and one with which the chain would have more than 2^32 - 1 bytes (`TooLong`).
+    pub fn push<A: Allocator>(
+        &mut self,
+        mem: &GuestMemory<A>,
+        addr: u64,
+        len: u32,
+        writable: bool,
+    ) -> Result<(), Fault>
+        ensures ok { OnOk result (Admits mem.now self.old (buffer_of addr len writable)) }
+        ensures pushed { OnOk result (self.new ≡ self.old ++ buffer_of addr len writable ∷ []) }
+        ensures fault { IfErr result (Refuses mem.now self.old (buffer_of addr len writable)) }
+        ensures err { OnErr result (self.new ≡ self.old) }
+        ensures keeps { Good mem.now self.old → Good mem.now self.new }
+    {
+        if !mem.holds(addr, u64::from(len)) {
+            return Err(Fault::Range);
+        }
+        if self.buffers.is_full() {
+            return Err(Fault::TooMany);
+        }
+        if len > MOST_BYTES - self.readable - self.writable {
+            return Err(Fault::TooLong);
+        }
+        if writable {
+            self.writable += len;
+        } else {
+            self.readable += len;
+        }
+        self.buffers.push(Buffer {
+            segment: Segment { addr, len },
+            writable,
+        });
+        Ok(())
+    }
+
+    /// The buffers, in order.
+    pub fn buffers(&self) -> &[Buffer]
+        ensures value { result.now ≡ self.now }
+        ensures few { length self.now ≤ 256 }
+        ensures fits { total_len self.now < 2 ^ 32 }
+        ensures addressable { All (λ b. b.segment.addr + b.segment.len ≤ 2 ^ 64) self.now }
+    {
+        let _ = &self.readable;
+        self.buffers.as_slice()
+    }
+
+    /// The number of bytes that the device may read.
+    pub fn readable_len(&self) -> u64
+        ensures value { result ≡ len_of false self.now }
+        ensures list { (m : Memory) → All (Within m) self.now → length (readable_of m self.now) ≡ result }
+    {
+        u64::from(self.readable)
+    }
+
+    /// The number of bytes that the device may write.
+    pub fn writable_len(&self) -> u64
+        ensures { result ≡ length (writable_of self.now) }
+    {
+        u64::from(self.writable)
+    }
+}

@@ -1,0 +1,21 @@
+//! A chain of a virtqueue: the buffers that a driver hands over in one request, seen as two lists.
+//!
+//! The readable list is every byte of the buffers that the device may read, in order; the writable list
+//! is one address for each byte that it may write. A ring fills a chain with the buffers of a path of
+//! descriptors and names the first that can't stand; a device then reads and writes by places of the two
+//! lists and never sees where a buffer ends. Here too stands what one service of a queue is, for every
+//! kind of ring and every device.
+#![tactic(auto)]
+
+mod buffers;
+mod bytes;
+mod fault;
+mod laws;
+mod segment;
+#[cfg(test)]
+mod tests;
+
+pub use buffers::Chain;
+pub use fault::Fault;
+pub use laws::{later_byte_stands, one_by_one, one_refusal};
+pub use segment::{Buffer, Segment};

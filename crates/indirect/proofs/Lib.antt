@@ -1,0 +1,5 @@
+pub mod Walking
+pub mod Entries
+pub mod Outcomes
+pub mod TableOutcomes
+pub mod Listing

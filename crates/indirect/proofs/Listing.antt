@@ -1,0 +1,262 @@
+-- The list of a ring, step by step, and that it has one outcome.
+use Rattle.std.proofs.Common.{◌≡◌, ℕ, ◌<◌, ◌≤◌, Bool, true, false, Some, None, List, [], ◌∷◌, ◌++◌, length, refl, sym, ap, ◌∙◌, arith, inl, inr, length-append}
+use Rattle.std.proofs.lemmas.Bool.{cases_lt, cases_eq}
+use Rattle.guest_memory.specs.Memory.{Memory}
+use Rattle.chain.specs.declared.segment.Buffer.{Buffer}
+use Rattle.chain.specs.declared.fault.Fault.{Fault}
+use Rattle.chain.specs.declared.fault.Fault.TheVariants.{Index, Loop, Joined, NoIndirect}
+use Rattle.chain.specs.Buffers.{Admits, AdmitsAll, Refuses}
+use Rattle.chain.proofs.Admitting.{Admits-Refuses, Refuses-unique}
+use Rattle.indirect.specs.declared.descriptor.Descriptor.{Descriptor}
+use Rattle.indirect.specs.Walks.{Leads, buffers_of, Reached, ComesNext, first_of}
+use Rattle.indirect.specs.Lists.{TableKind, split_tables, packed_tables, HasOneTable, EndsPlain, is_joined, EndsBy, TableRefused, ListResolves, ListFails}
+use Rattle.indirect.proofs.Outcomes.{GoesOn, fronts, goes_past, same_front}
+use Rattle.indirect.proofs.TableOutcomes.{one_split_fault, one_split_path, never_both_split, one_packed_fault, one_packed_list, never_both_packed}
+
+pub split_tables_one : HasOneTable split_tables
+split_tables_one = record {
+  list = one_split_path;
+  fault = λ m addr len before a b f g x y. (one_split_fault m addr len before f g a b x y).0;
+  not_both = λ m addr len before a b f x y. never_both_split m addr len before f a b x y;
+}
+
+pub packed_tables_one : HasOneTable packed_tables
+packed_tables_one = record {
+  list = one_packed_list;
+  fault = λ m addr len before a b f g x y. (one_packed_fault m addr len before f g a b x y).0;
+  not_both = λ m addr len before a b f x y. never_both_packed m addr len before f a b x y;
+}
+
+module _ (kind : TableKind) (negotiated : Bool) (m : Memory) (t : ℕ → Descriptor) (n h : ℕ) where
+  -- the list ends at a plain descriptor
+  pub list_plain : (before after : List Buffer) (count i : ℕ) (d : Descriptor) → d ≡ t i → count < n → i < n → d.indirect ≡ false → d.next ≡ None
+      → Admits m before d.buffer → after ≡ before ++ d.buffer ∷ [] → Reached m [] t n h count i before → ListResolves kind negotiated m t n h count i after
+  list_plain before after count i d e room below plain ends a named r =
+      record { before = before; reached = r; comes = record { room = room; below = below }; ends = rw (← e, plain) (record { ends = ends; admitted = a; named = named }) }
+
+  -- it ends at a descriptor that refers to a table
+  pub list_table : (before after : List Buffer) (count i : ℕ) (d : Descriptor) → d ≡ t i → count < n → i < n → d.indirect ≡ true → negotiated ≡ true
+      → is_joined kind count d ≡ false → kind.Resolves m d.buffer.segment.addr d.buffer.segment.len before after
+      → Reached m [] t n h count i before → ListResolves kind negotiated m t n h count i after
+  list_table before after count i d e room below indirect known apart table r =
+      record { before = before; reached = r; comes = record { room = room; below = below }; ends = rw (← e, indirect) (record { known = known; apart = apart; table = table }) }
+
+  -- it has n members and goes on
+  pub list_full : (before : List Buffer) (count i : ℕ) → count ≡ n → Reached m [] t n h count i before → ListFails kind negotiated m t n h Loop
+  list_full before count i e r = record {
+    count = count;
+    at = i;
+    before = before;
+    reached = r;
+    most = omega (arith, e);
+    full = λ _. refl;
+    past = λ l _. absurd (omega (arith, l, e));
+    plain = λ c _. absurd (omega (arith, c.room, e));
+    indirect = λ c _. absurd (omega (arith, c.room, e));
+  }
+
+  -- it leads to an index outside the table
+  pub list_past : (before : List Buffer) (count i : ℕ) → count < n → n ≤ i → Reached m [] t n h count i before → ListFails kind negotiated m t n h Index
+  list_past before count i room l r = record {
+    count = count;
+    at = i;
+    before = before;
+    reached = r;
+    most = omega (arith, room);
+    full = λ e. absurd (omega (arith, e, room));
+    past = λ _ _. refl;
+    plain = λ c _. absurd (omega (arith, c.below, l));
+    indirect = λ c _. absurd (omega (arith, c.below, l));
+  }
+
+  -- the buffer of the plain descriptor that comes next is refused
+  pub list_refused : (before : List Buffer) (count i : ℕ) (d : Descriptor) (fault : Fault) → d ≡ t i → count < n → i < n → d.indirect ≡ false
+      → Refuses m before d.buffer fault → Reached m [] t n h count i before → ListFails kind negotiated m t n h fault
+  list_refused before count i d fault e room below plain refused r = record {
+    count = count;
+    at = i;
+    before = before;
+    reached = r;
+    most = omega (arith, room);
+    full = λ e. absurd (omega (arith, e, room));
+    past = λ _ l. absurd (omega (arith, below, l));
+    plain = λ _ _. rw e at refused;
+    indirect = λ _ is. let not : (t i).indirect ≡ false = ap (λ (d : Descriptor). d.indirect) (sym e) ∙ plain in cc (is, not);
+  }
+
+  -- the descriptor that comes next refers to a table, and is refused
+  pub list_table_refused : (before : List Buffer) (count i : ℕ) (d : Descriptor) (fault : Fault) → d ≡ t i → count < n → i < n → d.indirect ≡ true
+      → TableRefused kind negotiated m before count d fault → Reached m [] t n h count i before → ListFails kind negotiated m t n h fault
+  list_table_refused before count i d fault e room below is refused r = record {
+    count = count;
+    at = i;
+    before = before;
+    reached = r;
+    most = omega (arith, room);
+    full = λ e. absurd (omega (arith, e, room));
+    past = λ _ l. absurd (omega (arith, below, l));
+    plain = λ _ not. let here : (t i).indirect ≡ true = ap (λ (d : Descriptor). d.indirect) (sym e) ∙ is in cc (here, not);
+    indirect = λ _ _. rw e at refused;
+  }
+
+  -- its three faults
+  pub table_unknown : (before : List Buffer) (count : ℕ) (d : Descriptor) → negotiated ≡ false → TableRefused kind negotiated m before count d NoIndirect
+  table_unknown before count d e = record { unknown = λ _. refl; joined = λ k _. cc (e, k); faulty = λ k _. absurd (no e k) }
+    where
+      no : negotiated ≡ false → negotiated ≡ true → ⊥
+      no e k = cc (e, k)
+
+  pub table_joined : (before : List Buffer) (count : ℕ) (d : Descriptor) → negotiated ≡ true → is_joined kind count d ≡ true
+      → TableRefused kind negotiated m before count d Joined
+  table_joined before count d k j = record { unknown = λ e. cc (e, k); joined = λ _ _. refl; faulty = λ _ f. absurd (no f) }
+    where
+      no : is_joined kind count d ≡ false → ⊥
+      no f = cc (j, f)
+
+  pub table_faulty : (before left : List Buffer) (count : ℕ) (d : Descriptor) (fault : Fault) → negotiated ≡ true → is_joined kind count d ≡ false
+      → kind.Fails m d.buffer.segment.addr d.buffer.segment.len before fault left → TableRefused kind negotiated m before count d fault
+  table_faulty before left count d fault k f fails = record { unknown = λ e. cc (e, k); joined = λ _ j. cc (j, f); faulty = λ _ _. record { left = left; table = fails } }
+
+module _ (kind : TableKind) (one : HasOneTable kind) (negotiated : Bool) (m : Memory) (t : ℕ → Descriptor) (n h : ℕ) where
+  -- no front passes the index at which a list fails
+  fails_there : (fault : Fault) (x : ListFails kind negotiated m t n h fault) (ys : List ℕ) (j : ℕ) → AdmitsAll m [] (buffers_of t ys) → length ys ≤ n
+      → (g : GoesOn t n x.at j x.reached.front ys) → g.rest ≡ []
+  fails_there fault x ys j a l g = go g.rest g.joined g.leads
+    where
+      go : (rest : List ℕ) → ys ≡ x.reached.front ++ rest → Leads t n x.at rest j → rest ≡ []
+      go [] e p = refl
+      go (z ∷ rest) e p =
+          let i = x.at in
+          let here : i ≡ z = p.0 in
+          let size = ap (λ (l : List ℕ). length l) e ∙ length-append x.reached.front (z ∷ rest) in
+          let comes : ComesNext n x.count i = record { room = omega (arith, size, x.reached.counted, l); below = omega (arith, p.1.below, here) } in
+          let plain : (t i).indirect ≡ false = ap (λ k. (t k).indirect) here ∙ p.1.plain in
+          let admits = goes_past m [] t x.reached.front ys i rest (rw here e) a in
+          absurd (Admits-Refuses m x.before (t i).buffer fault (rw x.reached.named admits) (x.plain comes plain))
+
+  plain_end : (v : Bool) (before : List Buffer) (count : ℕ) (d : Descriptor) (after : List Buffer) → v ≡ false → EndsBy kind negotiated m v before count d after
+      → EndsPlain m before d after
+  plain_end false before count d after e x = x
+  plain_end true before count d after e x = cc
+
+  -- nor the last member of a list
+  ends_there : (count last : ℕ) (buffers : List Buffer) (x : ListResolves kind negotiated m t n h count last buffers) (ys : List ℕ) (j : ℕ)
+      → (g : GoesOn t n last j x.reached.front ys) → g.rest ≡ []
+  ends_there count last buffers x ys j g = go g.rest g.leads
+    where
+      go : (rest : List ℕ) → Leads t n last rest j → rest ≡ []
+      go [] p = refl
+      go (z ∷ rest) p =
+          let next : (t last).next ≡ Some (first_of rest j) = ap (λ k. (t k).next) p.0 ∙ p.1.next in
+          let plain : (t last).indirect ≡ false = ap (λ k. (t k).indirect) p.0 ∙ p.1.plain in
+          let ends : EndsPlain m x.before (t last) buffers = plain_end (t last).indirect x.before count (t last) buffers plain x.ends in
+          cc (next, ends.ends)
+
+  one_table_fault : (before : List Buffer) (count : ℕ) (d : Descriptor) (f g : Fault) → TableRefused kind negotiated m before count d f
+      → TableRefused kind negotiated m before count d g → f ≡ g
+  one_table_fault before count d f g x y = known negotiated refl
+    where
+      apart : (v : Bool) → negotiated ≡ true → is_joined kind count d ≡ v → f ≡ g
+      apart true k e = x.joined k e ∙ sym (y.joined k e)
+      apart false k e =
+          let a = x.faulty k e in
+          let b = y.faulty k e in
+          one.fault m d.buffer.segment.addr d.buffer.segment.len before a.left b.left f g a.table b.table
+
+      known : (v : Bool) → negotiated ≡ v → f ≡ g
+      known false e = x.unknown e ∙ sym (y.unknown e)
+      known true e = apart (is_joined kind count d) e refl
+
+  same_list_fault : (f g : Fault) (x : ListFails kind negotiated m t n h f) (y : ListFails kind negotiated m t n h g)
+      → y.reached.front ≡ x.reached.front → x.at ≡ y.at → f ≡ g
+  same_list_fault f g x y e i =
+      elim (cases_eq x.count n) [
+        | inl full ↦ x.full full ∙ sym (y.full (sym count ∙ full))
+        | inr less ↦ elim (cases_lt x.at n) [
+          | inr past ↦ let room : x.count < n = omega (arith, x.most, less) in x.past room past ∙ sym (y.past (rw count at room) (rw i at past))
+          | inl below ↦ go (record { room = omega (arith, x.most, less); below = below }) (t x.at).indirect refl
+        ]
+      ]
+    where
+      count : x.count ≡ y.count
+      count = sym x.reached.counted ∙ ap (λ (l : List ℕ). length l) (sym e) ∙ y.reached.counted
+
+      before : x.before ≡ y.before
+      before = x.reached.named ∙ ap (λ (l : List ℕ). [] ++ buffers_of t l) (sym e) ∙ sym y.reached.named
+
+      go : ComesNext n x.count x.at → (v : Bool) → (t x.at).indirect ≡ v → f ≡ g
+      go c false p =
+          let r : Refuses m x.before (t x.at).buffer g = rw (before, i) (y.plain (rw (count, i) at c) (rw i at p)) in
+          Refuses-unique m x.before (t x.at).buffer f g (x.plain c p) r
+      go c true p =
+          let r : TableRefused kind negotiated m x.before x.count (t x.at) g = rw (before, count, i) (y.indirect (rw (count, i) at c) (rw i at p)) in
+          one_table_fault x.before x.count (t x.at) f g (x.indirect c p) r
+
+  -- there is one fault
+  pub one_list_fault : (f g : Fault) → ListFails kind negotiated m t n h f → ListFails kind negotiated m t n h g → f ≡ g
+  one_list_fault f g x y =
+      elim (fronts t n h x.at y.at x.reached.front y.reached.front x.reached.leads y.reached.leads) [
+        | inl o ↦ let s = same_front t n x.at y.at x.reached.front y.reached.front o
+            (fails_there f x y.reached.front y.at y.reached.admitted (omega (arith, y.most, y.reached.counted)) o) in
+            same_list_fault f g x y s.0 s.1
+        | inr o ↦ let s = same_front t n y.at x.at y.reached.front x.reached.front o
+            (fails_there g y x.reached.front x.at x.reached.admitted (omega (arith, x.most, x.reached.counted)) o) in
+            same_list_fault f g x y (sym s.0) (sym s.1)
+      ]
+
+  ends_once : (v : Bool) (before : List Buffer) (count : ℕ) (d : Descriptor) (a b : List Buffer) → EndsBy kind negotiated m v before count d a
+      → EndsBy kind negotiated m v before count d b → a ≡ b
+  ends_once false before count d a b x y = x.named ∙ sym y.named
+  ends_once true before count d a b x y = one.list m d.buffer.segment.addr d.buffer.segment.len before a b x.table y.table
+
+  same_list : (c k : ℕ) (i j : ℕ) (a b : List Buffer) (x : ListResolves kind negotiated m t n h c i a) (y : ListResolves kind negotiated m t n h k j b)
+      → y.reached.front ≡ x.reached.front → i ≡ j → record { count : c ≡ k; last : i ≡ j; buffers : a ≡ b }
+  same_list c k i j a b x y e p =
+      let count : c ≡ k = sym x.reached.counted ∙ ap (λ (l : List ℕ). length l) (sym e) ∙ y.reached.counted in
+      let before : x.before ≡ y.before = x.reached.named ∙ ap (λ (l : List ℕ). [] ++ buffers_of t l) (sym e) ∙ sym y.reached.named in
+      let ends : EndsBy kind negotiated m (t j).indirect y.before k (t j) a = rw (← before, ← count, ← p) x.ends in
+      record { count = count; last = p; buffers = ends_once (t j).indirect y.before k (t j) a b ends y.ends }
+
+  -- there is one list
+  pub one_list : (c k : ℕ) (i j : ℕ) (a b : List Buffer) → ListResolves kind negotiated m t n h c i a → ListResolves kind negotiated m t n h k j b
+      → record { count : c ≡ k; last : i ≡ j; buffers : a ≡ b }
+  one_list c k i j a b x y =
+      elim (fronts t n h i j x.reached.front y.reached.front x.reached.leads y.reached.leads) [
+        | inl o ↦ let s = same_front t n i j x.reached.front y.reached.front o (ends_there c i a x y.reached.front j o) in same_list c k i j a b x y s.0 s.1
+        | inr o ↦ let s = same_front t n j i y.reached.front x.reached.front o (ends_there k j b y x.reached.front i o) in
+            same_list c k i j a b x y (sym s.0) (sym s.1)
+      ]
+
+  -- a list that ends at an index doesn't fail there
+  fails_or_ends : (f : Fault) (k j : ℕ) (b : List Buffer) (x : ListFails kind negotiated m t n h f) (y : ListResolves kind negotiated m t n h k j b)
+      → y.reached.front ≡ x.reached.front → x.at ≡ j → ⊥
+  fails_or_ends f k j b x y e i = go (t j).indirect refl y.ends
+    where
+      count : x.count ≡ k
+      count = sym x.reached.counted ∙ ap (λ (l : List ℕ). length l) (sym e) ∙ y.reached.counted
+
+      before : x.before ≡ y.before
+      before = x.reached.named ∙ ap (λ (l : List ℕ). [] ++ buffers_of t l) (sym e) ∙ sym y.reached.named
+
+      comes : ComesNext n x.count x.at
+      comes = rw (count, i) y.comes
+
+      go : (v : Bool) → (t j).indirect ≡ v → EndsBy kind negotiated m v y.before k (t j) b → ⊥
+      go false p ends =
+          let r : Refuses m y.before (t j).buffer f = rw (← before, ← i) (x.plain comes (rw i p)) in
+          Admits-Refuses m y.before (t j).buffer f ends.admitted r
+      go true p ends =
+          let r : TableRefused kind negotiated m y.before k (t j) f = rw (← before, ← count, ← i) (x.indirect comes (rw i p)) in
+          let w = r.faulty ends.known ends.apart in
+          one.not_both m (t j).buffer.segment.addr (t j).buffer.segment.len y.before w.left b f w.table ends.table
+
+  -- there isn't a list and a fault
+  pub never_both_list : (f : Fault) (k j : ℕ) (b : List Buffer) → ListFails kind negotiated m t n h f → ListResolves kind negotiated m t n h k j b → ⊥
+  never_both_list f k j b x y =
+      elim (fronts t n h x.at j x.reached.front y.reached.front x.reached.leads y.reached.leads) [
+        | inl o ↦ let s = same_front t n x.at j x.reached.front y.reached.front o
+            (fails_there f x y.reached.front j y.reached.admitted (omega (arith, y.comes.room, y.reached.counted)) o) in
+            fails_or_ends f k j b x y s.0 s.1
+        | inr o ↦ let s = same_front t n j x.at y.reached.front x.reached.front o (ends_there k j b y x.reached.front x.at o) in
+            fails_or_ends f k j b x y (sym s.0) (sym s.1)
+      ]

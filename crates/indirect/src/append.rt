@@ -1,0 +1,77 @@
+//! The buffers of an indirect table, put behind those that a chain has.
+
+ghost use Rattle.std.specs.Prelude.{OnOk, IfErr};
+ghost use Rattle.chain.specs.Buffers.{Good};
+ghost use Rattle.indirect.specs.Tables.{SplitTableResolves, SplitTableFails, PackedTableResolves, PackedTableFails};
+
+use crate::descriptor::{Descriptor, read_packed_buffer};
+use crate::table::{DESCRIPTOR_LEN, entries_of};
+use chain::{Chain, Fault};
+use guest_memory::GuestMemory;
+use std::alloc::Allocator;
+
+/// Walks the split table of `len` bytes at `addr` from its first descriptor (2.7.5.3) and puts its buffers
+/// into the chain. After a fault the chain holds the buffers before it.
+pub fn append_split<A: Allocator>(
+    mem: &GuestMemory<A>,
+    addr: u64,
+    len: u32,
+    chain: &mut Chain,
+) -> Result<(), Fault>
+    ensures ok { OnOk result (SplitTableResolves mem.now addr len chain.old chain.new) }
+    ensures fault { IfErr result (λ fault. SplitTableFails mem.now addr len chain.old fault chain.new) }
+    ensures keeps { Good mem.now chain.old → Good mem.now chain.new }
+{
+    let entries = match entries_of(mem, addr, len) {
+        Ok(entries) => entries,
+        Err(fault) => return Err(fault),
+    };
+    let mut index = 0;
+    for _count in 0..entries {
+        if index >= entries {
+            return Err(Fault::Index);
+        }
+        let at = addr + u64::from(index * DESCRIPTOR_LEN);
+        let descriptor = Descriptor::read_split(mem, at);
+        if descriptor.indirect {
+            return Err(Fault::Nested);
+        }
+        let segment = descriptor.buffer.segment;
+        match chain.push(mem, segment.addr, segment.len, descriptor.buffer.writable) {
+            Ok(()) => {}
+            Err(fault) => return Err(fault),
+        }
+        match descriptor.next {
+            None => return Ok(()),
+            Some(next) => index = u32::from(next),
+        }
+    }
+    Err(Fault::Loop)
+}
+
+/// Puts the buffers of all descriptors of the packed table of `len` bytes at `addr` into the chain, in
+/// their order (2.8.7). After a fault the chain holds the buffers before it.
+pub fn append_packed<A: Allocator>(
+    mem: &GuestMemory<A>,
+    addr: u64,
+    len: u32,
+    chain: &mut Chain,
+) -> Result<(), Fault>
+    ensures ok { OnOk result (PackedTableResolves mem.now addr len chain.old chain.new) }
+    ensures fault { IfErr result (λ fault. PackedTableFails mem.now addr len chain.old fault chain.new) }
+    ensures keeps { Good mem.now chain.old → Good mem.now chain.new }
+{
+    let entries = match entries_of(mem, addr, len) {
+        Ok(entries) => entries,
+        Err(fault) => return Err(fault),
+    };
+    for index in 0..entries {
+        let buffer = read_packed_buffer(mem, addr + u64::from(index * DESCRIPTOR_LEN));
+        let segment = buffer.segment;
+        match chain.push(mem, segment.addr, segment.len, buffer.writable) {
+            Ok(()) => {}
+            Err(fault) => return Err(fault),
+        }
+    }
+    Ok(())
+}

@@ -1,0 +1,194 @@
+//! Values from outside: tables written by hand, with what they hold or their fault.
+
+use crate::{Descriptor, append_packed, append_split};
+use chain::{Buffer, Chain, Fault, Segment};
+use guest_memory::GuestMemory;
+use std::alloc::Allocator;
+use std::process::Abort;
+use std::test::Fail;
+
+const BASE: u64 = 0x8000_0000;
+
+const TABLE: u64 = BASE + 0x7000;
+
+/// The three descriptors of a request: header, data, status. Each is 16 bytes, as two numbers of 64 bits.
+const REQUEST: [u64; 6] = [
+    0x8000_4000,
+    0x0001_0001_0000_0010,
+    0x8000_5000,
+    0x0002_0003_0000_0200,
+    0x8000_6000,
+    0x0000_0002_0000_0001,
+];
+
+/// The same buffers in the packed layout: flags stand where `next` stands in a split one.
+const PACKED_REQUEST: [u64; 6] = [
+    0x8000_4000,
+    0x0000_0009_0000_0010,
+    0x8000_5000,
+    0x0002_0009_0000_0200,
+    0x8000_6000,
+    0x0002_0009_0000_0001,
+];
+
+const fn buffer(addr: u64, len: u32, writable: bool) -> Buffer {
+    Buffer {
+        segment: Segment { addr, len },
+        writable,
+    }
+}
+
+const fn request_buffers() -> [Buffer; 3] {
+    [
+        buffer(0x8000_4000, 0x10, false),
+        buffer(0x8000_5000, 0x200, true),
+        buffer(0x8000_6000, 1, true),
+    ]
+}
+
+/// Writes numbers of 64 bits one after another at the table's address.
+fn put_table<A: Allocator>(rt: &impl Abort, mem: &mut GuestMemory<A>, words: &[u64]) {
+    let mut addr = TABLE;
+    for word in words {
+        assert!(rt; addr < BASE + 0x1_0000 && mem.put_u64(addr, *word));
+        addr += 8;
+    }
+}
+
+#[test]
+fn a_table_of_three_is_appended(rt: HostRuntime) -> Result<(), Fail> {
+    let mut mem = GuestMemory::new(rt.alloc(), BASE, 0x1_0000)?;
+    let mut chain = Chain::new();
+    put_table(&rt, &mut mem, &REQUEST);
+    append_split(&mem, TABLE, 0x30, &mut chain)?;
+    assert_eq!(rt; chain.buffers(), request_buffers().as_slice());
+    put_table(&rt, &mut mem, &PACKED_REQUEST);
+    chain.clear();
+    append_packed(&mem, TABLE, 0x30, &mut chain)?;
+    assert_eq!(rt; chain.buffers(), request_buffers().as_slice());
+    append_packed(&mem, TABLE, 0x20, &mut chain)?;
+    assert_eq!(rt; chain.buffers().len(), 5);
+    Ok(())
+}
+
+#[test]
+fn a_descriptor_is_read_field_by_field(rt: HostRuntime) -> Result<(), Fail> {
+    let mut mem = GuestMemory::new(rt.alloc(), BASE, 0x1_0000)?;
+    put_table(
+        &rt,
+        &mut mem,
+        &[0x0102_0304_0506_0708, 0xabcd_0007_1122_3344],
+    );
+    assert!(rt; mem.holds(TABLE, 16));
+    let found = Descriptor::read_split(&mem, TABLE);
+    let want = Descriptor {
+        buffer: buffer(0x0102_0304_0506_0708, 0x1122_3344, true),
+        indirect: true,
+        next: Some(0xabcd),
+    };
+    assert_eq!(rt; found, want);
+    Ok(())
+}
+
+#[test]
+fn a_bad_range_is_no_table(rt: HostRuntime) -> Result<(), Fail> {
+    let mem = GuestMemory::new(rt.alloc(), BASE, 0x1_0000)?;
+    let mut chain = Chain::new();
+    for len in [0, 8, 0x1010] {
+        assert_eq!(rt;
+            append_split(&mem, TABLE, len, &mut chain),
+            Err(Fault::Table),
+            "at {len}"
+        );
+        assert_eq!(rt;
+            append_packed(&mem, TABLE, len, &mut chain),
+            Err(Fault::Table),
+            "at {len}"
+        );
+    }
+    assert_eq!(rt;
+        append_split(&mem, BASE + 0xfff0, 0x20, &mut chain),
+        Err(Fault::Range)
+    );
+    assert_eq!(rt;
+        append_packed(&mem, BASE + 0xfff0, 0x20, &mut chain),
+        Err(Fault::Range)
+    );
+    assert_eq!(rt;
+        append_split(&mem, BASE + 0xfff0, 0x18, &mut chain),
+        Err(Fault::Table)
+    );
+    assert_eq!(rt; chain.buffers().len(), 0);
+    Ok(())
+}
+
+#[test]
+fn a_split_table_has_its_fault(rt: HostRuntime) -> Result<(), Fail> {
+    let mut mem = GuestMemory::new(rt.alloc(), BASE, 0x1_0000)?;
+    // NEXT to index 2 of a table of two; a circle of two; INDIRECT in the first descriptor, and NEXT.
+    let cases: [([u64; 4], Fault, usize); 3] = [
+        ([BASE, 0x0002_0001_0000_0004, BASE, 4], Fault::Index, 1),
+        (
+            [BASE, 0x0001_0001_0000_0004, BASE, 0x0000_0001_0000_0004],
+            Fault::Loop,
+            2,
+        ),
+        ([BASE, 0x0001_0005_0000_0010, BASE, 4], Fault::Nested, 0),
+    ];
+    for (words, fault, taken) in cases {
+        put_table(&rt, &mut mem, &words);
+        let mut chain = Chain::new();
+        assert_eq!(rt;
+            append_split(&mem, TABLE, 0x20, &mut chain),
+            Err(fault),
+            "{fault}"
+        );
+        assert_eq!(rt; chain.buffers().len(), taken, "{fault}");
+    }
+    Ok(())
+}
+
+#[test]
+fn a_packed_table_heeds_write_alone(rt: HostRuntime) -> Result<(), Fail> {
+    let mut mem = GuestMemory::new(rt.alloc(), BASE, 0x1_0000)?;
+    // NEXT and INDIRECT; all flags.
+    put_table(
+        &rt,
+        &mut mem,
+        &[BASE, 0x0005_0000_0000_0004, BASE, 0xffff_0000_0000_0008],
+    );
+    let mut chain = Chain::new();
+    append_packed(&mem, TABLE, 0x20, &mut chain)?;
+    let want = [buffer(BASE, 4, false), buffer(BASE, 8, true)];
+    assert_eq!(rt; chain.buffers(), want.as_slice());
+    Ok(())
+}
+
+#[test]
+fn a_refused_buffer_leaves_those_before_it(rt: HostRuntime) -> Result<(), Fail> {
+    let mut mem = GuestMemory::new(rt.alloc(), BASE, 0x1_0000)?;
+    put_table(
+        &rt,
+        &mut mem,
+        &[BASE, 0x0001_0001_0000_0004, BASE + 0x1_0001, 0],
+    );
+    let mut chain = Chain::new();
+    assert_eq!(rt;
+        append_split(&mem, TABLE, 0x20, &mut chain),
+        Err(Fault::Range)
+    );
+    assert_eq!(rt; chain.buffers(), [buffer(BASE, 4, false)].as_slice());
+    assert_eq!(rt;
+        append_packed(&mem, TABLE, 0x20, &mut chain),
+        Err(Fault::Range)
+    );
+    assert_eq!(rt; chain.buffers().len(), 2);
+    for _ in 0..254 {
+        chain.push(&mem, BASE, 0, true)?;
+    }
+    assert_eq!(rt;
+        append_split(&mem, TABLE, 0x20, &mut chain),
+        Err(Fault::TooMany)
+    );
+    Ok(())
+}
