@@ -1,0 +1,144 @@
+-- A run, event by event.
+use Rattle.std.proofs.Common.{◌≡◌, ◌≢◌, inl, inr, ℕ, ◌+◌, ◌<◌, ◌≤◌, List, [], ◌∷◌, ◌++◌, length, take, Option, Some, None, Result, Ok, Err, false, get_or, refl, sym, ◌∙◌, ap, subst, append_assoc, append-nil, arith}
+use Rattle.std.specs.Prelude.{MatchOption, All, OnOk, is_err}
+use Rattle.std.specs.List.{slice_get}
+use Rattle.std.proofs.lemmas.List.{map-append, take_more, take_all}
+use Rattle.std.proofs.lemmas.List.Elements.{All-head, All-tail, All-push}
+use Rattle.board.specs.declared.event.Event.{Event}
+use Rattle.board.specs.declared.event.EventKind.{EventKind}
+use Rattle.board.specs.declared.event.EventKind.TheVariants.{Read, MemRead, MemWrite}
+use Rattle.board.specs.declared.reply.Reply.{Reply}
+use Rattle.board.specs.declared.reply.Reply.TheVariants.{NoMemory}
+use Rattle.board.specs.declared.reply.Record.{Record}
+use Rattle.board.specs.Machine.{Outcome}
+use Rattle.board.specs.Slot.{SlotState}
+use Rattle.board.specs.World.{World, Health, IsRefused, MayGive, SlotStep, MissingStep, Step, Handles}
+use Rattle.board.specs.Line.{Move, IsLine, IsQuiet, HadMemory, HasInterruptWords, IsRun, events_of, records_of}
+use Rattle.board.proofs.Alone.{alone, recorded_slot}
+
+-- the number of the image's failures never falls: in a refused event
+refused_failures : {A : Type 0} (state : SlotState) (what : EventKind A) (old new : Health) (outcome : Outcome A) → IsRefused state what old new outcome → old.failures ≤ new.failures
+refused_failures state (Read window offset width) old new outcome refused = absurd refused
+refused_failures state (MemRead addr len) old new outcome refused = let same : new.failures ≡ old.failures = ap (λ (h : Health). h.failures) refused.image in omega arith
+refused_failures state (MemWrite addr bytes) old new outcome refused = absurd refused
+
+-- in any event of a slot
+given_failures : {A : Type 0} (state : SlotState) (what : EventKind A) (old new : Health) (outcome : Outcome A) → MayGive state what old new outcome → old.failures ≤ new.failures
+given_failures state what old new outcome (inl served) = let same : new.failures ≡ old.failures = served.failures in omega arith
+given_failures state what old new outcome (inr refused) = refused_failures state what old new outcome refused
+
+step_failures_at : {A : Type 0} (old : World) (event : Event A) (written : Record A) (new : World) (o : Option SlotState) → MatchOption o (MissingStep old event.slot written new) (λ s. SlotStep old event.slot s event.what written new) → old.health.failures ≤ new.health.failures
+step_failures_at old event written new None step = let same : new.health.failures ≡ old.health.failures = ap (λ (w : World). w.health.failures) step.same in omega arith
+step_failures_at old event written new (Some s) step = given_failures s event.what old.health new.health step.outcome step.given
+
+-- in a step
+step_failures : {A : Type 0} (old : World) (event : Event A) (written : Record A) (new : World) → Step old event written new → old.health.failures ≤ new.health.failures
+step_failures old event written new step = step_failures_at old event written new (slice_get old.slots event.slot) step
+
+-- and in a line
+line_failures : {A : Type 0} (old : World) (moves : List (Move A)) (new : World) → IsLine old moves new → old.health.failures ≤ new.health.failures
+line_failures old [] new line = let same : new.health.failures ≡ old.health.failures = ap (λ (w : World). w.health.failures) line in omega arith
+line_failures old (move ∷ moves) new line =
+    let first : old.health.failures ≤ move.after.health.failures = step_failures old move.event move.written move.after line.0 in
+    let rest : move.after.health.failures ≤ new.health.failures = line_failures move.after moves new line.1 in
+    omega arith
+
+outside_at : {A : Type 0} (old : World) (event : Event A) (written : Record A) (new : World) (o : Option SlotState) → MatchOption o (MissingStep old event.slot written new) (λ s. SlotStep old event.slot s event.what written new) → new.outside ≡ old.outside
+outside_at old event written new None step = ap (λ (w : World). w.outside) step.same
+outside_at old event written new (Some s) step = step.outside
+
+-- the bytes outside all extents stay: in a step
+pub step_outside : {A : Type 0} (old : World) (event : Event A) (written : Record A) (new : World) → Step old event written new → new.outside ≡ old.outside
+step_outside old event written new step = outside_at old event written new (slice_get old.slots event.slot) step
+
+-- and in a line
+pub line_outside : {A : Type 0} (old : World) (moves : List (Move A)) (new : World) → IsLine old moves new → new.outside ≡ old.outside
+line_outside old [] new line = ap (λ (w : World). w.outside) line
+line_outside old (move ∷ moves) new line = line_outside move.after moves new line.1 ∙ step_outside old move.event move.written move.after line.0
+
+-- where no call of the image failed in a whole line, a guest without a record of NoMemory is quiet
+quiet : {A : Type 0} (g : ℕ) (old : World) (moves : List (Move A)) (new : World) → IsLine old moves new → new.health.failures ≡ old.health.failures → HadMemory g (records_of moves) → IsQuiet g old moves
+quiet g old [] new line stood had = tt
+quiet {A} g old (move ∷ moves) new line stood had =
+    let first : old.health.failures ≤ move.after.health.failures = step_failures old move.event move.written move.after line.0 in
+    let rest : move.after.health.failures ≤ new.health.failures = line_failures move.after moves new line.1 in
+    let P : Record A → Type 0 = λ entry. entry.slot ≡ g → entry.reply ≢ NoMemory in (
+      record {
+        memory = λ mine. All-head P move.written (records_of moves) had (recorded_slot old move.event move.written move.after line.0 ∙ mine);
+        image = λ mine. omega arith;
+      },
+      quiet g move.after moves new line.1 (omega arith) (All-tail P move.written (records_of moves) had),
+    )
+
+-- a line goes on by one step
+line_more : {A : Type 0} (old mid new : World) (moves : List (Move A)) (move : Move A) → IsLine old moves mid → Step mid move.event move.written move.after → move.after ≡ new → IsLine old (moves ++ move ∷ []) new
+line_more old mid new [] move line step last = (subst (λ (w : World). Step w move.event move.written move.after) line step, sym last)
+line_more old mid new (m ∷ moves) move line step last = (line.0, line_more m.after mid new moves move line.1 step last)
+
+-- What a run did so far: a line over the events so far, whose records were added to those before it.
+pub record Reached {A : Type 0} (old new : World) (events : List (Event A)) (before after : List (Record A)) : Type 0 where
+  pub moves : List (Move A)
+  pub line : IsLine old moves new
+  pub events_are : events_of moves ≡ events
+  pub records_are : after ≡ before ++ records_of moves
+
+-- at first it did nothing
+pub reached_none : {A : Type 0} (old : World) (before : List (Record A)) → Reached old old [] before before
+reached_none old before = record { moves = []; line = refl; events_are = refl; records_are = sym (append-nil before) }
+
+-- then the board handles one event more, and its record is added
+pub reached_more : {A : Type 0} (old mid new : World) (events : List (Event A)) (event : Event A) (reply : Reply A) (block console : ℕ) (out : List ℕ) (before so_far after : List (Record A)) →
+    Reached old mid events before so_far → Handles mid event reply block console [] out new →
+    after ≡ so_far ++ record { slot = event.slot; reply = reply; output = out; block_irq = block; console_irq = console } ∷ [] →
+    Reached old new (events ++ event ∷ []) before after
+reached_more {A} old mid new events event reply block console out before so_far after reached handles added =
+    let move : Move A = record { event = event; written = record { slot = event.slot; reply = reply; output = handles.output; block_irq = block; console_irq = console }; after = new } in
+    record {
+      moves = reached.moves ++ move ∷ [];
+      line = line_more old mid new reached.moves move reached.line handles.step refl;
+      events_are = map-append (λ (m : Move A). m.event) reached.moves (move ∷ []) ∙ ap (λ es. es ++ event ∷ []) reached.events_are;
+      records_are =
+          added
+          ∙ (ap (λ (output : List ℕ). so_far ++ record { slot = event.slot; reply = reply; output = output; block_irq = block; console_irq = console } ∷ []) handles.appended
+          ∙ (ap (λ rs. rs ++ move.written ∷ []) reached.records_are
+          ∙ (append_assoc before (records_of reached.moves) (move.written ∷ [])
+          ∙ ap (λ rs. before ++ rs) (sym (map-append (λ (m : Move A). m.written) reached.moves (move ∷ []))))));
+    }
+
+-- another record joins those whose words are right
+pub words_more : {A : Type 0} (so_far after : List (Record A)) (entry : Record A) → after ≡ so_far ++ entry ∷ [] → All HasInterruptWords so_far → entry.block_irq ≤ 3 → entry.console_irq ≤ 3 → All HasInterruptWords after
+words_more {A} so_far after entry added words block console =
+    let P : Record A → Type 0 = λ w. HasInterruptWords w in
+    subst (λ (rs : List (Record A)). All P rs) (sym added) (All-push P so_far entry words (record { block = block; console = console }))
+
+-- what was reached is a run
+pub run_of : {A : Type 0} (old new : World) (events : List (Event A)) (before after : List (Record A)) → Reached old new events before after → IsRun old new events before after
+run_of old new events before after reached = record {
+  moves = reached.moves;
+  line = reached.line;
+  events_are = reached.events_are;
+  records_are = reached.records_are;
+  alone = λ g still. alone g old reached.moves new reached.line still;
+  quiet = λ stood g had. quiet g old reached.moves new reached.line stood had;
+}
+
+-- what holds where a call succeeded, of one that did
+pub where_ok : {T E : Type 0} (r : Result T E) (P : Type 0) → is_err r ≡ false → OnOk r P → P
+where_ok (Ok x) P succeeded holds = holds
+where_ok (Err e) P succeeded holds = absurd (cc)
+
+-- the run goes on by the next of its events
+pub reached_next : {A : Type 0} (old mid new : World) (events : List (Event A)) (done : ℕ) (event : Event A) (reply : Reply A) (block console : ℕ) (out : List ℕ) (before so_far after : List (Record A)) →
+    done < length events → event ≡ get_or events done event →
+    Reached old mid (take done events) before so_far → Handles mid event reply block console [] out new →
+    after ≡ so_far ++ record { slot = event.slot; reply = reply; output = out; block_irq = block; console_irq = console } ∷ [] →
+    Reached old new (take (done + 1) events) before after
+reached_next {A} old mid new events done event reply block console out before so_far after below is reached handles added =
+    let next : take (done + 1) events ≡ take done events ++ event ∷ [] = take_more events done event below ∙ ap (λ (e : Event A). take done events ++ e ∷ []) (sym is) in
+    subst (λ (es : List (Event A)). Reached old new es before after) (sym next)
+    (reached_more old mid new (take done events) event reply block console out before so_far after reached handles added)
+
+-- after the last event it is a run over all of them
+pub run_whole : {A : Type 0} (old new : World) (events : List (Event A)) (done : ℕ) (before after : List (Record A)) → length events ≤ done → Reached old new (take done events) before after → IsRun old new events before after
+run_whole {A} old new events done before after all reached =
+    run_of old new events before after (subst (λ (es : List (Event A)). Reached old new es before after) (take_all done events all) reached)

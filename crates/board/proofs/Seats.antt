@@ -1,0 +1,135 @@
+-- One slot's event, seen as a step of the whole board. Here the extents' being apart is used: what a
+-- slot's event does to the image stays within that slot's own.
+use Rattle.std.proofs.Common.{◌≡◌, ◌≢◌, ◌⊎◌, inl, inr, ℕ, zero, suc, ◌<◌, true, List, [], ◌∷◌, length, map, Option, Some, None, get_or, refl, sym, ◌∙◌, ap, subst, append-nil, arith}
+use Rattle.std.specs.Prelude.{slice_set, MatchOption, AllPairs}
+use Rattle.std.specs.List.{slice_get, list_any}
+use Rattle.std.specs.Option.{option_map}
+use Rattle.std.proofs.Math.Seq.{map-set_same}
+use Rattle.std.proofs.Math.ListN.{length-set}
+use Rattle.std.proofs.lemmas.Bool.{cases_eq, cases_order}
+use Rattle.std.proofs.lemmas.Bool.Decides.{nat_tests}
+use Rattle.std.proofs.lemmas.List.{map-set, set-get_or, get_or-map, length-map, get_or-set_same, get_or-set_other, same_lists}
+use Rattle.std.proofs.lemmas.Option.{get_or_from_slice_get, slice_get-map, slice_get_within}
+use Rattle.sector_cache.specs.Disk.{Disk}
+use Rattle.sector_cache.specs.Sector.{extent_of}
+use Rattle.board.specs.declared.event.Event.{Event}
+use Rattle.board.specs.declared.reply.Reply.{Reply}
+use Rattle.board.specs.declared.reply.Reply.TheVariants.{BadSlot}
+use Rattle.board.specs.declared.reply.Record.{Record}
+use Rattle.board.specs.declared.spec.Extent.{Extent}
+use Rattle.board.specs.Extent.{has_sector, IsApart, outside_of}
+use Rattle.board.specs.Machine.{block_irq, console_irq}
+use Rattle.board.specs.Slot.{SlotState, BoardSlot, state_of}
+use Rattle.board.specs.World.{World, SlotStep, MissingStep, Step, Serves, Handles, bytes_of, health_of, extents_of, seen}
+use Rattle.board.proofs.Outside.{outside_more, extent_apart}
+
+-- a slot that is put back as it was changes nothing
+pub set_same : (slots : List BoardSlot) (h : ℕ) (slot new : BoardSlot) → slice_get slots h ≡ Some slot → new ≡ slot → slice_set slots h new ≡ slots
+set_same slots h slot new here same = rw (same, ← get_or_from_slice_get slots h slot slot here) (set-get_or slots h slot)
+
+-- where a slot keeps its extent, all do
+pub extents_of-set : (slots : List BoardSlot) (h : ℕ) (slot new : BoardSlot) → slice_get slots h ≡ Some slot → new.extent ≡ slot.extent → extents_of (slice_set slots h new) ≡ extents_of slots
+extents_of-set slots h slot new here same =
+    map-set_same (λ (s : BoardSlot). s.extent) slots h new slot (same ∙ ap (λ (s : BoardSlot). s.extent) (sym (get_or_from_slice_get slots h slot slot here)))
+
+-- apart is apart from either side
+apart_sym : (one other : Extent) → IsApart one other → IsApart other one
+apart_sym one other apart sector = let never = apart sector in grind (arith, never)
+
+-- two slots of a board are apart
+slots_apart : (slots : List BoardSlot) → AllPairs IsApart (extents_of slots) → (h k : ℕ) (d : BoardSlot) → h < length slots → k < length slots → (h ≡ k) ⊎ ((h < k) ⊎ (k < h)) → h ≢ k → IsApart (get_or slots h d).extent (get_or slots k d).extent
+slots_apart slots apart h k d fits fits' (inl same) differ = absurd (differ same)
+slots_apart slots apart h k d fits fits' (inr (inl before)) differ =
+    let extent : BoardSlot → Extent = λ s. s.extent in
+    rw (← get_or-map extent slots h d d.extent fits, ← get_or-map extent slots k d d.extent fits') (apart h k d.extent before (omega (arith, length-map slots extent)))
+slots_apart slots apart h k d fits fits' (inr (inr behind)) differ =
+    let extent : BoardSlot → Extent = λ s. s.extent in
+    let other : IsApart (get_or slots k d).extent (get_or slots h d).extent = rw (← get_or-map extent slots k d d.extent fits', ← get_or-map extent slots h d d.extent fits) (apart k h d.extent behind (omega (arith, length-map slots extent))) in
+    apart_sym (get_or slots k d).extent (get_or slots h d).extent other
+
+-- what a guest can see stays where the bytes of its extent do
+state_same : (slot : BoardSlot) (xs ys : List ℕ) → extent_of xs slot.extent.start slot.extent.count ≡ extent_of ys slot.extent.start slot.extent.count → state_of xs slot ≡ state_of ys slot
+state_same slot xs ys same = ap (λ (bytes : List ℕ). record { memory = slot.memory; extent = bytes; read_only = slot.read_only; cols = slot.cols; rows = slot.rows }) same
+
+-- one slot changed, and the image within that slot's extent alone: the states of all others stay
+states_set : (slots : List BoardSlot) (h : ℕ) (slot new : BoardSlot) (xs ys : List ℕ) → AllPairs IsApart (extents_of slots) → slice_get slots h ≡ Some slot → outside_of (slot.extent ∷ []) xs ≡ outside_of (slot.extent ∷ []) ys → map (state_of ys) (slice_set slots h new) ≡ slice_set (map (state_of xs) slots) h (state_of ys new)
+states_set slots h slot new xs ys apart here same = map-set (state_of ys) slots h new ∙ same_lists _ _ long each
+  where
+    fits : h < length slots
+    fits = slice_get_within slots h slot here
+
+    long : length (slice_set (map (state_of ys) slots) h (state_of ys new)) ≡ length (slice_set (map (state_of xs) slots) h (state_of ys new))
+    long = simp (length-set, length-map) refl
+
+    other : (k : ℕ) → k < length slots → (k ≡ h → ⊥) → state_of ys (get_or slots k slot) ≡ state_of xs (get_or slots k slot)
+    other k fits' differ =
+        let slot_is : get_or slots h slot ≡ slot = get_or_from_slice_get slots h slot slot here in
+        let side : IsApart slot.extent (get_or slots k slot).extent = rw slot_is at (slots_apart slots apart h k slot fits fits' (cases_order h k) (λ e. differ (sym e))) in
+        state_same (get_or slots k slot) ys xs (sym (extent_apart slot.extent (get_or slots k slot).extent side xs ys same))
+
+    each_at : (k : ℕ) (d : SlotState) → k < length slots → (k ≡ h) ⊎ (k ≡ h → ⊥) → get_or (slice_set (map (state_of ys) slots) h (state_of ys new)) k d ≡ get_or (slice_set (map (state_of xs) slots) h (state_of ys new)) k d
+    each_at k d fits' (inl is) =
+        let one : h < length (map (state_of ys) slots) = omega (arith, length-map slots (state_of ys)) in
+        let two : h < length (map (state_of xs) slots) = omega (arith, length-map slots (state_of xs)) in
+        rw is (get_or-set_same (map (state_of ys) slots) h (state_of ys new) d one ∙ sym (get_or-set_same (map (state_of xs) slots) h (state_of ys new) d two))
+    each_at k d fits' (inr differ) =
+        get_or-set_other (map (state_of ys) slots) h k (state_of ys new) d differ
+        ∙ (get_or-map (state_of ys) slots k slot d fits'
+        ∙ (other k fits' differ
+        ∙ (sym (get_or-map (state_of xs) slots k slot d fits')
+        ∙ sym (get_or-set_other (map (state_of xs) slots) h k (state_of ys new) d differ))))
+
+    each : (k : ℕ) (d : SlotState) → k < length (slice_set (map (state_of ys) slots) h (state_of ys new)) → get_or (slice_set (map (state_of ys) slots) h (state_of ys new)) k d ≡ get_or (slice_set (map (state_of xs) slots) h (state_of ys new)) k d
+    each k d within = each_at k d (simp (length-set, length-map) at within) (cases_eq k h)
+
+-- a sector of a slot's extent is in one of the extents
+in_some : (slots : List BoardSlot) (h : ℕ) (slot : BoardSlot) → slice_get slots h ≡ Some slot → (sector : ℕ) → has_sector slot.extent sector ≡ true → list_any (λ e. has_sector e sector) (extents_of slots) ≡ true
+in_some [] h slot here sector is = absurd (cc)
+in_some (s ∷ slots) zero slot here sector is = let same : s ≡ slot = cc in rw (same, is) refl
+in_some (s ∷ slots) (suc h) slot here sector is = let rest = in_some slots h slot here sector is in grind (arith, nat_tests, rest)
+
+-- a step of a slot that is there, from what its own guest may be given
+pub step_there : {A : Type 0} (old new : World) (event : Event A) (written : Record A) (state : SlotState) → slice_get old.slots event.slot ≡ Some state → SlotStep old event.slot state event.what written new → Step old event written new
+step_there old new event written state here step =
+    subst (λ (o : Option SlotState). MatchOption o (MissingStep old event.slot written new) (λ s. SlotStep old event.slot s event.what written new)) (sym here) step
+
+-- a step of a slot that is missing
+pub step_missing : {A : Type 0} (old : World) (event : Event A) → slice_get old.slots event.slot ≡ None → (written : Record A) → MissingStep old event.slot written old → Step old event written old
+step_missing old event missing written step =
+    subst (λ (o : Option SlotState). MatchOption o (MissingStep old event.slot written old) (λ s. SlotStep old event.slot s event.what written old)) (sym missing) step
+
+-- A slot of the board served its guest, and left the image's bytes outside its own extent as they were:
+-- the board handled the event.
+pub handles : {A : Type 0} (slots : List BoardSlot) (old new : Disk) (event : Event A) (slot after : BoardSlot) (reply : Reply A) (block console : ℕ) (out_before out_after : List ℕ) →
+    AllPairs IsApart (extents_of slots) → slice_get slots event.slot ≡ Some slot → after.extent ≡ slot.extent →
+    outside_of (slot.extent ∷ []) (bytes_of old) ≡ outside_of (slot.extent ∷ []) (bytes_of new) →
+    Serves (state_of (bytes_of old) slot) event.what (health_of old) (health_of new) (state_of (bytes_of new) after) reply out_before out_after →
+    block ≡ block_irq (state_of (bytes_of new) after) → console ≡ console_irq (state_of (bytes_of new) after) →
+    Handles (seen slots old) event reply block console out_before out_after (seen (slice_set slots event.slot after) new)
+handles slots old new event slot after reply block console out_before out_after apart here extent stays serves block_is console_is = record {
+  output = serves.output;
+  step =
+      step_there (seen slots old) (seen (slice_set slots event.slot after) new) event _ (state_of (bytes_of old) slot)
+      (slice_get-map (state_of (bytes_of old)) slots event.slot ∙ ap (λ (o : Option BoardSlot). option_map (state_of (bytes_of old)) o) here)
+      (record {
+        outcome = record { state = state_of (bytes_of new) after; reply = reply; output = serves.output };
+        given = serves.given;
+        recorded = rw (block_is, console_is) refl;
+        slots = states_set slots event.slot slot after (bytes_of old) (bytes_of new) apart here stays;
+        outside =
+            ap (λ es. outside_of es (bytes_of new)) (extents_of-set slots event.slot slot after here extent)
+            ∙ sym (outside_more (extents_of slots) slot.extent (λ sector. in_some slots event.slot slot here sector) 0 (bytes_of old) (bytes_of new) stays);
+      });
+  appended = serves.appended;
+}
+
+-- an event of a slot that the board lacks
+pub handles_missing : {A : Type 0} (slots : List BoardSlot) (disk : Disk) (event : Event A) (out : List ℕ) → slice_get slots event.slot ≡ None → Handles (seen slots disk) event BadSlot 0 0 out out (seen slots disk)
+handles_missing slots disk event out missing = record {
+  output = [];
+  step =
+      step_missing (seen slots disk) event
+      (slice_get-map (state_of (bytes_of disk)) slots event.slot ∙ ap (λ (o : Option BoardSlot). option_map (state_of (bytes_of disk)) o) missing)
+      _ (record { recorded = refl; same = refl });
+  appended = sym (append-nil out);
+}

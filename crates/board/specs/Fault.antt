@@ -1,0 +1,86 @@
+-- Which boards there may be, and why others are refused.
+use Rattle.std.specs.Prelude.{◌≡◌, ℕ, ◌+◌, ◌<◌, ◌≤◌, List, [], length, take, All, Any, Some}
+use Rattle.std.specs.List.{slice_get}
+use Rattle.guest_memory.specs.Limits.{IsSize, IsBase}
+use Rattle.guest_memory.specs.declared.fault.MemoryFault.TheVariants.{BadSize, BadBase}
+use Rattle.sector_cache.specs.Fault.{IsCapacity}
+use Rattle.sector_cache.specs.declared.fault.CacheFault.{CacheFault}
+use Rattle.sector_cache.specs.declared.fault.CacheFault.TheVariants.{BadCapacity}
+use Rattle.board.specs.declared.fault.BoardFault.{BoardFault}
+use Rattle.board.specs.declared.fault.BoardFault.TheVariants.{NoSlots, TooManySlots, Memory, ExtentOutside, ExtentsOverlap, Cache, NoMemory}
+use Rattle.board.specs.declared.spec.SlotSpec.{SlotSpec}
+use Rattle.board.specs.Extent.{IsWithin, IsApart, Overlaps}
+
+-- a guest may have a memory of this base and size
+pub record IsMemory (base len : ℕ) : Type 0 where
+  pub size : IsSize len
+  pub base_ok : IsBase base len
+
+-- a slot may be had on an image of that many sectors, beside the slots before it
+pub record IsGoodSlot (sectors : ℕ) (earlier : List SlotSpec) (spec : SlotSpec) : Type 0 where
+  pub memory : IsMemory spec.base spec.len
+  pub within : IsWithin sectors spec.extent
+  pub apart : All (λ other. IsApart other.extent spec.extent) earlier
+
+-- the slots before place n are good, each beside those before it
+abbrev pub GoodBelow : ℕ → List SlotSpec → ℕ → Type 0
+GoodBelow sectors slots n =
+    (i : ℕ) (spec : SlotSpec) → i < n → slice_get slots i ≡ Some spec →
+    IsGoodSlot sectors (take i slots) spec
+
+-- all the slots can be had together: one to sixteen, and each is good
+pub record AreGood (sectors : ℕ) (slots : List SlotSpec) : Type 0 where
+  pub some : 1 ≤ length slots
+  pub few : length slots ≤ 16
+  pub each : GoodBelow sectors slots (length slots)
+
+-- an extent that passes the image's end, of a slot whose memory is good
+pub record HasExtentOutside (sectors : ℕ) (spec : SlotSpec) : Type 0 where
+  pub memory : IsMemory spec.base spec.len
+  pub outside : sectors < spec.extent.start + spec.extent.count
+
+-- an extent inside the image that has a sector of an earlier slot's, of a slot whose memory is good
+pub record HasSharedSector (sectors : ℕ) (earlier : List SlotSpec) (spec : SlotSpec) : Type 0 where
+  pub memory : IsMemory spec.base spec.len
+  pub within : IsWithin sectors spec.extent
+  pub shared : Any (λ other. Overlaps other.extent spec.extent) earlier
+
+-- a slot's fault, of which the first counts: its memory's size, then its base, then its extent's end,
+-- then a sector that it shares
+abbrev pub IsFaultOf : ℕ → List SlotSpec → SlotSpec → BoardFault → Type 0
+IsFaultOf sectors earlier spec (Memory BadSize) = ¬ IsSize spec.len
+IsFaultOf sectors earlier spec (Memory BadBase) = IsSize spec.len × ¬ IsBase spec.base spec.len
+IsFaultOf sectors earlier spec ExtentOutside = HasExtentOutside sectors spec
+IsFaultOf sectors earlier spec ExtentsOverlap = HasSharedSector sectors earlier spec
+IsFaultOf sectors earlier spec _ = ⊥
+
+-- the first slot that isn't good has this fault
+pub record HasFirstFault (sectors : ℕ) (slots : List SlotSpec) (fault : BoardFault) : Type 0 where
+  pub some : 1 ≤ length slots
+  pub few : length slots ≤ 16
+  pub at_slot : ℕ
+  pub spec : SlotSpec
+  pub there : slice_get slots at_slot ≡ Some spec
+  pub before : GoodBelow sectors slots at_slot
+  pub fault_is : IsFaultOf sectors (take at_slot slots) spec fault
+
+-- Why a board is refused, of which the first counts: the number of slots, then the slots' own faults,
+-- slot by slot, then the cache's capacity, and last want of memory, whatever it was wanted for.
+abbrev pub Refuses : ℕ → List SlotSpec → ℕ → BoardFault → Type 0
+Refuses sectors slots cache NoSlots = slots ≡ []
+Refuses sectors slots cache TooManySlots = 16 < length slots
+Refuses sectors slots cache (Memory fault) = HasFirstFault sectors slots (Memory fault)
+Refuses sectors slots cache ExtentOutside = HasFirstFault sectors slots ExtentOutside
+Refuses sectors slots cache ExtentsOverlap = HasFirstFault sectors slots ExtentsOverlap
+Refuses sectors slots cache (Cache fault) = AreGood sectors slots × (¬ IsCapacity cache × (fault ≡ BadCapacity))
+Refuses sectors slots cache NoMemory = AreGood sectors slots × IsCapacity cache
+
+-- what is needed for a board
+pub record IsAccepted (sectors : ℕ) (slots : List SlotSpec) (cache : ℕ) : Type 0 where
+  pub slots_good : AreGood sectors slots
+  pub capacity : IsCapacity cache
+
+-- why there is no board where there is no cache: its capacity is bad, or memory was wanting
+abbrev pub cache_refusal : CacheFault → BoardFault
+cache_refusal BadCapacity = Cache BadCapacity
+cache_refusal _ = NoMemory

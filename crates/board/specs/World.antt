@@ -1,0 +1,153 @@
+-- The whole board as it can be seen from outside, and what one event may do to it.
+use Rattle.std.specs.Prelude.{◌≡◌, ◌≢◌, ◌⊎◌, ℕ, ◌<◌, Bool, IsSome, IsTrue, List, [], ◌++◌, unwrap_or, map, slice_set, MatchOption}
+use Rattle.std.specs.List.{slice_get}
+use Rattle.guest_memory.specs.Memory.{Memory, Inside}
+use Rattle.sector_cache.specs.Disk.{Disk}
+use Rattle.board.specs.declared.event.Event.{Event}
+use Rattle.board.specs.declared.event.EventKind.{EventKind}
+use Rattle.board.specs.declared.event.EventKind.TheVariants.{Read, MemRead, MemWrite}
+use Rattle.board.specs.declared.reply.Reply.{Reply}
+use Rattle.board.specs.declared.reply.Reply.TheVariants.{BadSlot, NoMemory}
+use Rattle.board.specs.declared.reply.Record.{Record}
+use Rattle.board.specs.declared.spec.Extent.{Extent}
+use Rattle.board.specs.Extent.{outside_of}
+use Rattle.board.specs.Machine.{Outcome, replies, holds, next, record_of}
+use Rattle.board.specs.Slot.{SlotState, BoardSlot, state_of}
+
+-- A board: its slots, and the image that they share.
+pub record BoardState (I : Type 0) : Type 0 where
+  pub slots : List BoardSlot
+  pub image : I
+
+-- How the image fares: how many of its calls failed so far, and whether a write was tried since the
+-- last flush that succeeded.
+pub record Health : Type 0 where
+  pub failures : ℕ
+  pub mark : Bool
+
+-- All that can be seen of a board: the state of each slot, the image's bytes outside all extents,
+-- and how the image fares.
+pub record World : Type 0 where
+  pub slots : List SlotState
+  pub outside : List ℕ
+  pub health : Health
+
+-- the image tells its bytes
+abbrev pub Tells : Disk → Type 0
+Tells disk = IsSome disk.told
+
+-- the bytes that the image tells
+abbrev pub bytes_of : Disk → List ℕ
+bytes_of disk = unwrap_or disk.told []
+
+abbrev pub health_of : Disk → Health
+health_of disk = record { failures = disk.failures; mark = disk.mark }
+
+-- where the slots' extents lie in the image
+abbrev pub extents_of : List BoardSlot → List Extent
+extents_of slots = map (λ slot. slot.extent) slots
+
+-- what can be seen of slots over an image
+abbrev pub seen : List BoardSlot → Disk → World
+seen slots disk = record {
+  slots = map (state_of (bytes_of disk)) slots;
+  outside = outside_of (extents_of slots) (bytes_of disk);
+  health = health_of disk;
+}
+
+-- what can be seen of a board
+abbrev pub world_of : {I : Type 0} → (I → Disk) → BoardState I → World
+world_of disk board = seen board.slots (disk board.image)
+
+-- The event is handled as the one-slot machine handles it: memory was found for it, and the image
+-- stands as before.
+pub record IsServed {A : Type 0} (state : SlotState) (what : EventKind A) (old new : Health)
+    (outcome : Outcome A) : Type 0 where
+  pub alike : outcome ≡ next state what
+  pub answered : outcome.reply ≢ NoMemory
+  pub failures : new.failures ≡ old.failures
+  pub mark : new.mark ≡ old.mark
+
+-- A read of some bytes that lie in the memory found no memory for its reply: nothing changed, and
+-- nothing was put out.
+pub record IsUnread {A : Type 0} (state : SlotState) (addr len : ℕ) (old new : Health)
+    (outcome : Outcome A) : Type 0 where
+  pub some : 0 < len
+  pub inside : IsTrue (holds state.memory addr len)
+  pub unchanged : outcome ≡ replies state NoMemory
+  pub image : new ≡ old
+
+-- how an event may be refused for want of memory or by the image; most can't be
+abbrev pub IsRefused : {A : Type 0} → SlotState → EventKind A → Health → Health → Outcome A → Type 0
+IsRefused state (Read window offset width) old new outcome = ⊥
+IsRefused state (MemRead addr len) old new outcome = IsUnread state addr len old new outcome
+IsRefused state (MemWrite addr bytes) old new outcome = ⊥
+
+-- what may come of an event of a slot in this state, where the image fared so before and after it
+abbrev pub MayGive : {A : Type 0} → SlotState → EventKind A → Health → Health → Outcome A → Type 0
+MayGive state what old new outcome =
+    IsServed state what old new outcome ⊎ IsRefused state what old new outcome
+
+-- A slot's guest is served so: an outcome that it may have, whose output was appended to what was
+-- put out before.
+pub record Serves {A : Type 0} (state : SlotState) (what : EventKind A) (old new : Health)
+    (after : SlotState) (reply : Reply A) (out_before out_after : List ℕ) : Type 0 where
+  pub output : List ℕ
+  pub given : MayGive state what old new (record { state = after; reply = reply; output = output })
+  pub appended : out_after ≡ out_before ++ output
+
+-- An event of slot h, which was in this state: it comes out as it may, its record says so, and every
+-- other slot and each byte outside all extents stay as they are.
+pub record SlotStep {A : Type 0} (old : World) (h : ℕ) (state : SlotState) (what : EventKind A)
+    (written : Record A) (new : World) : Type 0 where
+  pub outcome : Outcome A
+  pub given : MayGive state what old.health new.health outcome
+  pub recorded : written ≡ record_of h outcome
+  pub slots : new.slots ≡ slice_set old.slots h outcome.state
+  pub outside : new.outside ≡ old.outside
+
+-- the record of an event of a slot that isn't there
+abbrev pub bad_slot : {A : Type 0} → ℕ → Record A
+bad_slot h = record { slot = h; reply = BadSlot; output = []; block_irq = 0; console_irq = 0 }
+
+-- an event of a slot that isn't there changes nothing
+pub record MissingStep {A : Type 0} (old : World) (h : ℕ) (written : Record A) (new : World)
+    : Type 0 where
+  pub recorded : written ≡ bad_slot h
+  pub same : new ≡ old
+
+-- what an event may do to the whole board, and its record
+abbrev pub Step : {A : Type 0} → World → Event A → Record A → World → Type 0
+Step old event written new =
+    MatchOption (slice_get old.slots event.slot)
+    (MissingStep old event.slot written new)
+    (λ state. SlotStep old event.slot state event.what written new)
+
+-- The board handles an event: a step, with this reply and these interrupt words in its record,
+-- whose output was appended to what was put out before.
+pub record Handles {A : Type 0} (old : World) (event : Event A) (reply : Reply A)
+    (block console : ℕ) (out_before out_after : List ℕ) (new : World) : Type 0 where
+  pub output : List ℕ
+  pub step : Step old event (record {
+    slot = event.slot;
+    reply = reply;
+    output = output;
+    block_irq = block;
+    console_irq = console;
+  }) new
+  pub appended : out_after ≡ out_before ++ output
+
+-- The board answers an event: a step whose record has this reply, and whose output was appended to
+-- what was put out before.
+pub record Answers {A : Type 0} (old : World) (event : Event A) (reply : Reply A)
+    (out_before out_after : List ℕ) (new : World) : Type 0 where
+  pub written : Record A
+  pub step : Step old event written new
+  pub replied : written.reply ≡ reply
+  pub appended : out_after ≡ out_before ++ written.output
+
+-- the events that may find no memory, of a guest with this memory: a read of some bytes inside it
+abbrev pub MayLackMemory : {A : Type 0} → Memory → EventKind A → Type 0
+MayLackMemory memory (Read window offset width) = ⊥
+MayLackMemory memory (MemRead addr len) = (0 < len) × Inside memory addr len
+MayLackMemory memory (MemWrite addr bytes) = ⊥

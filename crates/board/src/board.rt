@@ -1,0 +1,224 @@
+//! The board: its slots over one image, and how events are handled in their order.
+
+ghost use Rattle.std.specs.Prelude.{◌≡◌, ◌≢◌, ◌↔◌, ◌≤◌, ◌<◌, ◌++◌, ◌∷◌, [], All, length, map, vec_len, vec_capacity, IfOk, IfErr, OnOk, IsSomeAnd, IsErrAnd};
+ghost use Rattle.std.specs.List.{slice_get};
+ghost use Rattle.board.specs.declared.fault.BoardFault.{BoardFault};
+ghost use Rattle.board.specs.Fault.{IsAccepted, Refuses, cache_refusal};
+ghost use Rattle.board.specs.Line.{IsRun, HasInterruptWords, events_done};
+ghost use Rattle.board.specs.Slot.{opened};
+ghost use Rattle.board.specs.World.{Tells, Handles, Answers, MayLackMemory, extents_of, world_of};
+
+use crate::bytes::Bytes;
+use crate::check;
+use crate::event::Event;
+use crate::fault::BoardFault;
+use crate::reply::{Record, Reply, RunStop};
+use crate::slot::{self, Slot};
+use crate::spec::SlotSpec;
+use sector_cache::{CacheFault, Image, Refused, SectorCache};
+use std::alloc::{AllocError, Allocator, Global};
+use std::marker::Model;
+
+/// Up to sixteen guests over one image.
+#[derive(Drop)]
+pub struct Board<I: Image, A: Allocator = Global> {
+    slots: Vec<Slot<A>, A>,
+    cache: SectorCache<I, A>,
+    alloc: A,
+}
+
+impl<I: Image, A: Allocator> Model for Board<I, A> {
+    ghost use Rattle.board.specs.Extent.{AreSound};
+    ghost use Rattle.board.specs.World.{BoardState, extents_of};
+
+    ghost Value = { BoardState I };
+
+    ghost view = { λ b. record { slots = b.slots.items; image = b.cache } };
+
+    ghost invariant = { λ b. AreSound (I.disk b.cache).sector_count (extents_of b.slots.items) };
+}
+
+// What an event came to, beside what was put out.
+#[derive(Drop)]
+struct Handled<A: Allocator = Global> {
+    reply: Reply<A>,
+    block_irq: u8,
+    console_irq: u8,
+}
+
+impl<I: Image, A: Allocator + Copy> Board<I, A> {
+    /// A board with these slots over an image, and a cache of at most `cache` sectors before it.
+    /// Where it is refused the image is handed back as it was.
+    pub fn new(
+        alloc: A,
+        slots: &[SlotSpec],
+        image: I,
+        cache: u32,
+    ) -> Result<Board<I, A>, Refused<I, BoardFault>>
+        ensures made { IfOk result (λ board.
+            board ≡ record { slots = map opened slots.now; image = image }) }
+        ensures accepted { OnOk result (IsAccepted (I.disk image).sector_count slots.now cache) }
+        ensures fault { IfErr result (λ refused.
+            Refuses (I.disk image).sector_count slots.now cache refused.why) }
+        ensures returned { IfErr result (λ refused. refused.image ≡ image) }
+
+        // exactly that fault, where there is one other than want of memory
+        ensures exact { (fault : BoardFault) → fault ≢ BoardFault.NoMemory →
+            Refuses (I.disk image).sector_count slots.now cache fault →
+            IsErrAnd result (λ refused. refused.why ≡ fault) }
+    {
+        if let Err(why) = check::slots(slots, image.sectors()) {
+            return Err(Refused { image, why });
+        }
+        let cache = match SectorCache::new(alloc, image, cache) {
+            Ok(cache) => cache,
+            Err(Refused { image, why }) => {
+                return Err(Refused {
+                    image,
+                    why: cache_fault(why),
+                });
+            }
+        };
+        match slot::open_all(alloc, slots) {
+            Ok(slots) => Ok(Board {
+                slots,
+                cache,
+                alloc,
+            }),
+            Err(AllocError) => Err(Refused {
+                image: cache.into_image(),
+                why: BoardFault::NoMemory,
+            }),
+        }
+    }
+
+    /// Handles one event to its end. What the slot's console puts out is appended to `out`.
+    pub fn step(&mut self, event: &Event<A>, out: &mut Vec<u8, A>) -> Reply<A>
+        ensures step { Tells (I.disk self.old.image) →
+            Answers (world_of I.disk self.old) event.now result out.old.items out.new.items
+            (world_of I.disk self.new) }
+
+        // the image goes on telling its bytes, and those outside all extents stay
+        ensures told { Tells (I.disk self.old.image) → Tells (I.disk self.new.image) }
+        ensures outside { Tells (I.disk self.old.image) →
+            (world_of I.disk self.new).outside ≡ (world_of I.disk self.old).outside }
+        ensures extents { extents_of self.new.slots ≡ extents_of self.old.slots }
+
+        // what is refused changes nothing, and only some reads of memory may find no memory
+        ensures bad_slot { (result ≡ Reply.BadSlot) ↔ (length self.old.slots ≤ event.now.slot) }
+        ensures bad_slot_keeps { result ≡ Reply.BadSlot → self.new ≡ self.old }
+        ensures bad_range_keeps { result ≡ Reply.BadRange → self.new ≡ self.old }
+        ensures no_memory { result ≡ Reply.NoMemory →
+            IsSomeAnd (slice_get self.old.slots event.now.slot)
+            (λ slot. MayLackMemory slot.memory event.now.what) }
+    {
+        self.handle(event, out).reply
+    }
+
+    /// Handles the events in their order, and appends a record for each. Where there is no memory
+    /// for the next record it stops before its event.
+    pub fn run(
+        &mut self,
+        events: &[Event<A>],
+        records: &mut Vec<Record<A>, A>,
+    ) -> Result<(), RunStop>
+        ensures run { Tells (I.disk self.old.image) →
+            IsRun (world_of I.disk self.old) (world_of I.disk self.new)
+            (events_done result events.now) records.old.items records.new.items }
+        ensures stopped { IfErr result (λ stop. stop.done < length events.now) }
+        ensures words { All HasInterruptWords records.old.items →
+            All HasInterruptWords records.new.items }
+
+        // the image goes on telling its bytes, and those outside all extents stay
+        ensures told { Tells (I.disk self.old.image) → Tells (I.disk self.new.image) }
+        ensures outside { Tells (I.disk self.old.image) →
+            (world_of I.disk self.new).outside ≡ (world_of I.disk self.old).outside }
+        ensures extents { extents_of self.new.slots ≡ extents_of self.old.slots }
+    {
+        for (done, event) in events.iter().enumerate() {
+            if records.reserve(1).is_err() {
+                return Err(RunStop { done });
+            }
+            let mut output = Vec::new(self.alloc);
+            let handled = self.handle(event, &mut output);
+            put(
+                records,
+                Record {
+                    slot: event.slot,
+                    reply: handled.reply,
+                    output: Bytes::from(output),
+                    block_irq: handled.block_irq,
+                    console_irq: handled.console_irq,
+                },
+            );
+        }
+        Ok(())
+    }
+
+    // Handles one event.
+    fn handle(&mut self, event: &Event<A>, out: &mut Vec<u8, A>) -> Handled<A>
+        ensures handles { Tells (I.disk self.old.image) →
+            Handles (world_of I.disk self.old) event.now
+            result.reply result.block_irq result.console_irq
+            out.old.items out.new.items (world_of I.disk self.new) }
+        ensures block_word { result.block_irq ≤ 3 }
+        ensures console_word { result.console_irq ≤ 3 }
+        ensures told { Tells (I.disk self.old.image) → Tells (I.disk self.new.image) }
+        ensures extents { extents_of self.new.slots ≡ extents_of self.old.slots }
+        ensures bad_slot { (result.reply ≡ Reply.BadSlot) ↔
+            (length self.old.slots ≤ event.now.slot) }
+        ensures bad_slot_keeps { result.reply ≡ Reply.BadSlot → self.new ≡ self.old }
+        ensures bad_range_keeps { result.reply ≡ Reply.BadRange → self.new ≡ self.old }
+        ensures no_memory { result.reply ≡ Reply.NoMemory →
+            IsSomeAnd (slice_get self.old.slots event.now.slot)
+            (λ slot. MayLackMemory slot.memory event.now.what) }
+    {
+        let Some(slot) = self.slots.get_mut(event.slot as usize) else {
+            return Handled {
+                reply: Reply::BadSlot,
+                block_irq: 0,
+                console_irq: 0,
+            };
+        };
+        let reply = slot.serve(self.alloc, &event.what, out);
+        Handled {
+            reply,
+            block_irq: slot.block_irq(),
+            console_irq: slot.console_irq(),
+        }
+    }
+}
+
+impl<I: Image, A: Allocator> Board<I, A> {
+    /// Gives the image back as it stands.
+    pub fn into_image(self) -> I
+        ensures { result ≡ self.image }
+    {
+        let Board {
+            slots: _,
+            cache,
+            alloc: _,
+        } = self;
+        cache.into_image()
+    }
+}
+
+// Why there is no board where there is no cache.
+fn cache_fault(fault: CacheFault) -> BoardFault
+    ensures { result ≡ cache_refusal fault }
+{
+    match fault {
+        CacheFault::BadCapacity => BoardFault::Cache(fault),
+        CacheFault::NoMemory => BoardFault::NoMemory,
+    }
+}
+
+// Appends a record to a list that has room for it.
+fn put<A: Allocator>(records: &mut Vec<Record<A>, A>, entry: Record<A>)
+    requires { vec_len records.old < vec_capacity records.old }
+    ensures { records.new.items ≡ records.old.items ++ entry ∷ [] }
+{
+    if records.push(entry).is_err() {
+        unreachable!()
+    }
+}

@@ -1,0 +1,69 @@
+//! Which boards may be made: the faults of a description, in their order.
+
+ghost use Rattle.std.specs.Prelude.{◌≡◌, ◌+◌, ◌<◌, ◌≤◌, ◌^◌, ◌↔◌, ℕ, All, IsTrue, OnOk, IfErr};
+ghost use Rattle.std.specs.Bool.{OnTrue, OnFalse};
+ghost use Rattle.board.specs.Extent.{IsWithin, IsApart, Overlaps};
+ghost use Rattle.board.specs.Fault.{IsGoodSlot, AreGood, IsFaultOf, Refuses};
+
+use crate::fault::BoardFault;
+use crate::spec::{Extent, SlotSpec};
+use guest_memory::fault_of;
+
+/// How many slots a board may have.
+const MOST_SLOTS: usize = 16;
+
+/// Whether the slots can be had together on an image of that many sectors, or the first fault.
+pub(crate) fn slots(slots: &[SlotSpec], sectors: u64) -> Result<(), BoardFault>
+    ensures ok { OnOk result (AreGood sectors slots.now) }
+    ensures fault { IfErr result (λ fault. (cache : ℕ) → Refuses sectors slots.now cache fault) }
+{
+    if slots.is_empty() {
+        return Err(BoardFault::NoSlots);
+    }
+    if slots.len() > MOST_SLOTS {
+        return Err(BoardFault::TooManySlots);
+    }
+    for (i, spec) in slots.iter().enumerate() {
+        slot(spec, &slots[..i], sectors)?;
+    }
+    Ok(())
+}
+
+// Whether a slot is good beside the earlier ones, or its first fault.
+fn slot(spec: &SlotSpec, earlier: &[SlotSpec], sectors: u64) -> Result<(), BoardFault>
+    requires { All (λ other. IsWithin sectors other.extent) earlier.now }
+    ensures ok { OnOk result (IsGoodSlot sectors earlier.now spec.now) }
+    ensures fault { IfErr result (λ fault. IsFaultOf sectors earlier.now spec.now fault) }
+{
+    if let Some(fault) = fault_of(spec.base, spec.len) {
+        return Err(BoardFault::Memory(fault));
+    }
+    if !is_within(spec.extent, sectors) {
+        return Err(BoardFault::ExtentOutside);
+    }
+    for other in earlier {
+        if overlap(other.extent, spec.extent) {
+            return Err(BoardFault::ExtentsOverlap);
+        }
+    }
+    Ok(())
+}
+
+// Whether an extent lies in an image of that many sectors.
+fn is_within(extent: Extent, sectors: u64) -> bool
+    ensures { IsTrue result ↔ IsWithin sectors extent }
+{
+    extent.start <= sectors && extent.count <= sectors - extent.start
+}
+
+// Whether two extents have a sector in common.
+fn overlap(one: Extent, other: Extent) -> bool
+    requires one { one.start + one.count < 2 ^ 64 }
+    requires other { other.start + other.count < 2 ^ 64 }
+    ensures shared { OnTrue result (Overlaps one other) }
+    ensures apart { OnFalse result (IsApart one other) }
+{
+    let first = one.start.max(other.start);
+    let end = (one.start + one.count).min(other.start + other.count);
+    first < end
+}

@@ -1,0 +1,44 @@
+//! What comes in: the events of the guests.
+
+use crate::bytes::Bytes;
+use std::alloc::{Allocator, Global};
+
+/// A kind of device. Each slot has one window of each kind.
+#[derive(Clone, Copy, Debug, PartialEq, Eq)]
+pub enum DeviceKind {
+    /// A block device (5.2).
+    Block,
+    /// A console (5.3).
+    Console,
+}
+
+/// What one guest does, in one step that nothing interrupts.
+#[derive(Drop)]
+#[derive_where(Debug, PartialEq, Eq)]
+pub struct Event<A: Allocator = Global> {
+    /// The slot whose event this is. It may name none of the board's.
+    pub slot: u8,
+    pub what: EventKind<A>,
+}
+
+/// What is done.
+#[derive(Drop)]
+#[derive_where(Debug, PartialEq, Eq)]
+pub enum EventKind<A: Allocator = Global> {
+    /// The guest's driver reads `width` bytes at an offset of a window (4.2.2).
+    Read {
+        window: DeviceKind,
+        offset: u16,
+        width: u8,
+    },
+    /// The guest reads `len` bytes of its memory from address `addr` on.
+    MemRead {
+        addr: u64,
+        len: u32,
+    },
+    /// The guest writes bytes to its memory from address `addr` on.
+    MemWrite {
+        addr: u64,
+        bytes: Bytes<A>,
+    },
+}

@@ -1,0 +1,44 @@
+//! What goes out: the reply to each event, and its record.
+
+use crate::bytes::Bytes;
+use std::alloc::{Allocator, Global};
+
+/// What a guest is answered.
+#[derive(Drop)]
+#[derive_where(Debug, PartialEq, Eq)]
+pub enum Reply<A: Allocator = Global> {
+    /// What a read of a window gave. One that is narrower than 32 bits is extended by zeros.
+    Value(u32),
+    /// The event was done, and there is nothing to tell.
+    Done,
+    /// What a read of memory gave.
+    Bytes(Bytes<A>),
+    /// The board has no such slot. Nothing changed.
+    BadSlot,
+    /// Not all of the range lies inside the slot's memory. Nothing changed.
+    BadRange,
+    /// There was no memory for the answer.
+    NoMemory,
+}
+
+/// An event that was handled: whose it was, what it was answered, and what could be seen after it.
+#[derive(Drop)]
+#[derive_where(Debug, PartialEq, Eq)]
+pub struct Record<A: Allocator = Global> {
+    pub slot: u8,
+    pub reply: Reply<A>,
+    /// What the slot's console put out during the event.
+    pub output: Bytes<A>,
+    /// The block window's InterruptStatus after the event, and 0 where there is no such slot
+    /// (4.2.2).
+    pub block_irq: u8,
+    /// The console window's InterruptStatus after the event, and 0 where there is no such slot.
+    pub console_irq: u8,
+}
+
+/// A run that stopped, since there was no memory for the next record: the first `done` events are
+/// done and recorded, and the next one is untouched.
+#[derive(Clone, Copy, Debug, PartialEq, Eq)]
+pub struct RunStop {
+    pub done: usize,
+}

@@ -1,0 +1,27 @@
+//! What a board is made of.
+
+/// A run of sectors of the backing image.
+#[derive(Clone, Copy, Debug, PartialEq, Eq)]
+pub struct Extent {
+    /// Its first sector.
+    pub start: u64,
+    /// How many sectors it has, which may be none.
+    pub count: u64,
+}
+
+/// What a slot is to be.
+#[derive(Clone, Copy, Debug, PartialEq, Eq)]
+pub struct SlotSpec {
+    /// The first address of the guest's memory.
+    pub base: u64,
+    /// The size of the guest's memory, in bytes.
+    pub len: u64,
+    /// The sectors that the guest's block device shows.
+    pub extent: Extent,
+    /// Whether the block device refuses writes (VIRTIO_BLK_F_RO, 5.2.3).
+    pub read_only: bool,
+    /// The columns of the console (5.3.4).
+    pub cols: u16,
+    /// The rows of the console.
+    pub rows: u16,
+}
