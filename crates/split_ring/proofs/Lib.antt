@@ -1,0 +1,5 @@
+pub mod Areas
+pub mod Chains
+pub mod Outcomes
+pub mod Totality
+pub mod Wanted

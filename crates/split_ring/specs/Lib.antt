@@ -1,0 +1,4 @@
+pub use Rattle.guest_memory.specs.Memory
+pub mod Ring
+pub mod Paths
+pub mod Kind

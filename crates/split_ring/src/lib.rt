@@ -1,0 +1,16 @@
+//! The split virtqueue (2.7), served by its device.
+//!
+//! A service of a queue is four calls: `open` fixes what is on offer, `take` resolves the next chain, `give`
+//! puts it into the used ring, and `close` tells the driver that all was seen and whether it is to be
+//! notified. A device calls them through its window's queue and never sees a descriptor or an idx.
+#![tactic(auto)]
+
+mod laws;
+mod ring;
+mod walk;
+
+pub use laws::{each_head_has_an_outcome, front_is_longest, one_chain_at_a_place};
+pub use ring::{SplitRing, Token};
+
+#[cfg(test)]
+mod tests;

@@ -1,0 +1,77 @@
+//! The walk from a head through the descriptor table.
+
+ghost use Rattle.std.specs.Prelude.{◌≡◌, ◌*◌, [], OnOk, IfErr};
+ghost use Rattle.guest_memory.specs.Memory.{Inside};
+ghost use Rattle.indirect.specs.Descriptors.{split_table};
+ghost use Rattle.split_ring.specs.Paths.{AddsTable, IndirectFails, IsChainOf, IsFaultOf};
+
+use chain::{Chain, Fault};
+use guest_memory::GuestMemory;
+use indirect::{Descriptor, append_split};
+use std::alloc::Allocator;
+
+/// Where a descriptor table lies, and whether its descriptors may refer to tables of their own.
+#[derive(Clone, Copy)]
+pub(crate) struct Table {
+    pub addr: u64,
+    pub size: u16,
+    pub indirect: bool,
+}
+
+/// Fills the empty chain with the buffers that `head` leads to (2.7.5). After a fault the chain holds those
+/// before it.
+pub(crate) fn append_path<A: Allocator>(
+    mem: &GuestMemory<A>,
+    table: Table,
+    head: u16,
+    chain: &mut Chain,
+) -> Result<(), Fault>
+    requires area { Inside mem.now table.addr (16 * table.size) }
+    requires empty { chain.old ≡ [] }
+    ensures ok { OnOk result (IsChainOf mem.now (split_table mem.now table.addr) table.size table.indirect head chain.new) }
+    ensures fault { IfErr result (IsFaultOf mem.now (split_table mem.now table.addr) table.size table.indirect head) }
+{
+    // So no address in the table passes 2^64.
+    prove!(mem.holds(table.addr, 16 * u64::from(table.size)));
+    let mut index = head;
+    for _count in 0..table.size {
+        if index >= table.size {
+            return Err(Fault::Index);
+        }
+        let descriptor = Descriptor::read_split(mem, table.addr + 16 * u64::from(index));
+        if descriptor.indirect {
+            return append_table(mem, table.indirect, descriptor, chain);
+        }
+        let segment = descriptor.buffer.segment;
+        match chain.push(mem, segment.addr, segment.len, descriptor.buffer.writable) {
+            Ok(()) => {}
+            Err(fault) => return Err(fault),
+        }
+        match descriptor.next {
+            None => return Ok(()),
+            Some(next) => index = next,
+        }
+    }
+    Err(Fault::Loop)
+}
+
+/// Puts the buffers of the indirect table that `descriptor` refers to behind those of the chain (2.7.5.3).
+fn append_table<A: Allocator>(
+    mem: &GuestMemory<A>,
+    negotiated: bool,
+    descriptor: Descriptor,
+    chain: &mut Chain,
+) -> Result<(), Fault>
+    ensures ok { OnOk result (AddsTable mem.now negotiated chain.old descriptor chain.new) }
+    ensures ends { OnOk result (descriptor.next ≡ None) }
+    ensures fault { IfErr result (IndirectFails mem.now negotiated chain.old descriptor) }
+{
+    if !negotiated {
+        return Err(Fault::NoIndirect);
+    }
+    if descriptor.next.is_some() {
+        return Err(Fault::Joined);
+    }
+    let table = descriptor.buffer.segment;
+    append_split(mem, table.addr, table.len, chain)
+}
