@@ -1,0 +1,4 @@
+pub mod Rings
+pub mod Soundness
+pub mod QueueKind
+pub mod ReadyLemmas

@@ -1,0 +1,17 @@
+pub use Rattle.guest_memory.specs.Memory
+pub use Rattle.negotiation.specs.Features
+pub use Rattle.negotiation.specs.Negotiation
+pub use Rattle.chain.specs.Buffers
+pub use Rattle.chain.specs.Service
+pub mod Registers
+pub mod DeviceKind
+pub mod Interrupts
+pub mod Configuration
+pub mod Queue
+pub mod QueueRegisters
+pub mod Window
+pub mod Lending
+pub mod Reading
+pub mod Writing
+pub mod Soundness
+pub mod Ready

@@ -1,0 +1,84 @@
+-- A ready queue as a kind of ring, by cases: what a service of it is. Devices speak of this kind alone.
+use Rattle.std.specs.Prelude.{◌≡◌, ℕ, Bool, Option, List}
+use Rattle.guest_memory.specs.Memory.{Memory}
+use Rattle.chain.specs.declared.segment.Buffer.{Buffer}
+use Rattle.chain.specs.declared.fault.Fault.{Fault}
+use Rattle.chain.specs.Service.{Entry, Kind}
+use Rattle.split_ring.specs.Kind as split
+use Rattle.split_ring.specs.Kind.{split_kind}
+use Rattle.split_ring.specs.Ring as split_ring
+use Rattle.mmio_window.specs.declared.queue.Queue.{Queue}
+use Rattle.mmio_window.specs.declared.queue.Queue.TheVariants.{Split}
+use Rattle.mmio_window.specs.declared.queue.Token.{Token}
+use Rattle.mmio_window.specs.declared.queue.Token.TheVariants as token
+
+-- the queue's areas lie in the memory
+abbrev pub LiesIn : Memory → Queue → Type 0
+LiesIn m (Split ring) = split_ring.LiesIn m ring.setup
+
+-- the queue as it was when it was made ready: of the same size, areas and features, at its first place
+abbrev pub made_as : Queue → Queue
+made_as (Split ring) = Split (split_ring.new_ring ring.setup)
+
+-- how many chains a service may still take
+abbrev pub left_of : Queue → ℕ
+left_of (Split ring) = ring.left
+
+-- the entry that a taken chain is given back by
+abbrev pub entry_of : Token → Entry
+entry_of (token.Split taken) = split.entry_of taken.head
+
+-- the chain was taken at the queue's place
+abbrev pub IsTakenFrom : Queue → Token → Type 0
+IsTakenFrom (Split ring) (token.Split taken) = taken.place ≡ ring.place
+
+-- ---- the kind, each part by cases
+
+abbrev pub opening_fault : Memory → Queue → Option Fault
+opening_fault m (Split ring) = split_kind.opening_fault m ring
+
+abbrev pub opened : Memory → Queue → Queue
+opened m (Split ring) = Split (split_kind.opened m ring)
+
+abbrev pub offers : Memory → Queue → Bool
+offers m (Split ring) = split_kind.offers m ring
+
+abbrev pub Offers : Memory → Queue → List Buffer → Entry → Type 0
+Offers m (Split ring) buffers entry = split_kind.Offers m ring buffers entry
+
+abbrev pub Fails : Memory → Queue → Fault → Type 0
+Fails m (Split ring) fault = split_kind.Fails m ring fault
+
+abbrev pub used : Memory → Queue → Entry → ℕ → Bool → Memory
+used m (Split ring) entry len wrote = split_kind.used m ring entry len wrote
+
+abbrev pub past : Queue → Entry → Queue
+past (Split ring) entry = Split (split_kind.past ring entry)
+
+abbrev pub stopped : Queue → Queue
+stopped (Split ring) = Split (split_kind.stopped ring)
+
+abbrev pub closed : Memory → Queue → Memory
+closed m (Split ring) = split_kind.closed m ring
+
+abbrev pub wants : Memory → Queue → Bool
+wants m (Split ring) = split_kind.wants m ring
+
+abbrev pub shut : Queue → Queue
+shut (Split ring) = Split (split_kind.shut ring)
+
+-- a ready queue as a kind of ring
+abbrev pub queue_kind : Kind Queue
+queue_kind = record {
+  opening_fault = opening_fault;
+  opened = opened;
+  offers = offers;
+  Offers = Offers;
+  Fails = Fails;
+  used = used;
+  past = past;
+  stopped = stopped;
+  closed = closed;
+  wants = wants;
+  shut = shut;
+}

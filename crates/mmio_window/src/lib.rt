@@ -1,0 +1,27 @@
+//! The register window of a virtio-mmio device (4.2): what a guest's driver reads and writes.
+//!
+//! A window keeps status and features, what the registers hold, and the rings of the queues that are ready. Its
+//! caller hands it each access, serves the queue or resets the device where a write says so, and takes the
+//! writes to the device's configuration. Devices borrow a queue from their window and speak of it as one kind
+//! of ring, whatever its layout is.
+#![tactic(auto)]
+
+mod action;
+mod configuration;
+mod device_kind;
+mod interrupts;
+mod laws;
+mod queue;
+mod queue_registers;
+mod register;
+mod window;
+
+pub use action::Action;
+pub use configuration::CONFIGURATION_LEN;
+pub use device_kind::DeviceKind;
+pub use laws::{generation_stays, one_chain_at_a_place, ready_queue_stays, serving_keeps_sound};
+pub use queue::{Queue, Token};
+pub use window::Window;
+
+#[cfg(test)]
+mod tests;

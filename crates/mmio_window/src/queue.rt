@@ -1,0 +1,116 @@
+//! A queue that is ready: a ring of one kind or the other, and the four calls of a service by cases.
+
+ghost use Rattle.std.specs.Prelude.{◌≡◌, [], true, is_some, IfNone, IfOk, IfErr, IfSome, OnOk, OnErr};
+ghost use Rattle.std.specs.Result.{result_err};
+ghost use Rattle.chain.specs.Buffers.{Good};
+ghost use Rattle.guest_memory.specs.Memory.{SameRange};
+ghost use Rattle.mmio_window.specs.Queue.{IsTakenFrom, LiesIn, entry_of, made_as, queue_kind};
+
+use chain::{Chain, Fault};
+use guest_memory::GuestMemory;
+use split_ring::SplitRing;
+use std::alloc::Allocator;
+
+/// A ready queue (2.6): its ring.
+#[derive(Drop)]
+pub enum Queue {
+    /// A split ring (2.7).
+    Split(SplitRing),
+}
+
+/// A chain that was taken and not yet given back.
+#[derive(Debug, PartialEq, Eq, Drop)]
+pub enum Token {
+    /// One of a split ring.
+    Split(split_ring::Token),
+}
+
+impl Queue {
+    /// Opens a service.
+    pub fn open<A: Allocator>(&mut self, mem: &GuestMemory<A>) -> Result<(), Fault>
+        requires { LiesIn mem.now self.old }
+        ensures jump { result_err result ≡ queue_kind.opening_fault mem.now self.old }
+        ensures opened { self.new ≡ queue_kind.opened mem.now self.old }
+        ensures lies { LiesIn mem.now self.new }
+        ensures made { made_as self.new ≡ made_as self.old }
+    {
+        match self {
+            Queue::Split(ring) => ring.open(mem),
+        }
+    }
+
+    /// Takes the next chain: fills `chain` with its buffers, and names it by a token. There is `None` where no
+    /// more are on offer. The queue's place stays, whether or not the token is given back.
+    pub fn take<A: Allocator>(
+        &mut self,
+        mem: &GuestMemory<A>,
+        chain: &mut Chain,
+    ) -> Result<Option<Token>, Fault>
+        requires { LiesIn mem.now self.old }
+        ensures on_offer { IfOk result (λ taken. queue_kind.offers mem.now self.old ≡ is_some taken) }
+        ensures offered { IfOk result (λ taken. IfSome taken (λ token. queue_kind.Offers mem.now self.old chain.new (entry_of token))) }
+        ensures place { IfOk result (λ taken. IfSome taken (IsTakenFrom self.old)) }
+        ensures same { OnOk result (self.new ≡ self.old) }
+
+        // A fault is that of a chain on offer, and ends the service.
+        ensures met { OnErr result (queue_kind.offers mem.now self.old ≡ true) }
+        ensures fault { IfErr result (queue_kind.Fails mem.now self.old) }
+        ensures stopped { OnErr result (self.new ≡ queue_kind.stopped self.old) }
+
+        ensures empty { IfOk result (λ taken. IfNone taken (chain.new ≡ [])) }
+        ensures emptied { OnErr result (chain.new ≡ []) }
+        ensures good { Good mem.now chain.new }
+
+        ensures lies { LiesIn mem.now self.new }
+        ensures made { made_as self.new ≡ made_as self.old }
+    {
+        match self {
+            Queue::Split(ring) => match ring.take(mem, chain) {
+                Ok(Some(token)) => Ok(Some(Token::Split(token))),
+                Ok(None) => Ok(None),
+                Err(fault) => Err(fault),
+            },
+        }
+    }
+
+    /// Gives the chain that was taken last back to the driver as used, with `len` bytes written without a gap
+    /// from its first writable one on; `wrote` is whether any was.
+    pub fn give<A: Allocator>(
+        &mut self,
+        mem: &mut GuestMemory<A>,
+        token: Token,
+        len: u32,
+        wrote: bool,
+    )
+        requires lies { LiesIn mem.old self.old }
+        requires offered { queue_kind.offers mem.old self.old ≡ true }
+        requires taken { IsTakenFrom self.old token }
+        ensures used { mem.new ≡ queue_kind.used mem.old self.old (entry_of token) len wrote }
+        ensures past { self.new ≡ queue_kind.past self.old (entry_of token) }
+        ensures range { SameRange mem.old mem.new }
+        ensures lies { LiesIn mem.new self.new }
+        ensures made { made_as self.new ≡ made_as self.old }
+    {
+        match self {
+            Queue::Split(ring) => {
+                let Token::Split(token) = token;
+                ring.give(mem, token, len, wrote);
+            }
+        }
+    }
+
+    /// Closes a service, and answers whether the driver wants a notification.
+    pub fn close<A: Allocator>(&mut self, mem: &mut GuestMemory<A>) -> bool
+        requires { LiesIn mem.old self.old }
+        ensures closed { mem.new ≡ queue_kind.closed mem.old self.old }
+        ensures wants { result ≡ queue_kind.wants mem.new self.old }
+        ensures shut { self.new ≡ queue_kind.shut self.old }
+        ensures range { SameRange mem.old mem.new }
+        ensures lies { LiesIn mem.new self.new }
+        ensures made { made_as self.new ≡ made_as self.old }
+    {
+        match self {
+            Queue::Split(ring) => ring.close(mem),
+        }
+    }
+}

@@ -1,0 +1,102 @@
+//! Reading the window's registers.
+
+ghost use Rattle.std.specs.Prelude.{◌≡◌, is_some};
+ghost use Rattle.mmio_window.specs.Reading.{read_value, shown};
+ghost use Rattle.mmio_window.specs.Window.{registers_of, ring_at};
+
+use crate::configuration::{
+    CONFIGURATION_LEN, CONFIGURATION_OFFSET, configuration_value, is_configuration_access,
+};
+use crate::device_kind::DeviceKind;
+use crate::register::Register;
+use crate::window::Window;
+use negotiation::Flags;
+
+/// The bytes "virt", as MagicValue shows them.
+const MAGIC_VALUE: u32 = 0x7472_6976;
+
+/// The version of the interface.
+const VERSION: u32 = 2;
+
+/// Whose device this is: the bytes "VMBO".
+const VENDOR_ID: u32 = 0x4f42_4d56;
+
+/// The largest size of a queue.
+const QUEUE_NUM_MAX: u32 = 256;
+
+/// What the registers of shared memory regions show where there is no region (4.2.2).
+const NO_REGION: u32 = 0xffff_ffff;
+
+impl Window {
+    /// A read of `width` bytes at `offset`, where the device's configuration has these bytes. Control registers
+    /// answer aligned reads of width 4, and the configuration aligned reads of width 1, 2 and 4. Every other
+    /// read gives 0.
+    pub fn read(&self, offset: u16, width: u8, config: &[u8; CONFIGURATION_LEN]) -> u32
+        ensures { result ≡ read_value offset width config.now self.now }
+    {
+        if offset >= CONFIGURATION_OFFSET {
+            if is_configuration_access(offset, width) {
+                configuration_value(config, usize::from(offset - CONFIGURATION_OFFSET), width)
+            } else {
+                0
+            }
+        } else if width == 4 {
+            match Register::at(offset) {
+                Some(register) => self.shown(register),
+                None => 0,
+            }
+        } else {
+            0
+        }
+    }
+
+    // What a register shows.
+    fn shown(&self, register: Register) -> u32
+        ensures { result ≡ shown register self.now }
+    {
+        match register {
+            Register::MagicValue => MAGIC_VALUE,
+            Register::Version => VERSION,
+            Register::DeviceId => self.kind.id(),
+            Register::VendorId => VENDOR_ID,
+            Register::DeviceFeatures => self.negotiation.offered().word(self.device_features_sel),
+            Register::QueueNumMax => {
+                if self.has_selected() {
+                    QUEUE_NUM_MAX
+                } else {
+                    0
+                }
+            }
+            Register::QueueReady => u32::from(self.is_selected_ready()),
+            Register::InterruptStatus => u32::from(self.interrupts.bits()),
+            Register::Status => u32::from(self.negotiation.status().bits()),
+            Register::ShmLenLow
+            | Register::ShmLenHigh
+            | Register::ShmBaseLow
+            | Register::ShmBaseHigh => NO_REGION,
+            Register::ConfigGeneration => self.config_generation,
+            _ => 0,
+        }
+    }
+
+    // Whether the device has the selected queue.
+    fn has_selected(&self) -> bool
+        ensures { result ≡ is_some (registers_of self.now.queue_sel self.now) }
+    {
+        match (self.queue_sel, self.kind) {
+            (0, _) | (1, DeviceKind::Console) => true,
+            _ => false,
+        }
+    }
+
+    // Whether the selected queue is ready.
+    fn is_selected_ready(&self) -> bool
+        ensures { result ≡ is_some (ring_at self.now.queue_sel self.now) }
+    {
+        match (self.queue_sel, self.kind) {
+            (0, _) => self.queue_0.ring.is_some(),
+            (1, DeviceKind::Console) => self.queue_1.ring.is_some(),
+            _ => false,
+        }
+    }
+}
