@@ -1,0 +1,157 @@
+-- From a request that is done to a chain that is served: the status is written last.
+use Rattle.std.proofs.Common.{◌≡◌, inl, inr, ℕ, zero, suc, ◌+◌, ◌-◌, ◌*◌, ◌^◌, ◌<◌, ◌≤◌, Bool, true, false, Option, Some, None, List, [], ◌∷◌, ◌++◌, length, map, drop, replicate, refl, sym, ap, subst, ◌∙◌, arith, append_assoc, length-append, length-drop}
+use Rattle.std.specs.Prelude.{◌||◌}
+use Rattle.std.proofs.lemmas.Bool.{cases_lt}
+use Rattle.std.proofs.lemmas.List.{length-map, length-replicate}
+use Rattle.guest_memory.specs.Memory.{Memory}
+use Rattle.chain.specs.declared.segment.Buffer.{Buffer}
+use Rattle.chain.specs.Buffers.{Good}
+use Rattle.chain.specs.Bytes.{readable_of, writable_of, scatter}
+use Rattle.chain.specs.Service.{Given, Does, used_len, wrote}
+use Rattle.chain.proofs.Directions.{length-readable_of, length-addresses_of, len_of-le}
+use Rattle.chain.proofs.Partial.{scattered-nil, scattered-run, scattered-then_byte, used_len-run, wrote-append}
+use Rattle.sector_cache.specs.Disk.{Disk, failed, flushed}
+use Rattle.block_device.specs.declared.device.BlockDevice.{BlockDevice}
+use Rattle.block_device.specs.declared.extent.Extent.{Extent}
+use Rattle.block_device.specs.declared.request.RequestStatus.{RequestStatus}
+use Rattle.block_device.specs.declared.request.RequestStatus.TheVariants.{Success, IoError}
+use Rattle.block_device.specs.declared.request.Request.{Request}
+use Rattle.block_device.specs.declared.request.Request.TheVariants.{Rejected, Write, Flush, GetId}
+use Rattle.block_device.specs.Extent.{extent_disk}
+use Rattle.block_device.specs.Request.{request_of, payload_of, code_of}
+use Rattle.block_device.specs.Outcome.{Ends, identity}
+use Rattle.block_device.specs.Device.{block_device, GivesBy}
+use Rattle.block_device.specs.Progress.{IsServable, IsDone}
+
+-- a chain's bytes are few
+pub writable_few : (m : Memory) (buffers : List Buffer) → Good m buffers → length (writable_of buffers) < 2 ^ 32
+writable_few m buffers good = omega (arith, length-addresses_of true buffers, len_of-le true buffers, good.fits)
+
+readable_few : (m : Memory) (buffers : List Buffer) → Good m buffers → length (readable_of m buffers) < 2 ^ 32
+readable_few m buffers good = omega (arith, length-readable_of m buffers good.inside, len_of-le false buffers, good.fits)
+
+pub write_fits : (m : Memory) (buffers : List Buffer) (capacity : ℕ) (request : Request) (sector count room : ℕ) → Good m buffers → request ≡ Write sector count
+    → IsServable capacity request (length (payload_of (readable_of m buffers))) room → 512 * count + 16 < 2 ^ 64
+write_fits m buffers capacity request sector count room good is servable =
+    let P : Request → Type 0 = λ r. IsServable capacity r (length (payload_of (readable_of m buffers))) room in
+    let here : P (Write sector count) = subst P is servable in
+    omega (arith, here.1, readable_few m buffers good, length-drop 16 (readable_of m buffers))
+
+-- nothing is done
+pub done_rejected : (request : Request) (buffers : List Buffer) (m : Memory) (disk : Disk) (status : RequestStatus) → request ≡ Rejected status
+    → IsDone request buffers m m disk disk 0 status
+done_rejected request buffers m disk status is =
+    rw is (record {
+      found = [];
+      ends = inl (record { found = []; finds = refl; is = refl });
+      len_is = refl;
+      memory = sym (scattered-nil m (writable_of buffers));
+    })
+
+pub done_flushed : (extent : Extent) (request : Request) (buffers : List Buffer) (m : Memory) (disk disk' : Disk) → request ≡ Flush → disk' ≡ flushed disk
+    → IsDone request buffers m m (extent_disk extent disk) (extent_disk extent disk') 0 Success
+done_flushed extent request buffers m disk disk' is flushes =
+    rw (is, flushes) (record {
+      found = [];
+      ends = inl (record { found = []; finds = refl; is = refl });
+      len_is = refl;
+      memory = sym (scattered-nil m (writable_of buffers));
+    })
+
+pub done_unflushed : (extent : Extent) (request : Request) (buffers : List Buffer) (m : Memory) (disk disk' : Disk) → request ≡ Flush → disk' ≡ failed disk
+    → IsDone request buffers m m (extent_disk extent disk) (extent_disk extent disk') 0 IoError
+done_unflushed extent request buffers m disk disk' is fails =
+    rw (is, fails) (record {
+      found = [];
+      ends = inr refl;
+      len_is = refl;
+      memory = sym (scattered-nil m (writable_of buffers));
+    })
+
+-- the identity is written
+pub done_identity : (request : Request) (buffers : List Buffer) (m new : Memory) (disk : Disk) → request ≡ GetId → new ≡ scatter m (drop 0 (writable_of buffers)) identity
+    → IsDone request buffers m new disk disk 20 Success
+done_identity request buffers m new disk is put =
+    rw is (record {
+      found = identity;
+      ends = inl (record { found = identity; finds = refl; is = refl });
+      len_is = refl;
+      memory = put ∙ sym (scattered-run m (writable_of buffers) identity);
+    })
+
+-- the gap before the status
+status_front : (n x : ℕ) → n ≡ 0 → used_len (replicate n None ++ Some x ∷ []) ≡ 1
+status_front zero x e = refl
+status_front (suc n) x e = absurd (omega (arith, e))
+
+status_gap : (n x : ℕ) → 0 < n → used_len (replicate n None ++ Some x ∷ []) ≡ 0
+status_gap zero x h = absurd (omega (arith, h))
+status_gap (suc n) x h = refl
+
+-- the status counts where all before it was written
+pub used_len-status : (found : List ℕ) (room x : ℕ) → length found ≡ room → used_len ((map Some found ++ replicate (room - length found) None) ++ Some x ∷ []) ≡ room + 1
+used_len-status found room x all =
+    ap used_len (append_assoc (map Some found) (replicate (room - length found) None) (Some x ∷ []))
+    ∙ used_len-run found (replicate (room - length found) None ++ Some x ∷ [])
+    ∙ (let e = status_front (room - length found) x (omega (arith, all)) in omega (arith, e, all))
+
+pub used_len-found : (found : List ℕ) (room x : ℕ) → length found < room → used_len ((map Some found ++ replicate (room - length found) None) ++ Some x ∷ []) ≡ length found
+used_len-found found room x some =
+    ap used_len (append_assoc (map Some found) (replicate (room - length found) None) (Some x ∷ []))
+    ∙ used_len-run found (replicate (room - length found) None ++ Some x ∷ [])
+    ∙ (let e = status_gap (room - length found) x (omega (arith, some)) in omega (arith, e))
+
+or_true : (b : Bool) → true ≡ (b || true)
+or_true true = refl
+or_true false = refl
+
+-- the status itself is written
+wrote-status : (front : List (Option ℕ)) (x : ℕ) → true ≡ wrote (front ++ Some x ∷ [])
+wrote-status front x = or_true (wrote front) ∙ sym (wrote-append front (Some x ∷ []))
+
+-- A chain without a writable byte is used as it is.
+pub nothing_does : (device : BlockDevice) (m : Memory) (buffers : List Buffer) (disk : Disk) → length (writable_of buffers) ≡ 0
+    → Does (block_device device) m m buffers disk disk 0 false
+nothing_does device m buffers disk none = record {
+  written = [];
+  gives = subst (λ w. GivesBy Ends device disk (readable_of m buffers) w (record { state = disk; written = [] })) (sym none) refl;
+  each = sym none;
+  memory = sym (scattered-nil m (writable_of buffers));
+  len_is = refl;
+  any_is = refl;
+}
+
+-- A request that is done is answered once its status is written in the last place.
+pub answer_does : (device : BlockDevice) (m done new : Memory) (buffers : List Buffer) (disk disk' : Disk) (request : Request) (room len used : ℕ) (status : RequestStatus)
+    → length (writable_of buffers) ≡ room + 1 → request ≡ request_of device (readable_of m buffers) room
+    → IsDone request buffers m done disk disk' len status → len ≤ room
+    → new ≡ scatter done (drop room (writable_of buffers)) (code_of status ∷ [])
+    → (len ≡ room → used ≡ room + 1) → (len < room → used ≡ len)
+    → Does (block_device device) m new buffers disk disk' used true
+answer_does device m done new buffers disk disk' request room len used status all is d fits put whole part =
+    let w = length (writable_of buffers) in
+    let front : List (Option ℕ) = map Some d.found ++ replicate (room - length d.found) None in
+    let given : Given Disk = record { state = disk'; written = front ++ Some (code_of status) ∷ [] } in
+    let size : length (map Some d.found) ≡ length d.found = length-map d.found Some in
+    let here : Ends (request_of device (readable_of m buffers) room) (payload_of (readable_of m buffers)) disk (record { disk = disk'; found = d.found; status = status }) =
+    subst (λ r. Ends r (payload_of (readable_of m buffers)) disk (record { disk = disk'; found = d.found; status = status })) is d.ends in
+    let gives : GivesBy Ends device disk (readable_of m buffers) (suc room) given =
+    record { outcome = record { disk = disk'; found = d.found; status = status }; is = here; given_is = refl } in
+    let front_size : length front ≡ room = length-append (map Some d.found) (replicate (room - length d.found) None) ∙ (let e = length-replicate {A = Option ℕ} (room - length d.found) None in omega (arith, e, size, d.len_is)) in
+    record {
+      written = front ++ Some (code_of status) ∷ [];
+      gives = subst (λ w. GivesBy Ends device disk (readable_of m buffers) w given) (let e : suc room ≡ w = omega (arith, all) in e) gives;
+      each = length-append front (Some (code_of status) ∷ []) ∙ (omega (arith, front_size, all));
+      memory =
+          put ∙ ap (λ m. scatter m (drop room (writable_of buffers)) (code_of status ∷ [])) d.memory
+          ∙ scattered-then_byte m (writable_of buffers) (map Some d.found) (code_of status) (room - length d.found) room (omega (arith, size, d.len_is));
+      len_is = used_is d.found d.len_is;
+      any_is = wrote-status front (code_of status);
+    }
+  where
+    used_is : (found : List ℕ) → len ≡ length found → used ≡ used_len ((map Some found ++ replicate (room - length found) None) ++ Some (code_of status) ∷ [])
+    used_is found e =
+        elim (cases_lt len room) [
+          | inl some ↦ part some ∙ e ∙ sym (used_len-found found room (code_of status) (omega (arith, e)))
+          | inr rest ↦ whole (omega arith) ∙ sym (used_len-status found room (code_of status) (omega (arith, e)))
+        ]

@@ -1,0 +1,139 @@
+-- A service in its course: the chains so far, and what else stays along them.
+use Rattle.std.proofs.Common.{◌≡◌, ℕ, ◌+◌, ◌≤◌, Bool, true, false, if◌then◌else◌, nat_lt, Option, Some, None, List, refl, ap, ◌∙◌, arith}
+use Rattle.std.specs.Prelude.{◌||◌}
+use Rattle.std.proofs.lemmas.Bool.Decides.{nat_tests}
+use Rattle.guest_memory.specs.Memory.{Memory, SameRange}
+use Rattle.chain.specs.declared.segment.Buffer.{Buffer}
+use Rattle.chain.specs.declared.fault.Fault.{Fault}
+use Rattle.chain.specs.Service.{Entry, Does, Spent, Faulted, Runs, Reached}
+use Rattle.chain.proofs.Scattering.{same_trans}
+use Rattle.chain.proofs.Servicing.{reached_start, reached_more, runs_from_reached}
+use Rattle.sector_cache.specs.Disk.{Disk}
+use Rattle.mmio_window.specs.declared.queue.Queue.{Queue}
+use Rattle.mmio_window.specs.declared.queue.Queue.TheVariants.{Split}
+use Rattle.mmio_window.specs.Queue.{LiesIn as QueueLiesIn, made_as, queue_kind}
+use Rattle.block_device.specs.declared.device.BlockDevice.{BlockDevice}
+use Rattle.block_device.specs.declared.extent.Extent.{Extent}
+use Rattle.block_device.specs.Device.{block_device}
+use Rattle.block_device.specs.Extent.{LiesIn, extent_disk, ToldOutside, KeepsOutside}
+use Rattle.block_device.specs.Serving.{ending_of}
+use Rattle.block_device.proofs.Extents.{KeepsOutside-same}
+
+told_trans : (extent : Extent) (a b c : Option (List ℕ)) → ToldOutside extent a b → ToldOutside extent b c → ToldOutside extent a c
+told_trans extent None None None p q = tt
+told_trans extent None None (Some c) p q = absurd q
+told_trans extent None (Some b) c p q = absurd p
+told_trans extent (Some a) None c p q = absurd p
+told_trans extent (Some a) (Some b) None p q = absurd q
+told_trans extent (Some a) (Some b) (Some c) p q = record { before = q.before ∙ p.before; behind = q.behind ∙ p.behind; size = q.size ∙ p.size }
+
+-- what stays in two steps stays in both
+pub outside_trans : (extent : Extent) (a b c : Disk) → KeepsOutside extent a b → KeepsOutside extent b c → KeepsOutside extent a c
+outside_trans extent a b c p q = record { sectors = q.sectors ∙ p.sectors; told = told_trans extent a.told b.told c.told p.told q.told }
+
+-- the extent still lies in the disk
+pub lies_still : (extent : Extent) (a b : Disk) → KeepsOutside extent a b → LiesIn a extent → LiesIn b extent
+lies_still extent a b keeps lies = omega (arith, keeps.sectors, lies)
+
+-- whether a chain is on offer doesn't turn on what its device wrote
+pub offers_still : (m new : Memory) (queue : Queue) → queue_kind.offers m queue ≡ true → queue_kind.offers new queue ≡ true
+offers_still m new (Split ring) h = h
+
+-- these chains were served since the service was opened
+pub record IsInCourse (device : BlockDevice) (start now : Memory) (first queue : Queue) (disk disk' : Disk) (failed : Bool) : Type 0 where
+  pub reached : Reached queue_kind (block_device device)
+      (record { memory = start; ring = first; state = extent_disk device.extent disk })
+      (record { memory = now; ring = queue; state = extent_disk device.extent disk' })
+  pub outside : KeepsOutside device.extent disk disk'
+  pub range : SameRange start now
+  pub lies : QueueLiesIn now queue
+  pub made : made_as queue ≡ made_as first
+  pub counted : failed ≡ nat_lt disk.failures disk'.failures
+  pub rises : disk.failures ≤ disk'.failures
+
+not_less : (n : ℕ) → false ≡ nat_lt n n
+not_less n = grind (arith, nat_tests)
+
+pub course_start : (device : BlockDevice) (m : Memory) (queue : Queue) (disk : Disk) → QueueLiesIn m queue → IsInCourse device m m queue queue disk disk false
+course_start device m queue disk lies = record {
+  reached = reached_start queue_kind (block_device device) (record { memory = m; ring = queue; state = extent_disk device.extent disk });
+  outside = KeepsOutside-same device.extent disk disk refl refl;
+  range = record { base = refl; size = refl };
+  lies = lies;
+  made = refl;
+  counted = not_less disk.failures;
+  rises = omega arith;
+}
+
+less_more : (a b c : ℕ) → a ≤ b → c ≡ b + 1 → true ≡ nat_lt a c
+less_more a b c h e = grind (arith, nat_tests)
+
+or_true : (b : Bool) → (b || true) ≡ true
+or_true true = refl
+or_true false = refl
+
+or_false : (b : Bool) → (b || false) ≡ b
+or_false true = refl
+or_false false = refl
+
+-- one failure more, or none
+counts_on : (failed more : Bool) (a b c : ℕ) → failed ≡ nat_lt a b → a ≤ b → c ≡ b + (if more then 1 else 0) → (failed || more) ≡ nat_lt a c
+counts_on failed true a b c e h n = or_true failed ∙ less_more a b c h n
+counts_on failed false a b c e h n = or_false failed ∙ e ∙ ap (nat_lt a) (let f : b ≡ c = omega (arith, n) in f)
+
+rises_on : (more : Bool) (a b c : ℕ) → a ≤ b → c ≡ b + (if more then 1 else 0) → a ≤ c
+rises_on true a b c h n = omega (arith, n)
+rises_on false a b c h n = omega (arith, n)
+
+-- one more chain is taken, answered and given back
+pub course_more : (device : BlockDevice) (start m answered m' : Memory) (first queue taken queue' : Queue) (disk d d' : Disk) (failed more both : Bool) (buffers : List Buffer) (entry : Entry) (len : ℕ) (any : Bool)
+    → IsInCourse device start m first queue disk d failed
+    → queue_kind.offers m queue ≡ true → queue_kind.Offers m queue buffers entry → taken ≡ queue
+    → Does (block_device device) m answered buffers (extent_disk device.extent d) (extent_disk device.extent d') len any
+    → m' ≡ queue_kind.used answered taken entry len any → queue' ≡ queue_kind.past taken entry
+    → d'.failures ≡ d.failures + (if more then 1 else 0) → KeepsOutside device.extent d d'
+    → SameRange m answered → SameRange answered m' → QueueLiesIn m' queue' → made_as queue' ≡ made_as taken
+    → both ≡ (failed || more)
+    → IsInCourse device start m' first queue' disk d' both
+course_more device start m answered m' first queue taken queue' disk d d' failed more both buffers entry len any h offers offered same does used past counts outside range range' lies made flag =
+    record {
+      reached = reached_more queue_kind (block_device device) (record { memory = start; ring = first; state = extent_disk device.extent disk })
+          m answered m' queue queue' (extent_disk device.extent d) (extent_disk device.extent d') buffers entry len any
+          h.reached refl offers offered does
+          (used ∙ ap (λ q. queue_kind.used answered q entry len any) same) (past ∙ ap (λ q. queue_kind.past q entry) same);
+      outside = outside_trans device.extent disk d d' h.outside outside;
+      range = same_trans start m m' h.range (same_trans m answered m' range range');
+      lies = lies;
+      made = made ∙ ap made_as same ∙ h.made;
+      counted = flag ∙ counts_on failed more disk.failures d.failures d'.failures h.counted h.rises counts;
+      rises = rises_on more disk.failures d.failures d'.failures h.rises counts;
+    }
+
+-- none is on offer
+pub runs_out : (device : BlockDevice) (start m : Memory) (first queue last : Queue) (disk d : Disk) (failed : Bool)
+    → IsInCourse device start m first queue disk d failed → queue_kind.offers m queue ≡ false → last ≡ queue
+    → Runs queue_kind (block_device device)
+    (record { memory = start; ring = first; state = extent_disk device.extent disk }) (ending_of None)
+    (record { memory = m; ring = last; state = extent_disk device.extent d })
+runs_out device start m first queue last disk d failed h none same =
+    rw same (runs_from_reached queue_kind (block_device device) (record { memory = start; ring = first; state = extent_disk device.extent disk })
+    (record { memory = m; ring = queue; state = extent_disk device.extent d }) Spent h.reached none)
+
+-- the chain on offer has a fault
+pub runs_into : (device : BlockDevice) (start m : Memory) (first queue last : Queue) (disk d : Disk) (failed : Bool) (fault : Fault)
+    → IsInCourse device start m first queue disk d failed → queue_kind.offers m queue ≡ true → queue_kind.Fails m queue fault → last ≡ queue_kind.stopped queue
+    → Runs queue_kind (block_device device)
+    (record { memory = start; ring = first; state = extent_disk device.extent disk }) (ending_of (Some fault))
+    (record { memory = m; ring = last; state = extent_disk device.extent d })
+runs_into device start m first queue last disk d failed fault h offers fails same =
+    rw same (runs_from_reached queue_kind (block_device device) (record { memory = start; ring = first; state = extent_disk device.extent disk })
+    (record { memory = m; ring = queue; state = extent_disk device.extent d }) (Faulted fault) h.reached (offers, fails))
+
+-- a test by cases on its first part
+pub or_with_true : (a b : Bool) → a ≡ true → a ≡ (a || b)
+or_with_true true b e = refl
+or_with_true false b e = cc
+
+pub or_with_false : (a b : Bool) → a ≡ false → b ≡ (a || b)
+or_with_false true b e = cc
+or_with_false false b e = refl

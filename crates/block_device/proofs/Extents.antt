@@ -1,0 +1,141 @@
+-- Runs of sectors written to a list of bytes, and the extent around them.
+use Rattle.std.proofs.Common.{◌≡◌, ℕ, ◌+◌, ◌*◌, ◌≤◌, ◌<◌, Bool, true, Option, Some, None, List, [], ◌∷◌, ◌++◌, length, take, drop, refl, sym, ap, ◌∙◌, arith, length-append, length-take, length-drop}
+use Rattle.std.specs.Prelude.{IfSome}
+use Rattle.std.specs.Option.{option_map}
+use Rattle.std.proofs.Math.Seq.{take-add}
+use Rattle.std.proofs.lemmas.List.{places, same_lists, take-append-drop}
+use Rattle.sector_cache.specs.Sector.{extent_of, sector_of, with_sector}
+use Rattle.sector_cache.specs.Disk.{Disk, IsWhole, written}
+use Rattle.sector_cache.proofs.Sectors.{extent_of-more, extent_of-extent_of}
+use Rattle.block_device.specs.declared.extent.Extent.{Extent}
+use Rattle.block_device.specs.Extent.{LiesIn, extent_disk, ToldOutside, KeepsOutside}
+use Rattle.block_device.specs.Outcome.{with_sectors, marked, filled, AreAsTold}
+
+pub length-with_sectors : (bytes : List ℕ) (sector : ℕ) (new : List ℕ) → 512 * sector + length new ≤ length bytes → length (with_sectors bytes sector new) ≡ length bytes
+length-with_sectors bytes sector new inside = simp (length-append, length-take, length-drop) (omega arith)
+
+-- nothing is written
+pub with_sectors-nil : (bytes : List ℕ) (sector : ℕ) → with_sectors bytes sector [] ≡ bytes
+with_sectors-nil bytes sector =
+    ap (λ n. take (512 * sector) bytes ++ drop n bytes) (omega arith) ∙ take-append-drop (512 * sector) bytes
+
+-- one sector more
+pub with_sector-with_sectors : (bytes : List ℕ) (sector done : ℕ) (front chunk : List ℕ) → length front ≡ 512 * done → length chunk ≡ 512 → 512 * (sector + done + 1) ≤ length bytes
+    → with_sector (with_sectors bytes sector front) (sector + done) chunk ≡ with_sectors bytes sector (front ++ chunk)
+with_sector-with_sectors bytes sector done front chunk long whole inside =
+    same_lists _ _ (simp (length-append, length-take, length-drop) (omega arith)) (λ k d h. grind (arith, places))
+
+-- the extent of what is written within it
+pub extent_of-with_sectors : (bytes : List ℕ) (start count sector : ℕ) (new : List ℕ) → 512 * (start + count) ≤ length bytes → 512 * sector + length new ≤ 512 * count
+    → extent_of (with_sectors bytes (start + sector) new) start count ≡ with_sectors (extent_of bytes start count) sector new
+extent_of-with_sectors bytes start count sector new inside within =
+    same_lists _ _ (simp (length-append, length-take, length-drop) (omega arith)) (λ k d h. grind (arith, places))
+
+before-with_sectors : (bytes : List ℕ) (start sector : ℕ) (new : List ℕ) → 512 * (start + sector) + length new ≤ length bytes
+    → take (512 * start) (with_sectors bytes (start + sector) new) ≡ take (512 * start) bytes
+before-with_sectors bytes start sector new inside =
+    same_lists _ _ (simp (length-append, length-take, length-drop) (omega arith)) (λ k d h. grind (arith, places))
+
+behind-with_sectors : (bytes : List ℕ) (start count sector : ℕ) (new : List ℕ) → 512 * (start + count) ≤ length bytes → 512 * sector + length new ≤ 512 * count
+    → drop (512 * (start + count)) (with_sectors bytes (start + sector) new) ≡ drop (512 * (start + count)) bytes
+behind-with_sectors bytes start count sector new inside within =
+    same_lists _ _ (simp (length-append, length-take, length-drop) (omega arith)) (λ k d h. grind (arith, places))
+
+-- a write of some bytes sets the mark
+marked-chunk : (front chunk : List ℕ) (mark : Bool) → length chunk ≡ 512 → true ≡ marked (front ++ chunk) mark
+marked-chunk [] [] mark whole = absurd (omega (arith, whole))
+marked-chunk [] (x ∷ chunk) mark whole = refl
+marked-chunk (x ∷ front) chunk mark whole = refl
+
+same_disk : (n f : ℕ) (t u : Option (List ℕ)) (m k : Bool) → t ≡ u → m ≡ k
+    → ◌≡◌ {A = Disk} (record { told = t; sector_count = n; failures = f; mark = m }) (record { told = u; sector_count = n; failures = f; mark = k })
+same_disk n f t u m k p q = rw (p, q) refl
+
+-- before the first sector
+pub filled-nil : (sector : ℕ) (disk : Disk) → disk ≡ filled sector [] disk
+filled-nil sector disk = same_disk disk.sector_count disk.failures disk.told (option_map (λ bytes. with_sectors bytes sector []) disk.told) disk.mark disk.mark (same_told disk.told) refl
+  where
+    same_told : (told : Option (List ℕ)) → told ≡ option_map (λ bytes. with_sectors bytes sector []) told
+    same_told None = refl
+    same_told (Some bytes) = ap Some (sym (with_sectors-nil bytes sector))
+
+-- one sector more is written
+pub written-filled : (disk : Disk) (sector done : ℕ) (front chunk : List ℕ) → IsWhole disk → length front ≡ 512 * done → length chunk ≡ 512 → sector + done < disk.sector_count
+    → written (sector + done) chunk (filled sector front disk) ≡ filled sector (front ++ chunk) disk
+written-filled disk sector done front chunk is_whole long whole inside =
+    same_disk disk.sector_count disk.failures _ _ true (marked (front ++ chunk) disk.mark) (same_told disk.told is_whole) (marked-chunk front chunk disk.mark whole)
+  where
+    same_told : (told : Option (List ℕ)) → IfSome told (λ bytes. length bytes ≡ 512 * disk.sector_count)
+        → option_map (λ bytes. with_sector bytes (sector + done) chunk) (option_map (λ bytes. with_sectors bytes sector front) told)
+        ≡ option_map (λ bytes. with_sectors bytes sector (front ++ chunk)) told
+    same_told None h = refl
+    same_told (Some bytes) h = ap Some (with_sector-with_sectors bytes sector done front chunk long whole (omega arith))
+
+-- the extent of a disk that was written within it
+pub extent_disk-filled : (extent : Extent) (disk : Disk) (sector : ℕ) (new : List ℕ) → IsWhole disk → LiesIn disk extent → 512 * sector + length new ≤ 512 * extent.count
+    → extent_disk extent (filled (extent.start + sector) new disk) ≡ filled sector new (extent_disk extent disk)
+extent_disk-filled extent disk sector new is_whole lies within =
+    same_disk extent.count disk.failures _ _ (marked new disk.mark) (marked new disk.mark) (same_told disk.told is_whole) refl
+  where
+    same_told : (told : Option (List ℕ)) → IfSome told (λ bytes. length bytes ≡ 512 * disk.sector_count)
+        → option_map (λ bytes. extent_of bytes extent.start extent.count) (option_map (λ bytes. with_sectors bytes (extent.start + sector) new) told)
+        ≡ option_map (λ bytes. with_sectors bytes sector new) (option_map (λ bytes. extent_of bytes extent.start extent.count) told)
+    same_told None h = refl
+    same_told (Some bytes) h = ap Some (extent_of-with_sectors bytes extent.start extent.count sector new (omega arith) within)
+
+-- nothing outside of it changes
+pub KeepsOutside-filled : (extent : Extent) (disk new : Disk) (sector : ℕ) (bytes : List ℕ) → IsWhole disk → LiesIn disk extent → 512 * sector + length bytes ≤ 512 * extent.count
+    → new.told ≡ (filled (extent.start + sector) bytes disk).told → new.sector_count ≡ disk.sector_count → KeepsOutside extent disk new
+KeepsOutside-filled extent disk new sector bytes is_whole lies within told sectors =
+    record { sectors = sectors; told = rw told (same_told disk.told is_whole) }
+  where
+    same_told : (told : Option (List ℕ)) → IfSome told (λ bytes. length bytes ≡ 512 * disk.sector_count)
+        → ToldOutside extent told (option_map (λ old. with_sectors old (extent.start + sector) bytes) told)
+    same_told None h = tt
+    same_told (Some old) h = record {
+      before = before-with_sectors old extent.start sector bytes (omega arith);
+      behind = behind-with_sectors old extent.start extent.count sector bytes (omega arith) within;
+      size = length-with_sectors old (extent.start + sector) bytes (omega arith);
+    }
+
+-- a call that changes no told byte changes none outside
+pub KeepsOutside-same : (extent : Extent) (disk new : Disk) → new.told ≡ disk.told → new.sector_count ≡ disk.sector_count → KeepsOutside extent disk new
+KeepsOutside-same extent disk new told sectors =
+    record { sectors = sectors; told = rw told (same_told disk.told) }
+  where
+    same_told : (told : Option (List ℕ)) → ToldOutside extent told told
+    same_told None = tt
+    same_told (Some old) = record { before = refl; behind = refl; size = refl }
+
+-- Reading: no sector, and one more.
+pub AreAsTold-none : (disk : Disk) (sector : ℕ) → AreAsTold disk sector 0 []
+AreAsTold-none disk sector = record { size = refl; told = nothing disk.told }
+  where
+    nothing : (told : Option (List ℕ)) → IfSome told (λ bytes. [] ≡ extent_of bytes sector 0)
+    nothing None = tt
+    nothing (Some bytes) = refl
+
+pub AreAsTold-more : (disk : Disk) (sector done : ℕ) (found chunk : List ℕ) → AreAsTold disk sector done found → length chunk ≡ 512
+    → IfSome disk.told (λ bytes. chunk ≡ sector_of bytes (sector + done)) → AreAsTold disk sector (done + 1) (found ++ chunk)
+AreAsTold-more disk sector done found chunk h whole told =
+    record { size = omega (arith, length-append found chunk, h.size); told = more disk.told h.told told }
+  where
+    more : (told : Option (List ℕ)) → IfSome told (λ bytes. found ≡ extent_of bytes sector done) → IfSome told (λ bytes. chunk ≡ sector_of bytes (sector + done))
+        → IfSome told (λ bytes. found ++ chunk ≡ extent_of bytes sector (done + 1))
+    more None p q = tt
+    more (Some bytes) p q = rw (p, q) (sym (extent_of-more bytes sector done))
+
+-- what was read of the disk within the extent is what the extent tells
+pub AreAsTold-extent : (extent : Extent) (disk : Disk) (sector count : ℕ) (found : List ℕ) → sector + count ≤ extent.count → AreAsTold disk (extent.start + sector) count found
+    → AreAsTold (extent_disk extent disk) sector count found
+AreAsTold-extent extent disk sector count found within h =
+    record { size = h.size; told = same_told disk.told h.told }
+  where
+    same_told : (told : Option (List ℕ)) → IfSome told (λ bytes. found ≡ extent_of bytes (extent.start + sector) count)
+        → IfSome (option_map (λ bytes. extent_of bytes extent.start extent.count) told) (λ bytes. found ≡ extent_of bytes sector count)
+    same_told None h = tt
+    same_told (Some bytes) h = h ∙ sym (extent_of-extent_of bytes extent.start extent.count sector count within)
+
+-- the sectors' bytes in front, and one sector more
+pub take-sector : (payload : List ℕ) (done : ℕ) → take (512 * done) payload ++ take 512 (drop (512 * done) payload) ≡ take (512 * (done + 1)) payload
+take-sector payload done = sym (take-add (512 * done) 512 payload) ∙ ap (λ n. take n payload) (omega arith)

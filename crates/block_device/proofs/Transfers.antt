@@ -1,0 +1,175 @@
+-- Sectors that were moved so far, and what the request is once they all are, or once the image fails.
+use Rattle.std.proofs.Common.{◌≡◌, inl, inr, ℕ, ◌+◌, ◌*◌, ◌<◌, ◌≤◌, Some, List, [], ◌++◌, length, map, take, drop, refl, sym, ap, ◌∙◌, arith, length-take, length-drop, length-append}
+use Rattle.std.specs.Prelude.{IfSome}
+use Rattle.std.proofs.lemmas.List.{take_all, drop-drop}
+use Rattle.std.proofs.lemmas.List.{length-map, map-append}
+use Rattle.guest_memory.specs.Memory.{Memory, SameRange}
+use Rattle.chain.specs.declared.segment.Buffer.{Buffer}
+use Rattle.chain.specs.Bytes.{readable_of, writable_of, scatter}
+use Rattle.chain.specs.Service.{scattered}
+use Rattle.chain.proofs.Partial.{scattered-then_run, scattered-nil}
+use Rattle.sector_cache.specs.Sector.{sector_of}
+use Rattle.sector_cache.specs.Disk.{Disk, IsWhole, IsTorn, failed, flushed, written}
+use Rattle.block_device.specs.declared.extent.Extent.{Extent}
+use Rattle.block_device.specs.declared.request.RequestStatus.TheVariants.{Success, IoError}
+use Rattle.block_device.specs.declared.request.Request.TheVariants.{Read, Write}
+use Rattle.block_device.specs.Extent.{LiesIn, extent_disk, KeepsOutside}
+use Rattle.block_device.specs.Request.{payload_of}
+use Rattle.block_device.specs.Outcome.{AreAsTold, filled}
+use Rattle.block_device.specs.Progress.{IsDone}
+use Rattle.block_device.proofs.Extents.{filled-nil, written-filled, extent_disk-filled, KeepsOutside-filled, AreAsTold-none, AreAsTold-more, AreAsTold-extent, take-sector}
+
+-- these sectors were read from a sector of the disk on, and put in the first writable places
+pub record IsReading (buffers : List Buffer) (old new : Memory) (disk disk' : Disk) (sector done : ℕ) : Type 0 where
+  pub found : List ℕ
+  pub finds : AreAsTold disk sector done found
+  pub memory : new ≡ scattered old (writable_of buffers) (map Some found)
+  pub same : disk' ≡ disk
+  pub range : SameRange old new
+
+pub reading_start : (buffers : List Buffer) (m : Memory) (disk : Disk) (sector : ℕ) → IsReading buffers m m disk disk sector 0
+reading_start buffers m disk sector = record {
+  found = [];
+  finds = AreAsTold-none disk sector;
+  memory = sym (scattered-nil m (writable_of buffers));
+  same = refl;
+  range = record { base = refl; size = refl };
+}
+
+pub reading_more : (buffers : List Buffer) (old m new : Memory) (disk d d' : Disk) (sector done place : ℕ) (chunk : List ℕ) → IsReading buffers old m disk d sector done
+    → length chunk ≡ 512 → IfSome d.told (λ bytes. chunk ≡ sector_of bytes (sector + done)) → d' ≡ d
+    → new ≡ scatter m (drop place (writable_of buffers)) chunk → place ≡ 512 * done → SameRange m new → IsReading buffers old new disk d' sector (done + 1)
+reading_more buffers old m new disk d d' sector done place chunk r whole told same put at range =
+    let here : IfSome disk.told (λ bytes. chunk ≡ sector_of bytes (sector + done)) = rw r.same at told in
+    let size : length (map Some r.found) ≡ place = length-map r.found Some ∙ r.finds.size ∙ sym at in
+    record {
+      found = r.found ++ chunk;
+      finds = AreAsTold-more disk sector done r.found chunk r.finds whole here;
+      memory =
+          put ∙ ap (λ m. scatter m (drop place (writable_of buffers)) chunk) r.memory
+          ∙ scattered-then_run old (writable_of buffers) (map Some r.found) chunk place size
+          ∙ ap (scattered old (writable_of buffers)) (sym (map-append Some r.found chunk));
+      same = same ∙ r.same;
+      range = record { base = range.base ∙ r.range.base; size = range.size ∙ r.range.size };
+    }
+
+-- all are read
+pub reading_done : (extent : Extent) (buffers : List Buffer) (old new : Memory) (disk disk' : Disk) (sector count done len : ℕ)
+    → IsReading buffers old new disk disk' (extent.start + sector) done → done ≡ count → len ≡ 512 * count → sector + count ≤ extent.count
+    → IsDone (Read sector count) buffers old new (extent_disk extent disk) (extent_disk extent disk') len Success
+reading_done extent buffers old new disk disk' sector count done len r all size within =
+    let finds : AreAsTold (extent_disk extent disk) sector count r.found = AreAsTold-extent extent disk sector count r.found within (rw all at r.finds) in
+    record {
+      found = r.found;
+      ends = inl (record { found = r.found; finds = finds; is = rw r.same refl });
+      len_is = size ∙ sym finds.size;
+      memory = r.memory;
+    }
+
+-- the image fails
+pub reading_fails : (extent : Extent) (buffers : List Buffer) (old new : Memory) (disk d disk' : Disk) (sector count done len : ℕ)
+    → IsReading buffers old new disk d (extent.start + sector) done → done < count → len ≡ 512 * done → sector + count ≤ extent.count → disk' ≡ failed d
+    → IsDone (Read sector count) buffers old new (extent_disk extent disk) (extent_disk extent disk') len IoError
+reading_fails extent buffers old new disk d disk' sector count done len r sooner size within fails =
+    let finds : AreAsTold (extent_disk extent disk) sector done r.found = AreAsTold-extent extent disk sector done r.found (omega arith) r.finds in
+    record {
+      found = r.found;
+      ends = inr (record { done = done; sooner = sooner; found = r.found; finds = finds; is = rw (fails, r.same) refl });
+      len_is = size ∙ sym finds.size;
+      memory = r.memory;
+    }
+
+-- these sectors were written from a sector of the disk on
+pub record IsWriting (disk disk' : Disk) (sector : ℕ) (payload : List ℕ) (done : ℕ) : Type 0 where
+  pub is : disk' ≡ filled sector (take (512 * done) payload) disk
+
+pub writing_start : (disk : Disk) (sector : ℕ) (payload : List ℕ) → IsWriting disk disk sector payload 0
+writing_start disk sector payload = record { is = filled-nil sector disk }
+
+pub writing_more : (disk d d' : Disk) (sector count done : ℕ) (readable chunk : List ℕ) → IsWhole disk → IsWriting disk d sector (payload_of readable) done
+    → done < count → length (payload_of readable) ≡ 512 * count → sector + done < disk.sector_count
+    → chunk ≡ take 512 (drop (16 + 512 * done) readable) → d' ≡ written (sector + done) chunk d → IsWriting disk d' sector (payload_of readable) (done + 1)
+writing_more disk d d' sector count done readable chunk is_whole w sooner size inside read put =
+    let payload = payload_of readable in
+    let same : chunk ≡ take 512 (drop (512 * done) payload) = read ∙ ap (take 512) (ap (λ n. drop n readable) (omega arith) ∙ sym (drop-drop (512 * done) 16 readable)) in
+    let long : length (take (512 * done) payload) ≡ 512 * done = simp length-take (omega arith) in
+    let whole : length chunk ≡ 512 = ap length same ∙ simp (length-take, length-drop) (omega (arith, sooner, size, length-drop 16 readable)) in
+    record {
+      is =
+          put ∙ ap (written (sector + done) chunk) w.is
+          ∙ written-filled disk sector done (take (512 * done) payload) chunk is_whole long whole inside
+          ∙ ap (λ bytes. filled sector bytes disk) (ap (λ c. take (512 * done) payload ++ c) same ∙ take-sector payload done);
+    }
+
+-- the image fails at a sector
+pub writing_fails : (extent : Extent) (buffers : List Buffer) (m : Memory) (disk d disk' : Disk) (sector count done : ℕ) → IsWhole disk → LiesIn disk extent
+    → IsWriting disk d (extent.start + sector) (payload_of (readable_of m buffers)) done → done < count → sector + count ≤ extent.count
+    → length (payload_of (readable_of m buffers)) ≡ 512 * count → IsTorn (extent.start + sector + done) d disk'
+    → IsDone (Write sector count) buffers m m (extent_disk extent disk) (extent_disk extent disk') 0 IoError × KeepsOutside extent disk disk'
+writing_fails extent buffers m disk d disk' sector count done is_whole lies w sooner within size t =
+    let payload = payload_of (readable_of m buffers) in
+    let front = take (512 * done) payload in
+    let long : length front ≡ 512 * done = simp length-take (omega arith) in
+    let all : disk' ≡ failed (filled (extent.start + sector) (front ++ t.left) disk) =
+    t.torn ∙ ap (λ d. failed (written (extent.start + sector + done) t.left d)) w.is
+    ∙ ap failed (written-filled disk (extent.start + sector) done front t.left is_whole long t.whole (omega arith)) in
+    let fits : 512 * sector + length (front ++ t.left) ≤ 512 * extent.count = omega (arith, length-append front t.left, long, t.whole) in
+    let seen : extent_disk extent disk' ≡ failed (filled sector (front ++ t.left) (extent_disk extent disk)) =
+    ap (extent_disk extent) all ∙ ap failed (extent_disk-filled extent disk sector (front ++ t.left) is_whole lies fits) in (
+      record {
+        found = [];
+        ends = inr (inl (record { done = done; sooner = sooner; torn = t.left; whole = t.whole; is = rw seen refl }));
+        len_is = refl;
+        memory = sym (scattered-nil m (writable_of buffers));
+      },
+      KeepsOutside-filled extent disk disk' sector (front ++ t.left) is_whole lies fits (ap (λ (d : Disk). d.told) all) (ap (λ (d : Disk). d.sector_count) all),
+    )
+
+-- all are written
+written_all : (extent : Extent) (buffers : List Buffer) (m : Memory) (disk d : Disk) (sector count done : ℕ)
+    → IsWriting disk d (extent.start + sector) (payload_of (readable_of m buffers)) done → done ≡ count → length (payload_of (readable_of m buffers)) ≡ 512 * count
+    → d ≡ filled (extent.start + sector) (payload_of (readable_of m buffers)) disk
+written_all extent buffers m disk d sector count done w all size =
+    w.is ∙ ap (λ bytes. filled (extent.start + sector) bytes disk) (take_all (512 * done) (payload_of (readable_of m buffers)) (omega (arith, size, all)))
+
+-- and flushed
+pub writing_done : (extent : Extent) (buffers : List Buffer) (m : Memory) (disk d disk' : Disk) (sector count done : ℕ) → IsWhole disk → LiesIn disk extent
+    → IsWriting disk d (extent.start + sector) (payload_of (readable_of m buffers)) done → done ≡ count → sector + count ≤ extent.count
+    → length (payload_of (readable_of m buffers)) ≡ 512 * count → disk' ≡ flushed d
+    → IsDone (Write sector count) buffers m m (extent_disk extent disk) (extent_disk extent disk') 0 Success × KeepsOutside extent disk disk'
+writing_done extent buffers m disk d disk' sector count done is_whole lies w all within size flushes =
+    let payload = payload_of (readable_of m buffers) in
+    let so_far = written_all extent buffers m disk d sector count done w all size in
+    let fits : 512 * sector + length payload ≤ 512 * extent.count = omega (arith, size) in
+    let seen : extent_disk extent disk' ≡ flushed (filled sector payload (extent_disk extent disk)) =
+    ap (extent_disk extent) (flushes ∙ ap flushed so_far) ∙ ap flushed (extent_disk-filled extent disk sector payload is_whole lies fits) in (
+      record {
+        found = [];
+        ends = inl (record { found = []; finds = refl; is = rw seen refl });
+        len_is = refl;
+        memory = sym (scattered-nil m (writable_of buffers));
+      },
+      KeepsOutside-filled extent disk disk' sector payload is_whole lies fits
+          (ap (λ (d : Disk). d.told) (flushes ∙ ap flushed so_far)) (ap (λ (d : Disk). d.sector_count) (flushes ∙ ap flushed so_far)),
+    )
+
+-- or the flush fails
+pub writing_unflushed : (extent : Extent) (buffers : List Buffer) (m : Memory) (disk d disk' : Disk) (sector count done : ℕ) → IsWhole disk → LiesIn disk extent
+    → IsWriting disk d (extent.start + sector) (payload_of (readable_of m buffers)) done → done ≡ count → sector + count ≤ extent.count
+    → length (payload_of (readable_of m buffers)) ≡ 512 * count → disk' ≡ failed d
+    → IsDone (Write sector count) buffers m m (extent_disk extent disk) (extent_disk extent disk') 0 IoError × KeepsOutside extent disk disk'
+writing_unflushed extent buffers m disk d disk' sector count done is_whole lies w all within size fails =
+    let payload = payload_of (readable_of m buffers) in
+    let so_far = written_all extent buffers m disk d sector count done w all size in
+    let fits : 512 * sector + length payload ≤ 512 * extent.count = omega (arith, size) in
+    let seen : extent_disk extent disk' ≡ failed (filled sector payload (extent_disk extent disk)) =
+    ap (extent_disk extent) (fails ∙ ap failed so_far) ∙ ap failed (extent_disk-filled extent disk sector payload is_whole lies fits) in (
+      record {
+        found = [];
+        ends = inr (inr (rw seen refl));
+        len_is = refl;
+        memory = sym (scattered-nil m (writable_of buffers));
+      },
+      KeepsOutside-filled extent disk disk' sector payload is_whole lies fits
+          (ap (λ (d : Disk). d.told) (fails ∙ ap failed so_far)) (ap (λ (d : Disk). d.sector_count) (fails ∙ ap failed so_far)),
+    )

@@ -1,0 +1,23 @@
+use Rattle.std.proofs.Common.{◌≡◌, ◌+◌, ◌*◌, length, refl, arith}
+use Rattle.block_device.proofs.Transfers.{reading_start, reading_more, reading_done, reading_fails}
+use Rattle.block_device.proofs.device.BlockDevice.read_sectors.Goals as goal
+
+pub loop-done-init : goal.loop-done-init
+loop-done-init g c = reading_start c.args.chain.now c.args.mem.now (g.I.Image.disk c.args.cache.now) (c.args.self.now.extent.start + c.args.sector)
+
+pub loop-done-preserved : goal.loop-done-preserved
+loop-done-preserved g c =
+    let whole : length c.read.new.into ≡ 512 = omega arith in
+    reading_more c.args.chain.now c.args.mem.now c.loop-done.mem c.write_at.new.mem (g.I.Image.disk c.args.cache.now) (g.I.Image.disk c.loop-done.cache) (g.I.Image.disk c.read.new.self)
+    (c.args.self.now.extent.start + c.args.sector) c.loop-done.done (512 * c.loop-done.done) c.read.new.into
+    c.loop-done.invariant whole c.in-Ok.ensures.read c.in-Ok.ensures.ok c.write_at.ensures.written refl c.write_at.ensures.same_range
+
+pub returns-in-Err-clause-done : goal.returns-in-Err-clause-done
+returns-in-Err-clause-done g c =
+    reading_fails c.args.self.now.extent c.args.chain.now c.args.mem.now c.loop-done.mem (g.I.Image.disk c.args.cache.now) (g.I.Image.disk c.loop-done.cache) (g.I.Image.disk c.read.new.self)
+    c.args.sector c.args.count c.loop-done.done (512 * c.loop-done.done) c.loop-done.invariant c.loop-done-test.true refl c.requires.sectors c.in-Err.ensures.err
+
+pub returns-clause-done : goal.returns-clause-done
+returns-clause-done g c =
+    reading_done c.args.self.now.extent c.args.chain.now c.args.mem.now c.loop-done.mem (g.I.Image.disk c.args.cache.now) (g.I.Image.disk c.loop-done.cache)
+    c.args.sector c.args.count c.loop-done.done (512 * c.args.count) c.loop-done.invariant (omega arith) refl c.requires.sectors

@@ -1,0 +1,9 @@
+use Rattle.std.proofs.Common.{◌+◌}
+use Rattle.chain.specs.Bytes.{readable_of}
+use Rattle.block_device.specs.Request.{payload_of}
+use Rattle.block_device.proofs.Transfers.{IsWriting}
+use Rattle.block_device.proofs.device.BlockDevice.write_sectors.Given as goal
+
+abbrev pub invariant-loop-done : goal.invariant-loop-done
+invariant-loop-done g l =
+    IsWriting (g.I.Image.disk l.fn.cache) (g.I.Image.disk l.cache) (l.self.extent.start + l.sector) (payload_of (readable_of l.mem l.chain)) l.done

@@ -1,0 +1,36 @@
+-- The sectors that one device shows of a disk, and all that is outside of them.
+use Rattle.std.specs.Prelude.{◌≡◌, ℕ, ◌+◌, ◌*◌, ◌≤◌, List, length, take, drop, Option, Some, None}
+use Rattle.std.specs.Option.{option_map}
+use Rattle.sector_cache.specs.Sector.{extent_of}
+use Rattle.sector_cache.specs.Disk.{Disk}
+use Rattle.block_device.specs.declared.extent.Extent.{Extent}
+
+-- all sectors of the extent are sectors of the disk
+abbrev pub LiesIn : Disk → Extent → Type 0
+LiesIn disk extent = extent.start + extent.count ≤ disk.sector_count
+
+-- The extent as a disk of its own, which is all that its driver sees: the extent's bytes, as far as
+-- bytes are told, and as many sectors. Failures and mark are those of the disk.
+abbrev pub extent_disk : Extent → Disk → Disk
+extent_disk extent disk = record disk {
+  told = option_map (λ bytes. extent_of bytes extent.start extent.count) disk.told;
+  sector_count = extent.count;
+}
+
+-- bytes that differ within the extent alone: those before it and those behind it are the same
+pub record SameOutside (extent : Extent) (old new : List ℕ) : Type 0 where
+  pub before : take (512 * extent.start) new ≡ take (512 * extent.start) old
+  pub behind : drop (512 * (extent.start + extent.count)) new ≡ drop (512 * (extent.start + extent.count)) old
+  pub size : length new ≡ length old
+
+-- the same of what is told, where anything is
+abbrev pub ToldOutside : Extent → Option (List ℕ) → Option (List ℕ) → Type 0
+ToldOutside extent None None = Unit {0}
+ToldOutside extent None (Some new) = ⊥
+ToldOutside extent (Some old) None = ⊥
+ToldOutside extent (Some old) (Some new) = SameOutside extent old new
+
+-- whatever becomes of the extent, the rest of the disk stays
+pub record KeepsOutside (extent : Extent) (old new : Disk) : Type 0 where
+  pub sectors : new.sector_count ≡ old.sector_count
+  pub told : ToldOutside extent old.told new.told

@@ -1,0 +1,7 @@
+pub mod Config
+pub mod Device
+pub mod Extent
+pub mod Outcome
+pub mod Progress
+pub mod Request
+pub mod Serving

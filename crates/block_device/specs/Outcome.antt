@@ -1,0 +1,96 @@
+-- What becomes of a request (5.2.6), on the disk that its device shows: where no image call fails a
+-- function of what the image answers, and else the ways in which a request fails.
+use Rattle.std.specs.Prelude.{◌≡◌, ℕ, ◌+◌, ◌*◌, ◌<◌, Bool, true, List, [], ◌∷◌, ◌++◌, length, take, drop, replicate, IfSome, codes, ◌⊎◌}
+use Rattle.std.specs.Option.{option_map}
+use Rattle.sector_cache.specs.Sector.{extent_of}
+use Rattle.sector_cache.specs.Disk.{Disk, failed, flushed}
+use Rattle.block_device.specs.declared.request.RequestStatus.{RequestStatus}
+use Rattle.block_device.specs.declared.request.RequestStatus.TheVariants.{Success, IoError}
+use Rattle.block_device.specs.declared.request.Request.{Request}
+use Rattle.block_device.specs.declared.request.Request.TheVariants.{Rejected, Read, Write, Flush, GetId}
+
+-- the disk after a request, the bytes that are put in the first writable places, and the status
+pub record Outcome : Type 0 where
+  pub disk : Disk
+  pub found : List ℕ
+  pub status : RequestStatus
+
+-- the bytes with new ones in place of those from a sector on
+abbrev pub with_sectors : List ℕ → ℕ → List ℕ → List ℕ
+with_sectors bytes sector new = take (512 * sector) bytes ++ (new ++ drop (512 * sector + length new) bytes)
+
+-- the mark once these bytes were written: no write is tried where there are none
+abbrev pub marked : List ℕ → Bool → Bool
+marked [] mark = mark
+marked (x ∷ xs) mark = true
+
+-- the disk after sectors were written with these bytes, from a sector on
+abbrev pub filled : ℕ → List ℕ → Disk → Disk
+filled sector new disk = record disk {
+  told = option_map (λ bytes. with_sectors bytes sector new) disk.told;
+  mark = marked new disk.mark;
+}
+
+-- these bytes were read of `count` sectors from a sector on: they are the disk's, as far as it tells any
+pub record AreAsTold (disk : Disk) (sector count : ℕ) (found : List ℕ) : Type 0 where
+  pub size : length found ≡ 512 * count
+  pub told : IfSome disk.told (λ bytes. found ≡ extent_of bytes sector count)
+
+-- the 20 bytes that GET_ID gives: a text, and zeros behind it
+abbrev pub identity : List ℕ
+identity = codes "vreplay-block" ++ replicate 7 0
+
+-- what a request puts in the first writable places: an IN what it reads, GET_ID the identity, others nothing
+abbrev pub Finds : Request → Disk → List ℕ → Type 0
+Finds (Rejected status) disk found = found ≡ []
+Finds (Read sector count) disk found = AreAsTold disk sector count found
+Finds (Write sector count) disk found = found ≡ []
+Finds Flush disk found = found ≡ []
+Finds GetId disk found = found ≡ identity
+
+-- the disk and the status after it: OUT ends by a flush, also without data
+abbrev pub completed : Request → List ℕ → List ℕ → Disk → Outcome
+completed (Rejected status) payload found disk = record { disk = disk; found = found; status = status }
+completed (Read sector count) payload found disk = record { disk = disk; found = found; status = Success }
+completed (Write sector count) payload found disk = record { disk = flushed (filled sector payload disk); found = found; status = Success }
+completed Flush payload found disk = record { disk = flushed disk; found = found; status = Success }
+completed GetId payload found disk = record { disk = disk; found = found; status = Success }
+
+-- The request ends so, and no image call fails.
+pub record Completes (request : Request) (payload : List ℕ) (disk : Disk) (outcome : Outcome) : Type 0 where
+  pub found : List ℕ
+  pub finds : Finds request disk found
+  pub is : outcome ≡ completed request payload found disk
+
+-- IN fails at a sector: those before it were read, and nothing of that one is given
+pub record ReadFails (sector count : ℕ) (disk : Disk) (outcome : Outcome) : Type 0 where
+  pub done : ℕ
+  pub sooner : done < count
+  pub found : List ℕ
+  pub finds : AreAsTold disk sector done found
+  pub is : outcome ≡ record { disk = failed disk; found = found; status = IoError }
+
+-- OUT fails at a sector: those before it were written, any bytes stand in that one, and later ones are
+-- as before
+pub record WriteFails (sector count : ℕ) (payload : List ℕ) (disk : Disk) (outcome : Outcome) : Type 0 where
+  pub done : ℕ
+  pub sooner : done < count
+  pub torn : List ℕ
+  pub whole : length torn ≡ 512
+  pub is : outcome ≡ record { disk = failed (filled sector (take (512 * done) payload ++ torn) disk); found = []; status = IoError }
+
+-- OUT fails at its flush: all sectors were written
+abbrev pub FlushFails : ℕ → List ℕ → Disk → Outcome → Type 0
+FlushFails sector payload disk outcome =
+    outcome ≡ record { disk = failed (filled sector payload disk); found = []; status = IoError }
+
+-- The request passes its checks and ends so at an image call that fails.
+abbrev pub Fails : Request → List ℕ → Disk → Outcome → Type 0
+Fails (Rejected status) payload disk outcome = ⊥
+Fails (Read sector count) payload disk outcome = ReadFails sector count disk outcome
+Fails (Write sector count) payload disk outcome = WriteFails sector count payload disk outcome ⊎ FlushFails sector payload disk outcome
+Fails Flush payload disk outcome = outcome ≡ record { disk = failed disk; found = []; status = IoError }
+Fails GetId payload disk outcome = ⊥
+
+abbrev pub Ends : Request → List ℕ → Disk → Outcome → Type 0
+Ends request payload disk outcome = Completes request payload disk outcome ⊎ Fails request payload disk outcome

@@ -1,0 +1,28 @@
+-- Between a request's checks and its status.
+use Rattle.std.specs.Prelude.{◌≡◌, ℕ, ◌+◌, ◌*◌, ◌≤◌, List, length, map, Some}
+use Rattle.guest_memory.specs.Memory.{Memory}
+use Rattle.chain.specs.declared.segment.Buffer.{Buffer}
+use Rattle.chain.specs.Bytes.{readable_of, writable_of}
+use Rattle.chain.specs.Service.{scattered}
+use Rattle.sector_cache.specs.Disk.{Disk}
+use Rattle.block_device.specs.declared.request.RequestStatus.{RequestStatus}
+use Rattle.block_device.specs.declared.request.Request.{Request}
+use Rattle.block_device.specs.declared.request.Request.TheVariants.{Rejected, Read, Write, Flush, GetId}
+use Rattle.block_device.specs.Request.{payload_of}
+use Rattle.block_device.specs.Outcome.{Ends}
+
+-- what the checks have shown of a request, with these many bytes handed over and this much room
+abbrev pub IsServable : ℕ → Request → ℕ → ℕ → Type 0
+IsServable capacity (Rejected status) len room = Unit {0}
+IsServable capacity (Read sector count) len room = (sector + count ≤ capacity) × (room ≡ 512 * count)
+IsServable capacity (Write sector count) len room = (sector + count ≤ capacity) × (len ≡ 512 * count)
+IsServable capacity Flush len room = Unit {0}
+IsServable capacity GetId len room = 20 ≤ room
+
+-- The request has ended but for its status, which is known and not yet written: the first len places of
+-- the writable list are.
+pub record IsDone (request : Request) (buffers : List Buffer) (old new : Memory) (disk disk' : Disk) (len : ℕ) (status : RequestStatus) : Type 0 where
+  pub found : List ℕ
+  pub ends : Ends request (payload_of (readable_of old buffers)) disk (record { disk = disk'; found = found; status = status })
+  pub len_is : len ≡ length found
+  pub memory : new ≡ scattered old (writable_of buffers) (map Some found)

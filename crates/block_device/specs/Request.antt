@@ -1,0 +1,65 @@
+-- What a driver asks for (5.2.6): the header's fields, and the checks in their order. All of it is known
+-- before the image is touched.
+use Rattle.std.specs.Prelude.{ℕ, ◌+◌, ◌-◌, ◌/◌, ◌%◌, Bool, ◌&&◌, ◌==◌, nat_lt, nat_le, if◌then◌else◌, List, length, take, drop}
+use Rattle.byteorder.specs.Endian.{little_number}
+use Rattle.block_device.specs.declared.device.BlockDevice.{BlockDevice}
+use Rattle.block_device.specs.declared.request.RequestStatus.{RequestStatus}
+use Rattle.block_device.specs.declared.request.RequestStatus.TheVariants.{Success, IoError, Unsupported}
+use Rattle.block_device.specs.declared.request.Request.{Request}
+use Rattle.block_device.specs.declared.request.Request.TheVariants.{Rejected, Read, Write, Flush, GetId}
+
+-- The header is the first 16 readable bytes: the type in 4, 4 that are reserved, the sector in 8.
+abbrev pub header_of : List ℕ → List ℕ
+header_of readable = take 16 readable
+
+abbrev pub type_of : List ℕ → ℕ
+type_of readable = little_number 4 (header_of readable)
+
+abbrev pub sector_in : List ℕ → ℕ
+sector_in readable = little_number 8 (drop 8 (header_of readable))
+
+-- what the driver hands over to be written: the readable bytes behind the header
+abbrev pub payload_of : List ℕ → List ℕ
+payload_of readable = drop 16 readable
+
+-- these many bytes are whole sectors, and from this sector on none of them is behind the last one
+abbrev pub are_sectors : ℕ → ℕ → ℕ → Bool
+are_sectors capacity sector len = (len % 512 == 0) && nat_le (sector + len / 512) capacity
+
+-- IN fills all writable bytes before the status.
+abbrev pub in_request_of : BlockDevice → ℕ → ℕ → Request
+in_request_of device sector room =
+    if are_sectors device.extent.count sector room then Read sector (room / 512) else Rejected IoError
+
+-- OUT writes all readable bytes behind the header, and nothing on a read-only device (5.2.6.2).
+abbrev pub out_request_of : BlockDevice → ℕ → ℕ → Request
+out_request_of device sector len =
+    if device.read_only then Rejected IoError
+    else if are_sectors device.extent.count sector len then Write sector (len / 512)
+    else Rejected IoError
+
+-- GET_ID wants room for the 20 bytes of the identity.
+abbrev pub get_id_request_of : ℕ → Request
+get_id_request_of room = if nat_lt room 20 then Rejected IoError else GetId
+
+-- a request of this type
+abbrev pub typed_request : BlockDevice → ℕ → ℕ → ℕ → ℕ → Request
+typed_request device kind sector len room =
+    if kind == 0 then in_request_of device sector room
+    else if kind == 1 then out_request_of device sector len
+    else if kind == 4 then Flush
+    else if kind == 8 then get_id_request_of room
+    else Rejected Unsupported
+
+-- What a chain with these readable bytes asks for, where `room` writable bytes come before the status.
+-- Without a whole header there is no type to look up.
+abbrev pub request_of : BlockDevice → List ℕ → ℕ → Request
+request_of device readable room =
+    if nat_lt (length readable) 16 then Rejected IoError
+    else typed_request device (type_of readable) (sector_in readable) (length readable - 16) room
+
+-- the byte that stands for a status (5.2.6)
+abbrev pub code_of : RequestStatus → ℕ
+code_of Success = 0
+code_of IoError = 1
+code_of Unsupported = 2

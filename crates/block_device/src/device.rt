@@ -1,0 +1,43 @@
+//! The device: which sectors it shows, whether they may be written, and its configuration space (5.2.4).
+
+ghost use Rattle.std.specs.Prelude.{◌≡◌};
+ghost use Rattle.block_device.specs.Config.{config_of};
+
+use crate::extent::Extent;
+use byteorder::{ByteOrder, LittleEndian};
+
+/// How many segments a request may have, next to its header and its status.
+const SEG_MAX: u32 = 126;
+
+/// The size of a block, in bytes.
+const BLK_SIZE: u32 = 512;
+
+/// A block device over an extent of an image.
+#[derive(Clone, Copy, Debug, PartialEq, Eq)]
+pub struct BlockDevice {
+    /// The sectors that it shows.
+    pub extent: Extent,
+    /// Whether it refuses to write (VIRTIO_BLK_F_RO, 5.2.3).
+    pub read_only: bool,
+}
+
+impl BlockDevice {
+    /// A device that shows these sectors.
+    pub fn new(extent: Extent, read_only: bool) -> BlockDevice
+        ensures extent { result.extent ≡ extent }
+        ensures read_only { result.read_only ≡ read_only }
+    {
+        BlockDevice { extent, read_only }
+    }
+
+    /// The configuration space (5.2.4), little-endian: capacity at 0, seg_max at 12, blk_size at 20.
+    pub fn config(&self) -> [u8; 64]
+        ensures { result ≡ config_of self.now.extent.count }
+    {
+        let mut config = [0; 64];
+        LittleEndian::write_u64(&mut config[..8], self.extent.count);
+        LittleEndian::write_u32(&mut config[12..16], SEG_MAX);
+        LittleEndian::write_u32(&mut config[20..24], BLK_SIZE);
+        config
+    }
+}

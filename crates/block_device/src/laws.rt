@@ -1,0 +1,45 @@
+//! Laws of the definitions. The bodies are empty: each contract is a theorem.
+
+ghost use Rattle.std.specs.Prelude.{◌≡◌, ◌⊎◌, ℕ, ◌+◌, Bool, List, Some};
+ghost use Rattle.chain.specs.Service.{Ending, Given, IsService, Site};
+ghost use Rattle.sector_cache.specs.Disk.{Disk};
+ghost use Rattle.mmio_window.specs.declared.queue.Queue.{Queue};
+ghost use Rattle.mmio_window.specs.Queue.{queue_kind};
+ghost use Rattle.block_device.specs.declared.device.BlockDevice.{BlockDevice};
+ghost use Rattle.block_device.specs.Device.{GivesBy, block_device, exact_device};
+ghost use Rattle.block_device.specs.Outcome.{Completes, Ends};
+
+/// A chain is served exactly as over an image that never fails, or one failure more is counted.
+pub fn one_failure_at_most()
+    ensures counted { (device : BlockDevice) (disk : Disk) (readable : List ℕ) (w : ℕ) (given : Given Disk)
+        → GivesBy Ends device disk readable w given
+        → (given.state.failures ≡ disk.failures) ⊎ (given.state.failures ≡ disk.failures + 1) }
+    ensures exact { (device : BlockDevice) (disk : Disk) (readable : List ℕ) (w : ℕ) (given : Given Disk)
+        → GivesBy Ends device disk readable w given → given.state.failures ≡ disk.failures
+        → GivesBy Completes device disk readable w given }
+{}
+
+/// Over an image that tells its bytes and doesn't fail there is one answer to a chain.
+pub fn one_answer()
+    ensures { (device : BlockDevice) (disk : Disk) (bytes readable : List ℕ) (w : ℕ) (one other : Given Disk)
+        → disk.told ≡ Some bytes
+        → GivesBy Completes device disk readable w one → GivesBy Completes device disk readable w other
+        → one ≡ other }
+{}
+
+/// A service in which the number of failures stayed is one of the device that never fails.
+pub fn a_service_without_failure_is_exact()
+    ensures { (device : BlockDevice) (old new : Site Queue Disk) (ending : Ending) (wanted : Bool)
+        → new.state.failures ≡ old.state.failures
+        → IsService queue_kind (block_device device) old new ending wanted
+        → IsService queue_kind (exact_device device) old new ending wanted }
+{}
+
+/// Over an image that tells its bytes and doesn't fail there is one service of a queue.
+pub fn one_exact_service()
+    ensures { (device : BlockDevice) (bytes : List ℕ) (old one other : Site Queue Disk)
+        (ending end : Ending) (wanted wants : Bool) → old.state.told ≡ Some bytes
+        → IsService queue_kind (exact_device device) old one ending wanted
+        → IsService queue_kind (exact_device device) old other end wants
+        → (one ≡ other) × (ending ≡ end) × (wanted ≡ wants) }
+{}

@@ -1,0 +1,23 @@
+//! A block device (5.2): one request of a driver after another, served over an extent of a shared image.
+//!
+//! `request` reads a header and judges it, `transfer` moves sectors, `answer` serves one chain from its
+//! header to its status byte, and `serve` serves a queue and tells the window. The caller is the board,
+//! which hands in the guest's memory, the device's window and the cache over the image.
+#![tactic(auto)]
+
+mod answer;
+mod device;
+mod extent;
+mod laws;
+mod request;
+mod serve;
+#[cfg(test)]
+mod tests;
+mod transfer;
+
+pub use device::BlockDevice;
+pub use extent::Extent;
+pub use laws::{
+    a_service_without_failure_is_exact, one_answer, one_exact_service, one_failure_at_most,
+};
+pub use request::{Request, RequestStatus};

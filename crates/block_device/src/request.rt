@@ -1,0 +1,128 @@
+//! One request as its driver wrote it (5.2.6): the header is read, its type looked up, and everything
+//! that can be refused without the image is refused here.
+
+ghost use Rattle.std.specs.Prelude.{◌≡◌, ℕ, length, All};
+ghost use Rattle.chain.specs.Buffers.{Within};
+ghost use Rattle.chain.specs.Bytes.{readable_of};
+ghost use Rattle.block_device.specs.Progress.{IsServable};
+ghost use Rattle.block_device.specs.Request.{are_sectors, in_request_of, out_request_of, payload_of, request_of};
+
+use crate::device::BlockDevice;
+use byteorder::{ByteOrder, LittleEndian};
+use chain::Chain;
+use guest_memory::GuestMemory;
+use std::alloc::Allocator;
+
+/// The bytes of a sector (5.2.4).
+pub(crate) const SECTOR_LEN: u64 = 512;
+
+/// The bytes of a request's header: type, reserved, sector.
+pub(crate) const HEADER_LEN: u64 = 16;
+
+/// The bytes that name the device.
+pub(crate) const ID_LEN: u64 = 20;
+
+/// VIRTIO_BLK_T_IN: sectors are read.
+const TYPE_IN: u32 = 0;
+
+/// VIRTIO_BLK_T_OUT: sectors are written.
+const TYPE_OUT: u32 = 1;
+
+/// VIRTIO_BLK_T_FLUSH: what was written is handed to the medium.
+const TYPE_FLUSH: u32 = 4;
+
+/// VIRTIO_BLK_T_GET_ID: the device is named.
+const TYPE_GET_ID: u32 = 8;
+
+/// The byte that ends a request, with the standard's codes.
+#[derive(Clone, Copy, Debug, PartialEq, Eq)]
+pub enum RequestStatus {
+    /// VIRTIO_BLK_S_OK.
+    Success = 0,
+    /// VIRTIO_BLK_S_IOERR.
+    IoError = 1,
+    /// VIRTIO_BLK_S_UNSUPP.
+    Unsupported = 2,
+}
+
+/// What a driver asks for, once all is checked that the image isn't needed for.
+#[derive(Clone, Copy, Debug, PartialEq, Eq)]
+pub enum Request {
+    /// It can't be served, and this is why.
+    Rejected(RequestStatus),
+    /// `count` sectors from `sector` on are read, counted from the extent's start.
+    Read { sector: u64, count: u64 },
+    /// `count` sectors from `sector` on are written.
+    Write { sector: u64, count: u64 },
+    Flush,
+    GetId,
+}
+
+impl BlockDevice {
+    /// Whether `len` bytes are whole sectors, which from `sector` on all lie in the extent.
+    fn has_sectors(&self, sector: u64, len: u64) -> bool
+        ensures { result ≡ are_sectors self.now.extent.count sector len }
+    {
+        let capacity = self.extent.count;
+        len % SECTOR_LEN == 0 && sector <= capacity && len / SECTOR_LEN <= capacity - sector
+    }
+
+    /// IN of `room` bytes.
+    fn in_request(&self, sector: u64, room: u64) -> Request
+        ensures value { result ≡ in_request_of self.now sector room }
+        ensures servable { (len : ℕ) → IsServable self.now.extent.count result len room }
+    {
+        if self.has_sectors(sector, room) {
+            Request::Read {
+                sector,
+                count: room / SECTOR_LEN,
+            }
+        } else {
+            Request::Rejected(RequestStatus::IoError)
+        }
+    }
+
+    /// OUT of `len` bytes.
+    fn out_request(&self, sector: u64, len: u64) -> Request
+        ensures value { result ≡ out_request_of self.now sector len }
+        ensures servable { (room : ℕ) → IsServable self.now.extent.count result len room }
+    {
+        if !self.read_only && self.has_sectors(sector, len) {
+            Request::Write {
+                sector,
+                count: len / SECTOR_LEN,
+            }
+        } else {
+            Request::Rejected(RequestStatus::IoError)
+        }
+    }
+
+    /// The request that a chain holds, with `room` writable bytes before the status.
+    pub(crate) fn request<A: Allocator>(
+        &self,
+        mem: &GuestMemory<A>,
+        chain: &Chain,
+        room: u64,
+    ) -> Request
+        requires { All (Within mem.now) chain.now }
+        ensures value { result ≡ request_of self.now (readable_of mem.now chain.now) room }
+        ensures servable { IsServable self.now.extent.count result
+            (length (payload_of (readable_of mem.now chain.now))) room }
+    {
+        let readable = chain.readable_len();
+        if readable < HEADER_LEN {
+            return Request::Rejected(RequestStatus::IoError);
+        }
+        let mut header = [0; 16];
+        chain.read_at(mem, 0, &mut header);
+        let sector = LittleEndian::read_u64(&header[8..]);
+        match LittleEndian::read_u32(&header) {
+            TYPE_IN => self.in_request(sector, room),
+            TYPE_OUT => self.out_request(sector, readable - HEADER_LEN),
+            TYPE_FLUSH => Request::Flush,
+            TYPE_GET_ID if room >= ID_LEN => Request::GetId,
+            TYPE_GET_ID => Request::Rejected(RequestStatus::IoError),
+            _ => Request::Rejected(RequestStatus::Unsupported),
+        }
+    }
+}

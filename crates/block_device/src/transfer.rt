@@ -1,0 +1,125 @@
+//! Sectors on their way between an image and a chain, one at a time through one array: nothing is
+//! gathered, and the first call of the image that fails is the last.
+
+ghost use Rattle.std.specs.Prelude.{◌+◌, ◌*◌, ◌^◌, ◌<◌, ◌≤◌, ◌≡◌, if◌then◌else◌, length, All};
+ghost use Rattle.guest_memory.specs.Memory.{SameRange};
+ghost use Rattle.chain.specs.Buffers.{Within};
+ghost use Rattle.chain.specs.Bytes.{readable_of, writable_of};
+ghost use Rattle.block_device.specs.declared.request.Request.TheVariants.{Read, Write};
+ghost use Rattle.block_device.specs.Extent.{LiesIn, KeepsOutside, extent_disk};
+ghost use Rattle.block_device.specs.Request.{payload_of};
+ghost use Rattle.block_device.specs.Progress.{IsDone};
+
+use crate::device::BlockDevice;
+use crate::request::{HEADER_LEN, RequestStatus, SECTOR_LEN};
+use chain::Chain;
+use guest_memory::GuestMemory;
+use sector_cache::{Image, SectorCache};
+use std::alloc::Allocator;
+
+/// A request that was served but for its status.
+#[derive(Clone, Copy, Debug, PartialEq, Eq)]
+pub(crate) struct Done {
+    /// How many of the first writable bytes were written.
+    pub len: u64,
+    pub status: RequestStatus,
+    /// Whether an image call failed.
+    pub failed: bool,
+}
+
+impl Done {
+    /// An image call failed, and nothing is to be read.
+    pub(crate) const FAILED: Done = Done {
+        len: 0,
+        status: RequestStatus::IoError,
+        failed: true,
+    };
+
+    /// It succeeded, and nothing is to be read.
+    pub(crate) const SUCCEEDED: Done = Done {
+        len: 0,
+        status: RequestStatus::Success,
+        failed: false,
+    };
+}
+
+impl BlockDevice {
+    /// Reads sectors into the first writable bytes.
+    pub(crate) fn read_sectors<I: Image, M: Allocator, C: Allocator + Copy>(
+        &self,
+        mem: &mut GuestMemory<M>,
+        chain: &Chain,
+        cache: &mut SectorCache<I, C>,
+        sector: u64,
+        count: u64,
+    ) -> Done
+        requires inside { All (Within mem.old) chain.now }
+        requires lies { LiesIn (I.disk cache.old) self.now.extent }
+        requires sectors { sector + count ≤ self.now.extent.count }
+        requires room { 512 * count ≤ length (writable_of chain.now) }
+        requires fits { 512 * count < 2 ^ 64 }
+        ensures done { IsDone (Read sector count) chain.now mem.old mem.new
+            (extent_disk self.now.extent (I.disk cache.old))
+            (extent_disk self.now.extent (I.disk cache.new)) result.len result.status }
+        ensures len { result.len ≤ 512 * count }
+        ensures counted { (I.disk cache.new).failures ≡
+            (I.disk cache.old).failures + (if result.failed then 1 else 0) }
+        ensures outside { KeepsOutside self.now.extent (I.disk cache.old) (I.disk cache.new) }
+        ensures range { SameRange mem.old mem.new }
+    {
+        let mut bytes = [0; 512];
+        for done in 0..count {
+            match cache.read(self.extent.start + sector + done, &mut bytes) {
+                Ok(()) => chain.write_at(mem, SECTOR_LEN * done, &bytes),
+                Err(_) => {
+                    return Done {
+                        len: SECTOR_LEN * done,
+                        status: RequestStatus::IoError,
+                        failed: true,
+                    };
+                }
+            }
+        }
+        Done {
+            len: SECTOR_LEN * count,
+            status: RequestStatus::Success,
+            failed: false,
+        }
+    }
+
+    /// Writes the readable bytes behind the header to sectors, and flushes.
+    pub(crate) fn write_sectors<I: Image, M: Allocator, C: Allocator + Copy>(
+        &self,
+        mem: &GuestMemory<M>,
+        chain: &Chain,
+        cache: &mut SectorCache<I, C>,
+        sector: u64,
+        count: u64,
+    ) -> Done
+        requires inside { All (Within mem.now) chain.now }
+        requires lies { LiesIn (I.disk cache.old) self.now.extent }
+        requires sectors { sector + count ≤ self.now.extent.count }
+        requires payload { length (payload_of (readable_of mem.now chain.now)) ≡ 512 * count }
+        requires fits { 512 * count + 16 < 2 ^ 64 }
+        ensures done { IsDone (Write sector count) chain.now mem.now mem.now
+            (extent_disk self.now.extent (I.disk cache.old))
+            (extent_disk self.now.extent (I.disk cache.new)) result.len result.status }
+        ensures len { result.len ≡ 0 }
+        ensures counted { (I.disk cache.new).failures ≡
+            (I.disk cache.old).failures + (if result.failed then 1 else 0) }
+        ensures outside { KeepsOutside self.now.extent (I.disk cache.old) (I.disk cache.new) }
+    {
+        let mut bytes = [0; 512];
+        for done in 0..count {
+            chain.read_at(mem, HEADER_LEN + SECTOR_LEN * done, &mut bytes);
+            match cache.write(self.extent.start + sector + done, &bytes) {
+                Ok(()) => {}
+                Err(_) => return Done::FAILED,
+            }
+        }
+        match cache.flush() {
+            Ok(()) => Done::SUCCEEDED,
+            Err(_) => Done::FAILED,
+        }
+    }
+}
