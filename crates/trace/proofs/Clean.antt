@@ -1,0 +1,154 @@
+-- Lines that are those of a trace pass every check.
+use Rattle.std.proofs.Common.{◌≡◌, ℕ, suc, ◌+◌, ◌-◌, ◌<◌, ◌≤◌, List, [], ◌∷◌, ◌++◌, All, length, get_or, drop, refl, sym, ap, subst, ◌∙◌, arith, inl, inr}
+use Rattle.std.proofs.lemmas.Bool.{cases_lt, cases_eq}
+use Rattle.std.proofs.lemmas.List.{length-append, get_or_append_left, get_or-append_right}
+use Rattle.std.proofs.lemmas.List.Elements.{All-get_or}
+use Rattle.trace.specs.declared.fault.FaultKind.{FaultKind}
+use Rattle.trace.specs.declared.fault.FaultKind.TheVariants as kind
+use Rattle.trace.specs.declared.word.Word.{Word}
+use Rattle.trace.specs.declared.word.Word.TheVariants.{Cache, Slot, Read, MemRead, MemWrite}
+use Rattle.trace.specs.Cuts.{lines_of}
+use Rattle.trace.specs.Faults.{AllSay, MayStand, HasWord, IsEnded, Passes, first_field, line_at, other_fields}
+use Rattle.trace.specs.Text.{header}
+use Rattle.trace.specs.Words.{spelled, shapes}
+use Rattle.trace.proofs.Entries.{Entered, EnteredEvent, same_word}
+
+-- what makes line k pass each check
+pub record Good (text : List ℕ) (k : ℕ) : Type 0 where
+  pub ended : IsEnded text k
+  pub first : k ≡ 1 → line_at text k ≡ header
+  pub word : 2 ≤ k → HasWord k (line_at text k)
+  pub order : first_field (line_at text k) ≡ spelled Slot → (j : ℕ) → 3 ≤ j → j < k → first_field (line_at text j) ≡ spelled Slot
+  pub entry : 2 ≤ k → (word : Word) × Entered (line_at text k) word
+
+-- the word of a line and its fields
+first_is : (l : List ℕ) (w : Word) → Entered l w → first_field l ≡ spelled w
+first_is l w e = ap (λ (fs : List (List ℕ)). get_or fs 0 []) e.cut
+
+others_are : (l : List ℕ) (w : Word) (e : Entered l w) → other_fields l ≡ e.fields
+others_are l w e = ap (drop 1) e.cut
+
+counted : (l : List ℕ) (v w : Word) → Entered l v → first_field l ≡ spelled w → length (other_fields l) ≡ length (shapes w)
+counted l v w e is =
+    let same = same_word v w (sym (first_is l v e) ∙ is) in
+    ap length (others_are l v e) ∙ e.count ∙ ap (λ (x : Word). length (shapes x)) same
+
+said : (l : List ℕ) (v w : Word) (fault : FaultKind) → Entered l v → first_field l ≡ spelled w → AllSay fault (shapes w) (other_fields l)
+said l v w fault e is =
+    let same = same_word v w (sym (first_is l v e) ∙ is) in
+    subst (λ (x : Word). AllSay fault (shapes x) (other_fields l)) same (subst (λ (fs : List (List ℕ)). AllSay fault (shapes v) fs) (sym (others_are l v e)) (e.say fault))
+
+pub good_passes : (text : List ℕ) (k : ℕ) → Good text k → (fault : FaultKind) → Passes text k fault
+good_passes text k g kind.Cut = λ owed. g.ended
+good_passes text k g kind.Header = λ end. g.first
+good_passes text k g kind.Word = λ end. g.word
+good_passes text k g kind.Order = λ end. g.order
+good_passes text k g kind.Fields = λ end le w is. let e = g.entry le in counted (line_at text k) e.0 w e.1 is
+good_passes text k g kind.Number = λ end le w is. let e = g.entry le in said (line_at text k) e.0 w kind.Number e.1 is
+good_passes text k g kind.Choice = λ end le w is. let e = g.entry le in said (line_at text k) e.0 w kind.Choice e.1 is
+good_passes text k g kind.Bytes = λ end le w is. let e = g.entry le in said (line_at text k) e.0 w kind.Bytes e.1 is
+good_passes text k g kind.NoMemory = tt
+
+-- a word that may stand in line 3 may stand in any later one
+pub may_later : (w : Word) (k : ℕ) → 3 ≤ k → MayStand 3 w → MayStand k w
+may_later Cache k le h = absurd (omega arith)
+may_later Slot k le h = le
+may_later Read k le h = le
+may_later MemRead k le h = le
+may_later MemWrite k le h = le
+
+pub may_earlier : (w : Word) (k : ℕ) → 3 ≤ k → MayStand k w → MayStand 3 w
+may_earlier Cache k le h = absurd (omega arith)
+may_earlier Slot k le h = omega arith
+may_earlier Read k le h = omega arith
+may_earlier MemRead k le h = omega arith
+may_earlier MemWrite k le h = omega arith
+
+abbrev pub IsSlotLine : List ℕ → Type 0
+IsSlotLine l = Entered l Slot
+
+-- a text whose first lines are a header, a cache, slots and events, before at least one more part
+module _ (text h k : List ℕ) (S E more : List (List ℕ)) (is : lines_of text ≡ (h ∷ k ∷ (S ++ E)) ++ more) (some : 0 < length more) (head : h ≡ header) (cache : Entered k Cache) (slots : All IsSlotLine S) (events : All EnteredEvent E) where
+  total : length (lines_of text) ≡ 2 + (length S + length E) + length more
+  total = ap length is ∙ omega (arith, length-append (h ∷ k ∷ (S ++ E)) more, length-append S E)
+
+  at_one : line_at text 1 ≡ h
+  at_one = ap (λ (ls : List (List ℕ)). get_or ls 0 []) is
+
+  at_two : line_at text 2 ≡ k
+  at_two = ap (λ (ls : List (List ℕ)). get_or ls 1 []) is
+
+  at_later : (j : ℕ) → 3 ≤ j → j < 3 + (length S + length E) → line_at text j ≡ get_or (S ++ E) (j - 3) []
+  at_later j le lt =
+      let e : j - 1 ≡ suc (suc (j - 3)) = omega arith in
+      ap (λ (ls : List (List ℕ)). get_or ls (j - 1) []) is ∙ ap (λ (n : ℕ). get_or ((h ∷ k ∷ (S ++ E)) ++ more) n []) e ∙ get_or_append_left (S ++ E) more [] (j - 3) (omega (arith, length-append S E))
+
+  at_slot : (j : ℕ) → 3 ≤ j → j < 3 + length S → line_at text j ≡ get_or S (j - 3) []
+  at_slot j le lt = at_later j le (omega arith) ∙ get_or_append_left S E [] (j - 3) (omega arith)
+
+  at_event : (j : ℕ) → 3 + length S ≤ j → j < 3 + (length S + length E) → line_at text j ≡ get_or E (j - 3 - length S) []
+  at_event j le lt = at_later j (omega arith) lt ∙ get_or-append_right S E (length S) (j - 3) [] refl (omega arith)
+
+  slot_there : (j : ℕ) → 3 ≤ j → j < 3 + length S → Entered (line_at text j) Slot
+  slot_there j le lt = subst (λ (l : List ℕ). Entered l Slot) (sym (at_slot j le lt)) (All-get_or IsSlotLine S (j - 3) [] (omega arith) slots)
+
+  event_there : (j : ℕ) → 3 + length S ≤ j → j < 3 + (length S + length E) → EnteredEvent (line_at text j)
+  event_there j le lt = subst EnteredEvent (sym (at_event j le lt)) (All-get_or EnteredEvent E (j - 3 - length S) [] (omega arith) events)
+
+  pub good : (j : ℕ) → 1 ≤ j → j < 3 + (length S + length E) → Good text j
+  good j le lt =
+      let end : IsEnded text j = omega (arith, total) in
+      elim (cases_lt j 3) [
+        | inl early ↦
+            elim (cases_eq j 1) [
+              | inl one ↦
+                  record {
+                    ended = end;
+                    first = λ _. ap (line_at text) one ∙ at_one ∙ head;
+                    word = λ two. absurd (omega arith);
+                    order = λ _ i low high. absurd (omega arith);
+                    entry = λ two. absurd (omega arith);
+                  }
+              | inr ne ↦
+                  let two : j ≡ 2 = omega arith in
+                  let e : Entered (line_at text j) Cache = subst (λ (l : List ℕ). Entered l Cache) (sym (ap (line_at text) two ∙ at_two)) cache in
+                  record {
+                    ended = end;
+                    first = λ one. absurd (omega arith);
+                    word = λ _. record { word = Cache; may = two; first = first_is (line_at text j) Cache e };
+                    order = λ _ i low high. absurd (omega arith);
+                    entry = λ _. (Cache, e);
+                  }
+            ]
+        | inr late ↦
+            elim (cases_lt j (3 + length S)) [
+              | inl slot ↦
+                  let e = slot_there j late slot in
+                  record {
+                    ended = end;
+                    first = λ one. absurd (omega arith);
+                    word = λ _. record { word = Slot; may = late; first = first_is (line_at text j) Slot e };
+                    order = λ _ i low high. first_is (line_at text i) Slot (slot_there i low (omega arith));
+                    entry = λ _. (Slot, e);
+                  }
+              | inr event ↦
+                  let e = event_there j event lt in
+                  record {
+                    ended = end;
+                    first = λ one. absurd (omega arith);
+                    word = λ _. record { word = e.word; may = may_later e.word j late e.may; first = first_is (line_at text j) e.word e.entry };
+                    order = λ is i low high. absurd (e.other (same_word e.word Slot (sym (first_is (line_at text j) e.word e.entry) ∙ is)));
+                    entry = λ _. (e.word, e.entry);
+                  }
+            ]
+      ]
+
+  -- where no event has come, every line from the third on is a slot's
+  pub only_slots : length E ≡ 0 → (j : ℕ) → 3 ≤ j → j < 3 + (length S + length E) → first_field (line_at text j) ≡ spelled Slot
+  only_slots none j le lt = first_is (line_at text j) Slot (slot_there j le (omega arith))
+
+  -- where one has come, there is a line that isn't a slot's
+  pub one_event : 0 < length E → first_field (line_at text (3 + length S)) ≡ spelled Slot → ⊥
+  one_event some is =
+      let e = event_there (3 + length S) (omega arith) (omega arith) in
+      e.other (same_word e.word Slot (sym (first_is (line_at text (3 + length S)) e.word e.entry) ∙ is))

@@ -1,0 +1,41 @@
+-- How a text is cut at its first line feed, and a line at its first space.
+use Rattle.std.proofs.Common.{◌≡◌, ℕ, ◌+◌, ◌<◌, ◌≤◌, Bool, true, false, eqb, List, [], ◌∷◌, ◌++◌, All, Option, Some, None, length, get_or, take, drop, sym, ap, ◌∙◌, arith}
+use Rattle.std.proofs.lemmas.Bool.{eq-eqb, ne_eqb}
+use Rattle.std.proofs.lemmas.List.{take-append-drop, drop_more, get_or-take, length-take}
+use Rattle.std.proofs.lemmas.List.Elements.{All-from_get_or}
+use Rattle.std.proofs.lemmas.List.Splits.{slice_split_at, slice_split_none, length-slice_split}
+use Rattle.std.specs.List.{slice_split}
+use Rattle.std.specs.Option.{is_some, option_copied}
+use Rattle.std.specs.Borrow.{Bor}
+use Rattle.trace.specs.Cuts.{fields_of, fields_left, is_space}
+
+-- the test for a byte
+abbrev pub is_byte : ℕ → ℕ → Bool
+is_byte b c = eqb c b
+
+none_before : (b : ℕ) (xs : List ℕ) (i : ℕ) → i ≤ length xs → ((k : ℕ) → k < i → get_or xs k 0 ≡ b → ⊥) → All (λ c. is_byte b c ≡ false) (take i xs)
+none_before b xs i le none =
+    All-from_get_or (λ c. is_byte b c ≡ false) (take i xs) 0 (λ k h.
+    let below : k < i = omega (arith, length-take i xs) in
+    ne_eqb (get_or (take i xs) k 0) b (λ e. none k below (sym (get_or-take i xs k 0 below) ∙ e)))
+
+-- a list around its element i
+pub around : (xs : List ℕ) (i : ℕ) → i < length xs → xs ≡ take i xs ++ get_or xs i 0 ∷ drop (i + 1) xs
+around xs i lt = sym (take-append-drop i xs) ∙ ap (λ (ys : List ℕ). take i xs ++ ys) (drop_more xs i 0 lt)
+
+pub cut_at : (b : ℕ) (xs : List ℕ) (i : ℕ) → i < length xs → ((k : ℕ) → k < i → get_or xs k 0 ≡ b → ⊥) → get_or xs i 0 ≡ b → slice_split (is_byte b) xs ≡ take i xs ∷ slice_split (is_byte b) (drop (i + 1) xs)
+cut_at b xs i lt none is =
+    ap (slice_split (is_byte b)) (around xs i lt)
+    ∙ slice_split_at (is_byte b) (take i xs) (get_or xs i 0) (drop (i + 1) xs) (none_before b xs i (omega arith) none) (eq-eqb (get_or xs i 0) b is)
+
+pub cut_none : (b : ℕ) (xs : List ℕ) (i : ℕ) → length xs ≤ i → ((k : ℕ) → k < i → get_or xs k 0 ≡ b → ⊥) → slice_split (is_byte b) xs ≡ xs ∷ []
+cut_none b xs i le none = slice_split_none (is_byte b) xs (All-from_get_or (λ c. is_byte b c ≡ false) xs 0 (λ k h. ne_eqb (get_or xs k 0) b (none k (omega arith))))
+
+pub some_fields : (line : List ℕ) → 0 < length (fields_of line)
+unfolding fields_of
+some_fields line = omega (arith, length-slice_split is_space line)
+
+-- where a field follows, there is more than one
+pub no_more : (all : List (List ℕ)) (a : List ℕ) (rest : Option (Bor (List ℕ))) → all ≡ a ∷ fields_left (option_copied rest) → is_some rest ≡ true → length all ≡ 1 → ⊥
+no_more all a None e is h = absurd cc
+no_more all a (Some rest) e is h = omega (arith, ap length e, some_fields rest.now)

@@ -1,0 +1,179 @@
+-- The line of a slot, of an event and of the cache: its word, and fields that say what they have to.
+use Rattle.std.proofs.Common.{◌≡◌, ◌≢◌, ℕ, ◌+◌, ◌*◌, ◌^◌, ◌<◌, Bool, true, false, cond, eqb, List, [], ◌∷◌, length, get_or, refl, sym, ap, subst, ◌∙◌, arith, MatchBool}
+use Rattle.std.specs.Prelude.{⊤, Option, Some, None, IfSome, IfNone}
+use Rattle.board.specs.declared.event.DeviceKind.{DeviceKind}
+use Rattle.board.specs.declared.event.DeviceKind.TheVariants.{Block, Console}
+use Rattle.board.specs.declared.event.Event.{Event}
+use Rattle.board.specs.declared.event.EventKind.{EventKind}
+use Rattle.board.specs.declared.event.EventKind.TheVariants as what
+use Rattle.board.specs.declared.spec.SlotSpec.{SlotSpec}
+use Rattle.trace.specs.declared.fault.FaultKind.{FaultKind}
+use Rattle.trace.specs.declared.word.Word.{Word}
+use Rattle.trace.specs.declared.word.Word.TheVariants.{Cache, Slot, Read, MemRead, MemWrite}
+use Rattle.trace.specs.Cuts.{fields_of}
+use Rattle.trace.specs.Faults.{AllSay, MayStand, order, fault_of}
+use Rattle.trace.specs.Printable.{EventInRange, KindInRange, IsPrintableKind, SlotInRange}
+use Rattle.trace.specs.Refusals.{IsFine}
+use Rattle.trace.specs.Spelling.{num, fixed, bytes, window, mode, width_digit}
+use Rattle.trace.specs.Text.{line, cache_fields, cache_line, slot_fields, slot_line, event_fields, event_line, what_fields}
+use Rattle.trace.specs.Words.{Shape, Says, spelled, shapes, IsNum}
+use Rattle.trace.proofs.ByteFields.{bytes_digits}
+use Rattle.trace.proofs.Signs.{Above, AllAbove, above_tested, above_num, above_fixed, fields_of-line, above_line}
+
+-- ---- words
+
+abbrev key : List ℕ → ℕ
+key xs = get_or xs 0 0 * 1000 + get_or xs 1 0
+
+abbrev word_at : ℕ → Word
+word_at n = cond (eqb n 99097) Cache (cond (eqb n 115108) Slot (cond (eqb n 114000) Read (cond (eqb n 109114) MemRead MemWrite)))
+
+found : (w : Word) → word_at (key (spelled w)) ≡ w
+found Cache = refl
+found Slot = refl
+found Read = refl
+found MemRead = refl
+found MemWrite = refl
+
+-- a spelling is one word's
+pub same_word : (v w : Word) → spelled v ≡ spelled w → v ≡ w
+same_word v w e = sym (found v) ∙ ap (λ (xs : List ℕ). word_at (key xs)) e ∙ found w
+
+pub above_word : (w : Word) → Above 32 (spelled w)
+above_word Cache = above_tested 32 (spelled Cache) refl
+above_word Slot = above_tested 32 (spelled Slot) refl
+above_word Read = above_tested 32 (spelled Read) refl
+above_word MemRead = above_tested 32 (spelled MemRead) refl
+above_word MemWrite = above_tested 32 (spelled MemWrite) refl
+
+-- ---- fields
+
+abbrev EachSays : List Shape → List (List ℕ) → Type 0
+EachSays [] fields = ⊤
+EachSays (shape ∷ more) [] = ⊤
+EachSays (shape ∷ more) (field ∷ fields) = Says shape field × EachSays more fields
+
+one_way : (b : Bool) (P : Type 0) → P → MatchBool b P ⊤
+one_way true P h = h
+one_way false P h = tt
+
+-- where each field says its value, each check of them is passed
+all_say : (ss : List Shape) (fs : List (List ℕ)) → EachSays ss fs → (fault : FaultKind) → AllSay fault ss fs
+all_say [] fs h fault = tt
+all_say (s ∷ ss) [] h fault = tt
+all_say (s ∷ ss) (f ∷ fs) h fault = (one_way (eqb (order (fault_of s)) (order fault)) (Says s f) h.0, all_say ss fs h.1 fault)
+
+-- ---- lines
+
+-- the line has the word, and after it fields that pass each check
+pub record Entered (l : List ℕ) (word : Word) : Type 0 where
+  pub fields : List (List ℕ)
+  pub cut : fields_of l ≡ spelled word ∷ fields
+  pub count : length fields ≡ length (shapes word)
+  pub say : (fault : FaultKind) → AllSay fault (shapes word) fields
+  pub unbroken : Above 10 l
+
+entered : (l : List ℕ) (word : Word) (fs : List (List ℕ)) → l ≡ line (spelled word ∷ fs) → length fs ≡ length (shapes word) → EachSays (shapes word) fs → AllAbove 32 fs → Entered l word
+entered l word fs is count says above =
+    record {
+      fields = fs;
+      cut = ap fields_of is ∙ fields_of-line (spelled word) fs (above_word word, above);
+      count = count;
+      say = all_say (shapes word) fs says;
+      unbroken = subst (Above 10) (sym is) (above_line (spelled word) fs (above_word word, above));
+    }
+
+above_window : (kind : DeviceKind) → Above 32 (window kind)
+above_window Block = above_tested 32 (window Block) refl
+above_window Console = above_tested 32 (window Console) refl
+
+above_mode : (b : Bool) → Above 32 (mode b)
+above_mode false = above_tested 32 (mode false) refl
+above_mode true = above_tested 32 (mode true) refl
+
+number : (bits n : ℕ) → n < 2 ^ bits → (m : ℕ) × IsNum bits (num n) m
+number bits n lt = (n, record { fits = lt; spelled = refl })
+
+pub entered_cache : (n : ℕ) → n < 2 ^ 32 → Entered (cache_line n) Cache
+unfolding cache_line
+entered_cache n lt = entered (cache_line n) Cache (num n ∷ []) refl refl (number 32 n lt, tt) (above_num n, tt)
+
+pub entered_slot : (s : SlotSpec) → SlotInRange s → Entered (slot_line s) Slot
+unfolding slot_line
+entered_slot s h =
+    entered (slot_line s) Slot (num s.base ∷ num s.len ∷ num s.extent.start ∷ num s.extent.count ∷ mode s.read_only ∷ num s.cols ∷ num s.rows ∷ []) refl refl
+    (number 64 s.base h.base, (number 64 s.len h.len, (number 64 s.extent.start h.start, (number 64 s.extent.count h.count, ((s.read_only, refl), (number 16 s.cols h.cols, (number 16 s.rows h.rows, tt)))))))
+    (above_num s.base, (above_num s.len, (above_num s.extent.start, (above_num s.extent.count, (above_mode s.read_only, (above_num s.cols, (above_num s.rows, tt)))))))
+
+-- the line of an event, which has another word than a slot's
+pub record EnteredEvent (l : List ℕ) : Type 0 where
+  pub word : Word
+  pub may : MayStand 3 word
+  pub other : word ≢ Slot
+  pub entry : Entered l word
+
+entered_what : {A : Type 0} (slot : ℕ) (w : EventKind A) → slot < 2 ^ 8 → KindInRange w → IsPrintableKind w → EnteredEvent (line (what_fields slot w))
+entered_what slot (what.Read kind offset width) lt range fine =
+    record {
+      word = Read;
+      may = omega arith;
+      other = λ e. absurd cc;
+      entry =
+          entered _ Read (num slot ∷ window kind ∷ fixed 3 offset ∷ width_digit width ∷ []) refl refl
+          (number 8 slot lt, ((kind, refl), ((offset, record { fits = fine.three_digits; spelled = refl }), ((width, record { fits = fine.wide; spelled = refl }), tt))))
+          (above_num slot, (above_window kind, (above_fixed 3 offset, ((omega arith, tt), tt))));
+    }
+entered_what slot (what.MemRead addr len) lt range fine =
+    record {
+      word = MemRead;
+      may = omega arith;
+      other = λ e. absurd cc;
+      entry =
+          entered _ MemRead (num slot ∷ num addr ∷ num len ∷ []) refl refl
+          (number 8 slot lt, (number 64 addr range.from, (number 32 len range.size, tt)))
+          (above_num slot, (above_num addr, (above_num len, tt)));
+    }
+entered_what slot (what.MemWrite addr bs) lt range fine =
+    record {
+      word = MemWrite;
+      may = omega arith;
+      other = λ e. absurd cc;
+      entry =
+          entered _ MemWrite (num slot ∷ num addr ∷ bytes bs ∷ []) refl refl
+          (number 8 slot lt, (number 64 addr range.from, ((bs, record { fits = range.each; spelled = refl }), tt)))
+          (above_num slot, (above_num addr, (bytes_digits bs range.each, tt)));
+    }
+
+pub entered_event : {A : Type 0} (e : Event A) → IsFine e → EnteredEvent (event_line e)
+unfolding event_line
+entered_event e h = entered_what e.slot e.what h.fits.slot h.fits.what h.printable
+
+-- a field that was found to be another word, or none
+pub not_cache : (o : Option Word) (f : List ℕ) → IfSome o (λ w. f ≡ spelled w) → IfNone o ((w : Word) → f ≢ spelled w) → (o ≡ Some Cache → ⊥) → f ≡ spelled Cache → ⊥
+not_cache None f some none other e = none Cache e
+not_cache (Some w) f some none other e = other (ap Some (same_word w Cache (sym some ∙ e)))
+
+-- ---- the fields of a line that was made of them
+
+pub cut_cache : (n : ℕ) → fields_of (cache_line n) ≡ cache_fields n
+unfolding cache_line
+cut_cache n = fields_of-line (spelled Cache) (num n ∷ []) (above_word Cache, (above_num n, tt))
+
+pub cut_slot : (s : SlotSpec) → fields_of (slot_line s) ≡ slot_fields s
+unfolding slot_line
+cut_slot s =
+    fields_of-line (spelled Slot) (num s.base ∷ num s.len ∷ num s.extent.start ∷ num s.extent.count ∷ mode s.read_only ∷ num s.cols ∷ num s.rows ∷ [])
+    (above_word Slot, (above_num s.base, (above_num s.len, (above_num s.extent.start, (above_num s.extent.count, (above_mode s.read_only, (above_num s.cols, (above_num s.rows, tt))))))))
+
+cut_what : {A : Type 0} (slot : ℕ) (w : EventKind A) → KindInRange w → fields_of (line (what_fields slot w)) ≡ what_fields slot w
+cut_what slot (what.Read kind offset width) range =
+    fields_of-line (spelled Read) (num slot ∷ window kind ∷ fixed 3 offset ∷ width_digit width ∷ [])
+    (above_word Read, (above_num slot, (above_window kind, (above_fixed 3 offset, ((omega arith, tt), tt)))))
+cut_what slot (what.MemRead addr len) range =
+    fields_of-line (spelled MemRead) (num slot ∷ num addr ∷ num len ∷ []) (above_word MemRead, (above_num slot, (above_num addr, (above_num len, tt))))
+cut_what slot (what.MemWrite addr bs) range =
+    fields_of-line (spelled MemWrite) (num slot ∷ num addr ∷ bytes bs ∷ []) (above_word MemWrite, (above_num slot, (above_num addr, (bytes_digits bs range.each, tt))))
+
+pub cut_event : {A : Type 0} (e : Event A) → EventInRange e → fields_of (event_line e) ≡ event_fields e
+unfolding event_line
+cut_event e h = cut_what e.slot e.what h.what

@@ -1,0 +1,82 @@
+-- The faults of the first two lines.
+use Rattle.std.proofs.Common.{◌≡◌, ◌≢◌, ℕ, List, [], ◌∷◌, ◌++◌, length, get_or, refl, sym, ap, subst, ◌∙◌, arith, inl}
+use Rattle.std.proofs.lemmas.List.{append_assoc, append-nil}
+use Rattle.trace.specs.declared.fault.FaultKind.{FaultKind}
+use Rattle.trace.specs.declared.fault.FaultKind.TheVariants as kind
+use Rattle.trace.specs.declared.word.Word.{Word}
+use Rattle.trace.specs.declared.word.Word.TheVariants.{Cache, Slot, Read, MemRead, MemWrite}
+use Rattle.trace.specs.Cuts.{lines_of}
+use Rattle.trace.specs.Faults.{MayStand, IsCleanBefore, IsEnded, IsFault, Passes, first_field, line_at, other_fields}
+use Rattle.trace.specs.Refusals.{RefusesCache, RefusesFields, RefusesHead, RefusesSecond}
+use Rattle.trace.specs.Text.{header, joined}
+use Rattle.trace.specs.Words.{spelled, shapes}
+use Rattle.trace.proofs.Clean.{Good, good_passes}
+use Rattle.trace.proofs.Faulty.{cut_fault, fields_fault, header_fault, word_fault}
+use Rattle.trace.proofs.Signs.{above_tested, lines_of-joined}
+use Rattle.trace.proofs.Sofar.{some_lines}
+
+nothing_before : (text : List ℕ) → IsCleanBefore text 1
+nothing_before text j le lt fault = absurd (omega arith)
+
+pub head_fault : (text : List ℕ) (fault : FaultKind) → RefusesHead text fault → IsFault text 1 fault
+head_fault text kind.Cut h = cut_fault text 1 (omega arith) (nothing_before text) (inl (omega arith)) (λ end. omega (arith, ap length h))
+head_fault text kind.Header h =
+    header_fault text (nothing_before text) (omega (arith, ap length h.cut, some_lines h.rest))
+    (λ p. h.other (sym (ap (λ (ls : List (List ℕ)). get_or ls 0 []) h.cut) ∙ p (omega (arith, ap length h.cut, some_lines h.rest)) refl))
+head_fault text kind.Word h = absurd h
+head_fault text kind.Order h = absurd h
+head_fault text kind.Fields h = absurd h
+head_fault text kind.Number h = absurd h
+head_fault text kind.Choice h = absurd h
+head_fault text kind.Bytes h = absurd h
+head_fault text kind.NoMemory h = absurd h
+
+-- after a good first line
+module _ (text rest : List ℕ) (whole : text ≡ header ++ 10 ∷ rest) where
+  pub headed : lines_of text ≡ header ∷ lines_of rest
+  unfolding joined
+  headed = ap lines_of (whole ∙ sym (ap (λ (xs : List ℕ). xs ++ rest) (append-nil (header ++ 10 ∷ [])) ∙ append_assoc header (10 ∷ []) rest)) ∙ lines_of-joined (header ∷ []) rest (above_tested 10 header refl, tt)
+
+  good_head : Good text 1
+  good_head =
+      record {
+        ended = omega (arith, ap length headed, some_lines rest);
+        first = λ _. ap (λ (ls : List (List ℕ)). get_or ls 0 []) headed;
+        word = λ two. absurd (omega arith);
+        order = λ _ j low high. absurd (omega arith);
+        entry = λ two. absurd (omega arith);
+      }
+
+  pub head_clean : IsCleanBefore text 2
+  head_clean j le lt fault = let one : 1 ≡ j = omega arith in subst (λ (k : ℕ). Passes text k fault) one (good_passes text 1 good_head fault)
+
+  at_two : line_at text 2 ≡ get_or (lines_of rest) 0 []
+  at_two = ap (λ (ls : List (List ℕ)). get_or ls 1 []) headed
+
+  only_cache : (w : Word) → MayStand 2 w → w ≡ Cache
+  only_cache Cache h = refl
+  only_cache Slot h = absurd (omega arith)
+  only_cache Read h = absurd (omega arith)
+  only_cache MemRead h = absurd (omega arith)
+  only_cache MemWrite h = absurd (omega arith)
+
+  fields_of_cache : (fault : FaultKind) → RefusesCache rest fault → fault ≢ kind.NoMemory → IsFault text 2 fault
+  fields_of_cache fault h known =
+      let here : line_at text 2 ≡ h.line = at_two ∙ ap (λ (ls : List (List ℕ)). get_or ls 0 []) h.cut in
+      let end : IsEnded text 2 = omega (arith, ap length headed, ap length h.cut, some_lines h.rest) in
+      fields_fault text 2 (omega arith) head_clean end Cache refl (ap first_field here ∙ h.first) (λ _ _ j low high. absurd (omega arith)) fault
+      (subst (λ (l : List ℕ). RefusesFields (shapes Cache) (other_fields l) fault) (sym here) h.refused) known
+
+  pub second_fault : (fault : FaultKind) → RefusesSecond rest fault → fault ≢ kind.NoMemory → IsFault text 2 fault
+  second_fault kind.Cut h known = cut_fault text 2 (omega arith) head_clean (inl (omega arith)) (λ end. omega (arith, ap length headed, ap length h))
+  second_fault kind.Word h known =
+      let here : line_at text 2 ≡ h.line = at_two ∙ ap (λ (ls : List (List ℕ)). get_or ls 0 []) h.cut in
+      let end : IsEnded text 2 = omega (arith, ap length headed, ap length h.cut, some_lines h.rest) in
+      word_fault text 2 (omega arith) head_clean end (λ w may is. h.other (sym (ap first_field here) ∙ is ∙ ap spelled (only_cache w may)))
+  second_fault kind.Header h known = fields_of_cache kind.Header h known
+  second_fault kind.Order h known = fields_of_cache kind.Order h known
+  second_fault kind.Fields h known = fields_of_cache kind.Fields h known
+  second_fault kind.Number h known = fields_of_cache kind.Number h known
+  second_fault kind.Choice h known = fields_of_cache kind.Choice h known
+  second_fault kind.Bytes h known = fields_of_cache kind.Bytes h known
+  second_fault kind.NoMemory h known = absurd (known refl)

@@ -1,0 +1,80 @@
+-- What comes of a run on a new board.
+use Rattle.std.proofs.Common.{◌≡◌, ℕ, List, [], ◌∷◌, length, map, take, Option, Result, Ok, Err, IfSome, refl, sym, ap, subst, ◌∙◌, arith}
+use Rattle.std.proofs.lemmas.List.{take_all}
+use Rattle.sector_cache.specs.Disk.{Disk}
+use Rattle.board.specs.declared.event.Event.{Event}
+use Rattle.board.specs.declared.reply.Record.{Record}
+use Rattle.board.specs.declared.spec.SlotSpec.{SlotSpec}
+use Rattle.board.specs.declared.reply.RunStop.{RunStop}
+use Rattle.board.specs.Line.{HadMemory, IsRun, events_done}
+use Rattle.board.specs.Slot.{BoardSlot, opened}
+use Rattle.board.specs.World.{BoardState, Tells, bytes_of, extents_of, seen, world_of}
+use Rattle.trace.specs.OneSlot.{IsMachine}
+use Rattle.trace.specs.Replay.{AfterRun, IsTraceOf, Replays, RunsOn, Unwritten}
+use Rattle.trace.specs.Text.{Content}
+use Rattle.board.specs.Fault.{IsAccepted}
+use Rattle.trace.specs.Records.{records_text}
+use Rattle.trace.specs.declared.replay_fault.ReplayFault.{ReplayFault}
+use Rattle.trace.specs.declared.replay_fault.ReplayFault.TheVariants.{Read, Trace, Board, Run, Write, NoMemory}
+use Rattle.trace.proofs.OneSlotLemmas.{one_slot}
+
+one_of : {A : Type 0} (slots : List SlotSpec) (old new : Disk) (last : List BoardSlot) (events : List (Event A)) (records : List (Record A)) → IsRun (seen (map opened slots) old) (seen last new) events [] records → extents_of last ≡ extents_of (map opened slots) → (spec : SlotSpec) → slots ≡ spec ∷ [] → new.failures ≡ old.failures → HadMemory 0 records → IsMachine spec (bytes_of old) (bytes_of new) events records
+one_of slots old new last events records run extents spec one stood had =
+    one_slot spec old new last events records
+    (subst (λ (specs : List SlotSpec). IsRun (seen (map opened specs) old) (seen last new) events [] records) one run)
+    (extents ∙ ap (λ (specs : List SlotSpec). extents_of (map opened specs)) one) stood had
+
+runs : {A : Type 0} (slots : List SlotSpec) (old new : Disk) (last : List BoardSlot) (events : List (Event A)) (records : List (Record A)) → IsRun (seen (map opened slots) old) (seen last new) events [] records → extents_of last ≡ extents_of (map opened slots) → Tells new → RunsOn slots old new events records
+runs slots old new last events records run extents tells = record {
+  last = last;
+  run = run;
+  extents = extents;
+  tells = tells;
+  one = one_of slots old new last events records run extents;
+}
+
+-- the run of a board that was new, with no record before it
+pub runs_on : {A I : Type 0} (disk : I → Disk) (slots : List SlotSpec) (board after : BoardState I) (image : I) (events done : List (Event A)) (before records : List (Record A)) → board.slots ≡ map opened slots → before ≡ [] → image ≡ after.image → events ≡ done → extents_of after.slots ≡ extents_of board.slots → Tells (disk after.image) → IsRun (world_of disk board) (world_of disk after) events before records → RunsOn slots (disk board.image) (disk image) done records
+runs_on disk slots board after image events done before records new none kept same extents tells run =
+    rw kept
+    (runs slots (disk board.image) (disk after.image) after.slots done records
+    (subst (λ (es : List (Event _)). IsRun (seen (map opened slots) (disk board.image)) (seen after.slots (disk after.image)) es [] records) same
+    (subst (λ (rs : List (Record _)). IsRun (seen (map opened slots) (disk board.image)) (seen after.slots (disk after.image)) events rs records) none
+    (subst (λ (bs : List BoardSlot). IsRun (seen bs (disk board.image)) (seen after.slots (disk after.image)) events before records) new run)))
+    (extents ∙ ap extents_of new) tells)
+
+-- the events that a run did are the first ones
+pub record FirstDone {A : Type 0} (events done : List (Event A)) : Type 0 where
+  pub count : ℕ
+  pub are : done ≡ take count events
+
+pub first_done : {A : Type 0} (result : Result (Unit {0}) RunStop) (events : List (Event A)) → FirstDone events (events_done result events)
+first_done (Ok done) events = record { count = length events; are = sym (take_all (length events) events (omega arith)) }
+first_done (Err stop) events = record { count = stop.done; are = refl }
+
+-- a run whose text wasn't written
+pub unwritten : {A I : Type 0} (disk : I → Disk) (slots : List SlotSpec) (events done : List (Event A)) (before after : I) (old new : Option (List ℕ)) (records : List (Record A)) (fault : ReplayFault) → FirstDone events done → (Tells (disk before) → RunsOn slots (disk before) (disk after) done records) → Unwritten old new (records_text records) fault → AfterRun disk slots events before after old new (Err fault)
+unwritten {A} disk slots events done before after old new records NoMemory first ran why =
+    record { done = first.count; recorded = record { records = records; ran = λ tells. subst (λ (es : List (Event A)). RunsOn slots (disk before) (disk after) es records) first.are (ran tells); output = why } }
+unwritten {A} disk slots events done before after old new records Write first ran why =
+    record { done = first.count; recorded = record { records = records; ran = λ tells. subst (λ (es : List (Event A)). RunsOn slots (disk before) (disk after) es records) first.are (ran tells); output = why } }
+unwritten disk slots events done before after old new records Read first ran why = absurd why
+unwritten disk slots events done before after old new records (Trace fault) first ran why = absurd why
+unwritten disk slots events done before after old new records (Board fault) first ran why = absurd why
+unwritten disk slots events done before after old new records (Run count) first ran why = absurd why
+
+played_as : {A I : Type 0} (disk : I → Disk) (input old new : Option (List ℕ)) (before after : I) (trace : Content A) (outcome : Result (Unit {0}) ReplayFault) → IfSome input (λ bytes. IsTraceOf bytes trace) → IsAccepted (disk before).sector_count trace.slots trace.cache → AfterRun disk trace.slots trace.events before after old new outcome → Replays A disk input old new before after outcome
+played_as disk input old new before after trace (Ok done) read accepted ended = record { trace = trace; read = read; accepted = accepted; ended = ended }
+played_as disk input old new before after trace (Err (Run count)) read accepted ended = record { trace = trace; read = read; accepted = accepted; ended = ended }
+played_as disk input old new before after trace (Err Write) read accepted ended = record { trace = trace; read = read; accepted = accepted; ended = ended }
+played_as disk input old new before after trace (Err NoMemory) read accepted ended = record { trace = trace; read = read; accepted = accepted; ended = ended }
+played_as disk input old new before after trace (Err Read) read accepted ended = absurd ended
+played_as disk input old new before after trace (Err (Trace fault)) read accepted ended = absurd ended
+played_as disk input old new before after trace (Err (Board fault)) read accepted ended = absurd ended
+
+-- the trace was read, there was a board for it, and this came of its events
+pub played : {A I : Type 0} (disk : I → Disk) (input old new : Option (List ℕ)) (before board after : I) (trace : Content A) (slots : List SlotSpec) (outcome : Result (Unit {0}) ReplayFault) → IfSome input (λ bytes. IsTraceOf bytes trace) → slots ≡ trace.slots → board ≡ before → IsAccepted (disk before).sector_count slots trace.cache → AfterRun disk trace.slots trace.events board after old new outcome → Replays A disk input old new before after outcome
+played {A} disk input old new before board after trace slots outcome read same kept accepted ended =
+    played_as disk input old new before after trace outcome read
+    (subst (λ (specs : List SlotSpec). IsAccepted (disk before).sector_count specs trace.cache) same accepted)
+    (subst (λ image. AfterRun disk trace.slots trace.events image after old new outcome) kept ended)

@@ -1,0 +1,92 @@
+-- No field has a space in it, and no line a line feed: so cutting a text gives its lines, and cutting a
+-- line its fields.
+use Rattle.std.proofs.Common.{◌≡◌, ℕ, ◌<◌, ◌≤◌, ltb, Bool, true, false, List, [], ◌∷◌, ◌++◌, All, refl, sym, ap, ◌∙◌, arith}
+use Rattle.std.specs.List.{AllByRecursion, slice_split, join_with_byte, flat_map, list_all}
+use Rattle.std.proofs.lemmas.Bool.{ltb-true, ne_eqb, and_parts}
+use Rattle.std.proofs.lemmas.List.{append_assoc, append-nil}
+use Rattle.std.proofs.lemmas.List.Elements.{All-from_recursion}
+use Rattle.std.proofs.lemmas.List.Splits.{slice_split_at, slice_split_none, join_with_byte-slice_split}
+use Rattle.trace.specs.Cuts.{fields_of, lines_of, is_space, is_line_feed}
+use Rattle.trace.specs.Spelling.{num, fixed}
+use Rattle.trace.specs.Text.{line, joined, ended}
+use Rattle.trace.proofs.Cutting.{is_byte}
+use Rattle.trace.proofs.Digits.{digit_above}
+use Rattle.trace.proofs.Numbers.{AreDigits, are_digits_num, are_digits_fixed}
+
+-- each byte is above b
+abbrev pub Above : ℕ → List ℕ → Type 0
+Above b = AllByRecursion (λ c. b < c)
+
+pub above_append : (b : ℕ) (xs ys : List ℕ) → Above b xs → Above b ys → Above b (xs ++ ys)
+above_append b [] ys hx hy = hy
+above_append b (x ∷ xs) ys hx hy = (hx.0, above_append b xs ys hx.1 hy)
+
+pub above_lower : (a b : ℕ) (xs : List ℕ) → a ≤ b → Above b xs → Above a xs
+above_lower a b [] le h = tt
+above_lower a b (x ∷ xs) le h = let first = h.0 in (omega arith, above_lower a b xs le h.1)
+
+-- a literal is tested
+abbrev pub all_above : ℕ → List ℕ → Bool
+all_above b xs = list_all (ltb b) xs
+
+pub above_tested : (b : ℕ) (xs : List ℕ) → all_above b xs ≡ true → Above b xs
+above_tested b [] h = tt
+above_tested b (x ∷ xs) h = let p = and_parts (ltb b x) (all_above b xs) h in (ltb-true b x p.0, above_tested b xs p.1)
+
+pub above_digits : (xs : List ℕ) → AreDigits xs → Above 32 xs
+above_digits [] h = tt
+above_digits (x ∷ xs) h = let high = digit_above h.0.value h.0.small in let is = h.0.is in (omega arith, above_digits xs h.1)
+
+pub above_num : (n : ℕ) → Above 32 (num n)
+above_num n = above_digits (num n) (are_digits_num n)
+
+pub above_fixed : (k n : ℕ) → Above 32 (fixed k n)
+above_fixed k n = above_digits (fixed k n) (are_digits_fixed k n)
+
+differs : (b : ℕ) (xs : List ℕ) → Above b xs → AllByRecursion (λ c. is_byte b c ≡ false) xs
+differs b [] h = tt
+differs b (x ∷ xs) h = let first = h.0 in (ne_eqb x b (λ e. omega arith), differs b xs h.1)
+
+pub without : (b : ℕ) (xs : List ℕ) → Above b xs → All (λ c. is_byte b c ≡ false) xs
+without b xs h = All-from_recursion (λ c. is_byte b c ≡ false) xs (differs b xs h)
+
+-- ---- fields
+
+abbrev pub AllAbove : ℕ → List (List ℕ) → Type 0
+AllAbove b = AllByRecursion (Above b)
+
+split_join : (f : List ℕ) (fs : List (List ℕ)) → AllAbove 32 (f ∷ fs) → slice_split is_space (join_with_byte 32 (f ∷ fs)) ≡ f ∷ fs
+split_join f [] h = slice_split_none is_space f (without 32 f h.0)
+split_join f (g ∷ fs) h = slice_split_at is_space f 32 (join_with_byte 32 (g ∷ fs)) (without 32 f h.0) refl ∙ ap (λ (xs : List (List ℕ)). f ∷ xs) (split_join g fs h.1)
+
+-- the fields of a line that is made of fields
+pub fields_of-line : (f : List ℕ) (fs : List (List ℕ)) → AllAbove 32 (f ∷ fs) → fields_of (line (f ∷ fs)) ≡ f ∷ fs
+unfolding fields_of
+fields_of-line f fs h = split_join f fs h
+
+-- a line is made of its fields
+pub line-fields_of : (l : List ℕ) (fs : List (List ℕ)) → fields_of l ≡ fs → l ≡ line fs
+unfolding fields_of
+line-fields_of l fs e = sym (join_with_byte-slice_split 32 l) ∙ ap (join_with_byte 32) e
+
+pub above_line : (f : List ℕ) (fs : List (List ℕ)) → AllAbove 32 (f ∷ fs) → Above 10 (line (f ∷ fs))
+above_line f [] h = above_lower 10 32 f (omega arith) h.0
+above_line f (g ∷ fs) h = above_append 10 f (32 ∷ line (g ∷ fs)) (above_lower 10 32 f (omega arith) h.0) (omega arith, above_line g fs h.1)
+
+-- ---- lines
+
+pub lines_of-joined : (ls : List (List ℕ)) (rest : List ℕ) → AllAbove 10 ls → lines_of (joined ls ++ rest) ≡ ls ++ lines_of rest
+unfolding lines_of joined
+lines_of-joined [] rest h = refl
+lines_of-joined (l ∷ ls) rest h =
+    let regrouped : flat_map ended (l ∷ ls) ++ rest ≡ l ++ 10 ∷ (flat_map ended ls ++ rest) = append_assoc (l ++ 10 ∷ []) (flat_map ended ls) rest ∙ append_assoc l (10 ∷ []) (flat_map ended ls ++ rest) in
+    ap (slice_split is_line_feed) regrouped ∙ slice_split_at is_line_feed l 10 (flat_map ended ls ++ rest) (without 10 l h.0) refl ∙ ap (λ (xs : List (List ℕ)). l ∷ xs) (lines_of-joined ls rest h.1)
+
+pub joined_push : (ls : List (List ℕ)) (l : List ℕ) → joined (ls ++ l ∷ []) ≡ joined ls ++ ended l
+unfolding joined
+joined_push [] l = append-nil (ended l)
+joined_push (m ∷ ls) l = ap (λ (xs : List ℕ). ended m ++ xs) (joined_push ls l) ∙ sym (append_assoc (ended m) (flat_map ended ls) (ended l))
+
+pub above_lines : (xs ys : List (List ℕ)) → AllAbove 10 xs → AllAbove 10 ys → AllAbove 10 (xs ++ ys)
+above_lines [] ys hx hy = hy
+above_lines (x ∷ xs) ys hx hy = (hx.0, above_lines xs ys hx.1 hy)

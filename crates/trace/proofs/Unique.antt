@@ -1,0 +1,272 @@
+-- A text belongs to one trace, and the text of a trace has no fault.
+use Rattle.std.proofs.Common.{◌≡◌, ℕ, suc, ◌+◌, ◌-◌, ◌≤◌, Bool, true, false, cond, eqb, List, [], ◌∷◌, ◌++◌, All, length, get_or, drop, map, Result, Ok, Err, refl, sym, ap, subst, ◌∙◌, arith, inl, inr}
+use Rattle.std.proofs.lemmas.List.{append_cancel_right, append-nil, get_or_past}
+use Rattle.std.proofs.lemmas.Bool.{cases_eq, cases_lt, cases_order}
+use Rattle.std.specs.Prelude.{IfOk}
+use Rattle.hex.specs.Hex.{decode_of, encode_lower, lower_digits}
+use Rattle.hex.proofs.HexLemmas.{decode_of-encode_lower, length-encode_with}
+use Rattle.hex.specs.declared.error.FromHexError.{FromHexError}
+use Rattle.board.specs.declared.event.DeviceKind.{DeviceKind}
+use Rattle.board.specs.declared.event.DeviceKind.TheVariants.{Block, Console}
+use Rattle.board.specs.declared.event.Event.{Event}
+use Rattle.board.specs.declared.event.EventKind.{EventKind}
+use Rattle.board.specs.declared.event.EventKind.TheVariants as what
+use Rattle.board.specs.declared.spec.SlotSpec.{SlotSpec}
+use Rattle.trace.specs.declared.fault.FaultKind.{FaultKind}
+use Rattle.trace.specs.declared.fault.FaultKind.TheVariants as kind
+use Rattle.trace.specs.declared.word.Word.TheVariants.{Slot}
+use Rattle.trace.specs.Cuts.{fields_of, lines_of}
+use Rattle.trace.specs.Faults.{IsEnded, IsFault, Passes, line_at, order}
+use Rattle.trace.specs.Printable.{InRange, IsPrintable, IsPrintableKind, KindInRange, SlotInRange}
+use Rattle.trace.specs.Refusals.{IsFine}
+use Rattle.trace.specs.Spelling.{bytes, mode, window}
+use Rattle.trace.specs.Text.{Content, cache_line, event_fields, event_line, slot_fields, slot_line, text, trace_lines, what_fields}
+use Rattle.trace.specs.Words.{spelled}
+use Rattle.trace.proofs.ByteFields.{AreBytes, is_bytes}
+use Rattle.trace.proofs.Entries.{cut_cache, cut_event, cut_slot, entered_event, entered_slot, same_word}
+use Rattle.trace.proofs.Numbers.{same_fixed, same_num}
+use Rattle.trace.proofs.Signs.{lines_of-joined}
+use Rattle.trace.proofs.Sofar.{Fits, Sofar, clean, lines_left, next_is, unbroken}
+
+-- ---- fields
+
+same_window : (a b : DeviceKind) → window a ≡ window b → a ≡ b
+same_window Block Block e = refl
+same_window Block Console e = absurd (omega (arith, ap (λ (xs : List ℕ). get_or xs 0 0) e))
+same_window Console Block e = absurd (omega (arith, ap (λ (xs : List ℕ). get_or xs 0 0) e))
+same_window Console Console e = refl
+
+same_mode : (a b : Bool) → mode a ≡ mode b → a ≡ b
+same_mode false false e = refl
+same_mode false true e = absurd (omega (arith, ap (λ (xs : List ℕ). get_or xs 1 0) e))
+same_mode true false e = absurd (omega (arith, ap (λ (xs : List ℕ). get_or xs 1 0) e))
+same_mode true true e = refl
+
+ok_is : (x y : List ℕ) (r : Result (List ℕ) FromHexError) → r ≡ Ok x → r ≡ Ok y → x ≡ y
+ok_is x y r p q = cc
+
+same_bytes : (xs ys : List ℕ) → AreBytes xs → AreBytes ys → bytes xs ≡ bytes ys → xs ≡ ys
+unfolding bytes
+same_bytes [] [] hx hy e = refl
+same_bytes [] (y ∷ ys) hx hy e = absurd (omega (arith, ap length e, length-encode_with lower_digits (y ∷ ys)))
+same_bytes (x ∷ xs) [] hx hy e = absurd (omega (arith, ap length e, length-encode_with lower_digits (x ∷ xs)))
+same_bytes (x ∷ xs) (y ∷ ys) hx hy e = ok_is (x ∷ xs) (y ∷ ys) (decode_of (encode_lower (x ∷ xs))) (decode_of-encode_lower (x ∷ xs) (is_bytes (x ∷ xs) hx)) (ap decode_of e ∙ decode_of-encode_lower (y ∷ ys) (is_bytes (y ∷ ys) hy))
+
+-- the field at a place of equal lists
+field : (fs gs : List (List ℕ)) (i : ℕ) → fs ≡ gs → get_or fs i [] ≡ get_or gs i []
+field fs gs i e = ap (λ (xs : List (List ℕ)). get_or xs i []) e
+
+-- ---- lines
+
+made_slot : ℕ → ℕ → ℕ → ℕ → Bool → ℕ → ℕ → SlotSpec
+made_slot base len start count read_only cols rows =
+    record { base = base; len = len; extent = record { start = start; count = count }; read_only = read_only; cols = cols; rows = rows }
+
+same_slot_fields : (s t : SlotSpec) → slot_fields s ≡ slot_fields t → s ≡ t
+unfolding made_slot
+same_slot_fields s t e =
+    let base = same_num s.base t.base (field (slot_fields s) (slot_fields t) 1 e) in
+    let len = same_num s.len t.len (field (slot_fields s) (slot_fields t) 2 e) in
+    let start = same_num s.extent.start t.extent.start (field (slot_fields s) (slot_fields t) 3 e) in
+    let count = same_num s.extent.count t.extent.count (field (slot_fields s) (slot_fields t) 4 e) in
+    let read_only = same_mode s.read_only t.read_only (field (slot_fields s) (slot_fields t) 5 e) in
+    let cols = same_num s.cols t.cols (field (slot_fields s) (slot_fields t) 6 e) in
+    let rows = same_num s.rows t.rows (field (slot_fields s) (slot_fields t) 7 e) in
+    ap (λ (x : ℕ). made_slot x s.len s.extent.start s.extent.count s.read_only s.cols s.rows) base
+    ∙ ap (λ (x : ℕ). made_slot t.base x s.extent.start s.extent.count s.read_only s.cols s.rows) len
+    ∙ ap (λ (x : ℕ). made_slot t.base t.len x s.extent.count s.read_only s.cols s.rows) start
+    ∙ ap (λ (x : ℕ). made_slot t.base t.len t.extent.start x s.read_only s.cols s.rows) count
+    ∙ ap (λ (x : Bool). made_slot t.base t.len t.extent.start t.extent.count x s.cols s.rows) read_only
+    ∙ ap (λ (x : ℕ). made_slot t.base t.len t.extent.start t.extent.count t.read_only x s.rows) cols
+    ∙ ap (λ (x : ℕ). made_slot t.base t.len t.extent.start t.extent.count t.read_only t.cols x) rows
+
+-- the second byte of the first field, which differs for each event's word
+sign : List (List ℕ) → ℕ
+sign fs = get_or (get_or fs 0 []) 1 0
+
+same_what : {A : Type 0} (m n : ℕ) (v w : EventKind A) → KindInRange v → KindInRange w → IsPrintableKind v → IsPrintableKind w → what_fields m v ≡ what_fields n w → (m ≡ n) × (v ≡ w)
+unfolding sign
+same_what m n (what.Read k o w) (what.Read l p x) rv rw' fv fw e =
+    let slot = same_num m n (ap (λ (fs : List (List ℕ)). get_or fs 1 []) e) in
+    let kind = same_window k l (ap (λ (fs : List (List ℕ)). get_or fs 2 []) e) in
+    let offset = same_fixed 3 o p fv.three_digits fw.three_digits (ap (λ (fs : List (List ℕ)). get_or fs 3 []) e) in
+    let width : w ≡ x = omega (arith, ap (λ (fs : List (List ℕ)). get_or (get_or fs 4 []) 0 0) e) in
+    (slot, cc)
+same_what m n (what.MemRead a l) (what.MemRead b k) rv rw' fv fw e =
+    let slot = same_num m n (ap (λ (fs : List (List ℕ)). get_or fs 1 []) e) in
+    let addr = same_num a b (ap (λ (fs : List (List ℕ)). get_or fs 2 []) e) in
+    let len = same_num l k (ap (λ (fs : List (List ℕ)). get_or fs 3 []) e) in
+    (slot, cc)
+same_what m n (what.MemWrite a xs) (what.MemWrite b ys) rv rw' fv fw e =
+    let slot = same_num m n (ap (λ (fs : List (List ℕ)). get_or fs 1 []) e) in
+    let addr = same_num a b (ap (λ (fs : List (List ℕ)). get_or fs 2 []) e) in
+    let data' = same_bytes xs ys rv.each rw'.each (ap (λ (fs : List (List ℕ)). get_or fs 3 []) e) in
+    (slot, cc)
+same_what m n (what.Read k o w) (what.MemRead b l) rv rw' fv fw e = absurd (omega (arith, ap sign e))
+same_what m n (what.Read k o w) (what.MemWrite b ys) rv rw' fv fw e = absurd (omega (arith, ap sign e))
+same_what m n (what.MemRead a l) (what.Read k o w) rv rw' fv fw e = absurd (omega (arith, ap sign e))
+same_what m n (what.MemRead a l) (what.MemWrite b ys) rv rw' fv fw e = absurd (omega (arith, ap sign e))
+same_what m n (what.MemWrite a xs) (what.Read k o w) rv rw' fv fw e = absurd (omega (arith, ap sign e))
+same_what m n (what.MemWrite a xs) (what.MemRead b l) rv rw' fv fw e = absurd (omega (arith, ap sign e))
+
+same_event_fields : {A : Type 0} (d e : Event A) → IsFine d → IsFine e → event_fields d ≡ event_fields e → d ≡ e
+same_event_fields d e fd fe h =
+    let both = same_what d.slot e.slot d.what e.what fd.fits.what fe.fits.what fd.printable fe.printable h in
+    ap (λ (n : ℕ). record { slot = n; what = d.what }) both.0 ∙ ap (λ w. record { slot = e.slot; what = w }) both.1
+
+same_slot_line : (s t : SlotSpec) → slot_line s ≡ slot_line t → s ≡ t
+same_slot_line s t e = same_slot_fields s t (sym (cut_slot s) ∙ ap fields_of e ∙ cut_slot t)
+
+same_event_line : {A : Type 0} (d e : Event A) → IsFine d → IsFine e → event_line d ≡ event_line e → d ≡ e
+same_event_line d e hd he h = same_event_fields d e hd he (sym (cut_event d hd.fits) ∙ ap fields_of h ∙ cut_event e he.fits)
+
+-- a slot's line is no event's
+other_line : {A : Type 0} (s : SlotSpec) (e : Event A) → SlotInRange s → IsFine e → slot_line s ≡ event_line e → ⊥
+other_line s e hs he h =
+    let event = entered_event e he in
+    let slot = entered_slot s hs in
+    let words : spelled Slot ≡ spelled event.word = ap (λ (fs : List (List ℕ)). get_or fs 0 []) (sym slot.cut ∙ ap fields_of h ∙ event.entry.cut) in
+    event.other (sym (same_word Slot event.word words))
+
+-- ---- traces
+
+abbrev AllFine : {A : Type 0} → List (Event A) → Type 0
+AllFine es = All IsFine es
+
+same_events : {A : Type 0} (ds es : List (Event A)) → AllFine ds → AllFine es → map event_line ds ≡ map event_line es → ds ≡ es
+same_events [] [] hd he e = refl
+same_events [] (y ∷ es) hd he e = absurd cc
+same_events (x ∷ ds) [] hd he e = absurd cc
+same_events (x ∷ ds) (y ∷ es) hd he e =
+    let first : event_line x ≡ event_line y = cc in
+    let rest : map event_line ds ≡ map event_line es = cc in
+    let a = same_event_line x y (hd 0 x (omega arith)) (he 0 y (omega arith)) first in
+    let b = same_events ds es (λ k d lt. hd (suc k) d (omega arith)) (λ k d lt. he (suc k) d (omega arith)) rest in
+    cc
+
+same_parts : {A : Type 0} (ss ts : List SlotSpec) (ds es : List (Event A)) → All SlotInRange ss → All SlotInRange ts → AllFine ds → AllFine es
+    → map slot_line ss ++ map event_line ds ≡ map slot_line ts ++ map event_line es → (ss ≡ ts) × (ds ≡ es)
+same_parts [] [] ds es hs ht hd he e = (refl, same_events ds es hd he e)
+same_parts [] (t ∷ ts) [] es hs ht hd he e = absurd cc
+same_parts [] (t ∷ ts) (d ∷ ds) es hs ht hd he e =
+    let first : event_line d ≡ slot_line t = cc in absurd (other_line t d (ht 0 t (omega arith)) (hd 0 d (omega arith)) (sym first))
+same_parts (s ∷ ss) [] ds [] hs ht hd he e = absurd cc
+same_parts (s ∷ ss) [] ds (x ∷ es) hs ht hd he e =
+    let first : slot_line s ≡ event_line x = cc in absurd (other_line s x (hs 0 s (omega arith)) (he 0 x (omega arith)) first)
+same_parts (s ∷ ss) (t ∷ ts) ds es hs ht hd he e =
+    let first : slot_line s ≡ slot_line t = cc in
+    let rest : map slot_line ss ++ map event_line ds ≡ map slot_line ts ++ map event_line es = cc in
+    let a = same_slot_line s t first in
+    let b = same_parts ss ts ds es (λ k d lt. hs (suc k) d (omega arith)) (λ k d lt. ht (suc k) d (omega arith)) hd he rest in
+    (let c = b.0 in cc, b.1)
+
+all_fine : {A : Type 0} (c : Content A) → Fits c → AllFine c.events
+all_fine c h = λ k d lt. record { fits = h.range.events k d lt; printable = h.printable k d lt }
+
+lines_of_text : {A : Type 0} (c : Content A) → Fits c → lines_of (text c) ≡ trace_lines c ++ lines_of []
+lines_of_text c h = ap lines_of (sym (append-nil (text c))) ∙ lines_of-joined (trace_lines c) [] (unbroken c h)
+
+same_lines : {A : Type 0} (c d : Content A) → Fits c → Fits d → trace_lines c ≡ trace_lines d → c ≡ d
+unfolding trace_lines
+same_lines c d hc hd e =
+    let caches : cache_line c.cache ≡ cache_line d.cache = ap (λ (ls : List (List ℕ)). get_or ls 1 []) e in
+    let cache = same_num c.cache d.cache (ap (λ (fs : List (List ℕ)). get_or fs 1 []) (sym (cut_cache c.cache) ∙ ap fields_of caches ∙ cut_cache d.cache)) in
+    let parts = same_parts c.slots d.slots c.events d.events hc.range.slots hd.range.slots (all_fine c hc) (all_fine d hd) (ap (drop 2) e) in
+    ap (λ (n : ℕ). record { cache = n; slots = c.slots; events = c.events }) cache
+    ∙ ap (λ (ss : List SlotSpec). record { cache = d.cache; slots = ss; events = c.events }) parts.0
+    ∙ ap (λ es. record { cache = d.cache; slots = d.slots; events = es }) parts.1
+
+-- a text belongs to one trace
+pub one_trace : {A : Type 0} (c d : Content A) → Fits c → Fits d → text c ≡ text d → c ≡ d
+one_trace c d hc hd e =
+    same_lines c d hc hd (append_cancel_right (trace_lines c) (trace_lines d) (lines_of []) (sym (lines_of_text c hc) ∙ ap lines_of e ∙ lines_of_text d hd))
+
+-- the text of a trace has no fault
+whole_so : {A : Type 0} (whole : List ℕ) (c : Content A) → Fits c → whole ≡ text c → Sofar whole c (3 + (length c.slots + length c.events)) []
+whole_so whole c h e = record { spelled = e ∙ sym (append-nil (text c)); fits = h; count = refl }
+
+nothing_left : lines_of [] ≡ [] ∷ []
+unfolding lines_of
+nothing_left = refl
+
+past : (text : List ℕ) (k : ℕ) → 3 ≤ k → ¬ IsEnded text k → line_at text k ≡ [] → (fault : FaultKind) → Passes text k fault
+past text k le open' none kind.Cut = λ owed. elim owed [ inl early ↦ absurd (omega arith) | inr some ↦ absurd (some none) ]
+past text k le open' none kind.Header = λ end. absurd (open' end)
+past text k le open' none kind.Word = λ end. absurd (open' end)
+past text k le open' none kind.Order = λ end. absurd (open' end)
+past text k le open' none kind.Fields = λ end. absurd (open' end)
+past text k le open' none kind.Number = λ end. absurd (open' end)
+past text k le open' none kind.Choice = λ end. absurd (open' end)
+past text k le open' none kind.Bytes = λ end. absurd (open' end)
+past text k le open' none kind.NoMemory = tt
+
+empty_past : {A : Type 0} (whole : List ℕ) (c : Content A) (k : ℕ) → Fits c → whole ≡ text c → 3 + (length c.slots + length c.events) ≤ k → line_at whole k ≡ []
+empty_past whole c k h e le =
+    let so = whole_so whole c h e in
+    let total = lines_left whole c (3 + (length c.slots + length c.events)) [] so in
+    let last = ap length nothing_left in
+    elim (cases_eq k (3 + (length c.slots + length c.events))) [
+      | inl here ↦ ap (line_at whole) here ∙ next_is whole c (3 + (length c.slots + length c.events)) [] so ∙ ap (λ (ls : List (List ℕ)). get_or ls 0 []) nothing_left
+      | inr later ↦ get_or_past (lines_of whole) (k - 1) [] (omega arith)
+    ]
+
+pub no_fault : {A : Type 0} (whole : List ℕ) (c : Content A) (k : ℕ) (fault : FaultKind) → Fits c → whole ≡ text c → IsFault whole k fault → ⊥
+no_fault whole c k fault h e f =
+    let so = whole_so whole c h e in
+    let total = lines_left whole c (3 + (length c.slots + length c.events)) [] so in
+    let last = ap length nothing_left in
+    elim (cases_lt k (3 + (length c.slots + length c.events))) [
+      | inl before ↦ f.fails (clean whole c (3 + (length c.slots + length c.events)) [] so k f.numbered before fault)
+      | inr after ↦ f.fails (past whole k (omega arith) (λ end. omega arith) (empty_past whole c k h e after) fault)
+    ]
+
+-- ---- a text has one fault
+
+kind_at : ℕ → FaultKind
+kind_at n = cond (eqb n 1) kind.Cut (cond (eqb n 2) kind.Header (cond (eqb n 3) kind.Word (cond (eqb n 4) kind.Order (cond (eqb n 5) kind.Fields (cond (eqb n 6) kind.Number (cond (eqb n 7) kind.Choice (cond (eqb n 8) kind.Bytes kind.NoMemory)))))))
+
+kind_is : (c : FaultKind) → kind_at (order c) ≡ c
+unfolding kind_at
+kind_is kind.Cut = refl
+kind_is kind.Header = refl
+kind_is kind.Word = refl
+kind_is kind.Order = refl
+kind_is kind.Fields = refl
+kind_is kind.Number = refl
+kind_is kind.Choice = refl
+kind_is kind.Bytes = refl
+kind_is kind.NoMemory = refl
+
+same_kind : (c d : FaultKind) → order c ≡ order d → c ≡ d
+same_kind c d e = sym (kind_is c) ∙ ap kind_at e ∙ kind_is d
+
+same_line : (text : List ℕ) (k l : ℕ) (c d : FaultKind) → IsFault text k c → IsFault text l d → k ≡ l
+same_line text k l c d f g =
+    elim (cases_order k l) [
+      | inl same ↦ same
+      | inr other ↦ elim other [
+        | inl lt ↦ absurd (f.fails (g.before k f.numbered lt c))
+        | inr lt ↦ absurd (g.fails (f.before l g.numbered lt d))
+      ]
+    ]
+
+same_check : (text : List ℕ) (k : ℕ) (c d : FaultKind) → IsFault text k c → IsFault text k d → c ≡ d
+same_check text k c d f g =
+    elim (cases_order (order c) (order d)) [
+      | inl same ↦ same_kind c d same
+      | inr other ↦ elim other [
+        | inl lt ↦ absurd (f.fails (g.earlier c lt))
+        | inr lt ↦ absurd (g.fails (f.earlier d lt))
+      ]
+    ]
+
+pub one_fault : (text : List ℕ) (k l : ℕ) (c d : FaultKind) → IsFault text k c → IsFault text l d → (k ≡ l) × (c ≡ d)
+one_fault text k l c d f g =
+    let line = same_line text k l c d f g in
+    (line, same_check text k c d f (subst (λ (n : ℕ). IsFault text n d) (sym line) g))
+
+-- what was read is the one trace of its text
+pub only_told : {X E A : Type 0} (r : Result X E) (see : X → Content A) (whole : List ℕ) → IfOk r (λ x. whole ≡ text (see x)) → IfOk r (λ x. IsPrintable (see x)) → IfOk r (λ x. InRange (see x))
+    → IfOk r (λ x. (u : Content A) → InRange u → IsPrintable u → whole ≡ text u → u ≡ see x)
+only_told (Ok x) see whole found fine range = λ u ru pu e. one_trace u (see x) (record { range = ru; printable = pu }) (record { range = range; printable = fine }) (sym e ∙ found)
+only_told (Err e) see whole found fine range = tt

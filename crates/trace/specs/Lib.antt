@@ -1,0 +1,11 @@
+pub mod Spelling
+pub mod Cuts
+pub mod Words
+pub mod Text
+pub mod Printable
+pub mod Faults
+pub mod Refusals
+pub mod Records
+pub mod LastLine
+pub mod OneSlot
+pub mod Replay

@@ -1,0 +1,55 @@
+-- Which traces have a text.
+use Rattle.std.specs.Prelude.{ℕ, ◌^◌, ◌<◌, List, All, ⊤}
+use Rattle.board.specs.declared.event.Event.{Event}
+use Rattle.board.specs.declared.event.EventKind.{EventKind}
+use Rattle.board.specs.declared.event.EventKind.TheVariants.{Read, MemRead, MemWrite}
+use Rattle.board.specs.declared.spec.SlotSpec.{SlotSpec}
+use Rattle.trace.specs.Text.{Content}
+use Rattle.trace.specs.Words.{IsWidth}
+
+-- an access to a register that has a spelling: its offset has three digits, and its width is 1, 2 or 4
+pub record IsAccess (offset width : ℕ) : Type 0 where
+  pub three_digits : offset < 0x1000
+  pub wide : IsWidth width
+
+-- what has a spelling
+abbrev pub IsPrintableKind : {A : Type 0} → EventKind A → Type 0
+IsPrintableKind (Read kind offset width) = IsAccess offset width
+IsPrintableKind (MemRead addr len) = ⊤
+IsPrintableKind (MemWrite addr bs) = ⊤
+
+-- a trace that has a text: each of its events has a line
+abbrev pub IsPrintable : {A : Type 0} → Content A → Type 0
+IsPrintable t = All (λ e. IsPrintableKind e.what) t.events
+
+-- What the integers of a trace give by themselves, for a clause that speaks of every trace: in a clause
+-- a number has no upper bound.
+pub record SlotInRange (s : SlotSpec) : Type 0 where
+  pub base : s.base < 2 ^ 64
+  pub len : s.len < 2 ^ 64
+  pub start : s.extent.start < 2 ^ 64
+  pub count : s.extent.count < 2 ^ 64
+  pub cols : s.cols < 2 ^ 16
+  pub rows : s.rows < 2 ^ 16
+
+pub record RangeInRange (addr len : ℕ) : Type 0 where
+  pub from : addr < 2 ^ 64
+  pub size : len < 2 ^ 32
+
+pub record BytesInRange (addr : ℕ) (bs : List ℕ) : Type 0 where
+  pub from : addr < 2 ^ 64
+  pub each : All (λ b. b < 2 ^ 8) bs
+
+abbrev pub KindInRange : {A : Type 0} → EventKind A → Type 0
+KindInRange (Read kind offset width) = ⊤
+KindInRange (MemRead addr len) = RangeInRange addr len
+KindInRange (MemWrite addr bs) = BytesInRange addr bs
+
+pub record EventInRange {A : Type 0} (e : Event A) : Type 0 where
+  pub slot : e.slot < 2 ^ 8
+  pub what : KindInRange e.what
+
+pub record InRange {A : Type 0} (t : Content A) : Type 0 where
+  pub cache : t.cache < 2 ^ 32
+  pub slots : All SlotInRange t.slots
+  pub events : All EventInRange t.events

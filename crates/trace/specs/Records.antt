@@ -1,0 +1,28 @@
+-- The one text of some records: a line for each, ended by a line feed.
+use Rattle.std.specs.Prelude.{ℕ, List, [], ◌∷◌, ◌++◌, codes, map}
+use Rattle.board.specs.declared.reply.Record.{Record}
+use Rattle.board.specs.declared.reply.Reply.{Reply}
+use Rattle.board.specs.declared.reply.Reply.TheVariants as reply
+use Rattle.trace.specs.Spelling.{digit, num, fixed, bytes}
+use Rattle.trace.specs.Text.{line, joined}
+
+-- what was answered: a value by eight digits, bytes, or a word
+abbrev pub reply_field : {A : Type 0} → Reply A → List ℕ
+reply_field (reply.Value v) = codes "v:" ++ fixed 8 v
+reply_field reply.Done = codes "done"
+reply_field (reply.Bytes bs) = codes "b:" ++ bytes bs
+reply_field reply.BadSlot = codes "badslot"
+reply_field reply.BadRange = codes "badrange"
+reply_field reply.NoMemory = codes "nomem"
+
+-- the slot, the reply, the console output, and InterruptStatus of both windows by one digit each
+abbrev pub record_fields : {A : Type 0} → Record A → List (List ℕ)
+record_fields entry =
+    num entry.slot ∷ reply_field entry.reply ∷ bytes entry.output ∷ (digit entry.block_irq ∷ []) ∷ (digit entry.console_irq ∷ []) ∷ []
+
+unfoldable pub record_line : {A : Type 0} → Record A → List ℕ
+record_line entry = line (record_fields entry)
+
+-- the text of some records
+abbrev pub records_text : {A : Type 0} → List (Record A) → List ℕ
+records_text records = joined (map record_line records)

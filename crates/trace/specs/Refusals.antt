@@ -1,0 +1,121 @@
+-- Why one line is refused, once its word is known: what a function that reads its fields answers.
+use Rattle.std.specs.Prelude.{◌≡◌, ℕ, ◌^◌, ◌<◌, ◌∷◌, ◌++◌, [], ⊤, nat_lt, Bool, true, List, length}
+use Rattle.trace.specs.declared.fault.FaultKind.{FaultKind}
+use Rattle.trace.specs.declared.fault.FaultKind.TheVariants as kind
+use Rattle.board.specs.declared.event.Event.{Event}
+use Rattle.trace.specs.Printable.{EventInRange, IsPrintableKind}
+use Rattle.trace.specs.Cuts.{lines_of, fields_of}
+use Rattle.trace.specs.Faults.{AllSay, MayStand, first_field, other_fields}
+use Rattle.trace.specs.Text.{Content, header, cache_fields, slot_fields, event_fields}
+use Rattle.trace.specs.Printable.{SlotInRange}
+use Rattle.trace.specs.declared.entry.Entry.{Entry}
+use Rattle.trace.specs.declared.entry.Entry.TheVariants as entry
+use Rattle.trace.specs.declared.word.Word.{Word}
+use Rattle.trace.specs.declared.word.Word.TheVariants.{Cache, Slot}
+use Rattle.trace.specs.Words.{Shape, Bytes, Says, spelled, shapes}
+
+-- an event that its integers admit and that has a line
+pub record IsFine {A : Type 0} (e : Event A) : Type 0 where
+  pub fits : EventInRange e
+  pub printable : IsPrintableKind e.what
+
+-- a field is no bytes, or there was no memory for them
+abbrev pub RefusesBytes : List ℕ → FaultKind → Type 0
+RefusesBytes field kind.Bytes = ¬ Says Bytes field
+RefusesBytes field kind.NoMemory = ⊤
+RefusesBytes field _ = ⊥
+
+-- the fields are as many as the shapes
+abbrev pub AreAsMany : List Shape → List (List ℕ) → Type 0
+AreAsMany shapes fields = length fields ≡ length shapes
+
+-- fields that were to have these shapes fail this check, and pass those before it
+abbrev pub RefusesFields : List Shape → List (List ℕ) → FaultKind → Type 0
+RefusesFields shapes fields kind.Fields = ¬ AreAsMany shapes fields
+RefusesFields shapes fields kind.Number = AreAsMany shapes fields × (¬ AllSay kind.Number shapes fields)
+RefusesFields shapes fields kind.Choice =
+    AreAsMany shapes fields × AllSay kind.Number shapes fields × (¬ AllSay kind.Choice shapes fields)
+RefusesFields shapes fields kind.Bytes =
+    AreAsMany shapes fields × AllSay kind.Number shapes fields × AllSay kind.Choice shapes fields × (¬ AllSay kind.Bytes shapes fields)
+RefusesFields shapes fields kind.NoMemory = ⊤
+RefusesFields shapes fields _ = ⊥
+
+-- a line after the second is refused, where events may have begun before it: it has no word, or is a slot
+-- after an event, or its fields are refused
+pub record RefusesAfterWord (begun : Bool) (line : List ℕ) (fault : FaultKind) : Type 0 where
+  pub word : Word
+  pub may : MayStand 3 word
+  pub first : first_field line ≡ spelled word
+  pub ordered : begun ≡ true → word ≡ Slot → ⊥
+  pub refused : RefusesFields (shapes word) (other_fields line) fault
+
+abbrev pub RefusesLine : Bool → List ℕ → FaultKind → Type 0
+RefusesLine begun line kind.Word = (word : Word) → MayStand 3 word → ¬ (first_field line ≡ spelled word)
+RefusesLine begun line kind.Order = (begun ≡ true) × (first_field line ≡ spelled Slot)
+RefusesLine begun line fault = RefusesAfterWord begun line fault
+
+-- the fields of what was read
+abbrev pub entry_fields : {A : Type 0} → Entry A → List (List ℕ)
+entry_fields (entry.Slot s) = slot_fields s
+entry_fields (entry.Event e) = event_fields e
+
+-- what was read has a line, and a slot comes before every event
+abbrev pub IsFineEntry : {A : Type 0} → Bool → Entry A → Type 0
+IsFineEntry begun (entry.Slot s) = SlotInRange s × (begun ≡ true → ⊥)
+IsFineEntry begun (entry.Event e) = IsFine e
+
+-- the first line is cut off, or isn't the header
+pub record IsOtherHead (text : List ℕ) : Type 0 where
+  pub head : List ℕ
+  pub rest : List ℕ
+  pub cut : lines_of text ≡ head ∷ lines_of rest
+  pub other : head ≡ header → ⊥
+
+abbrev pub RefusesHead : List ℕ → FaultKind → Type 0
+RefusesHead text kind.Cut = lines_of text ≡ text ∷ []
+RefusesHead text kind.Header = IsOtherHead text
+RefusesHead text _ = ⊥
+
+-- a text whose first line is that of the cache
+pub record IsSecond (text : List ℕ) (sectors : ℕ) (rest : List ℕ) : Type 0 where
+  pub fits : sectors < 2 ^ 32
+  pub line : List ℕ
+  pub ended : text ≡ line ++ 10 ∷ rest
+  pub fields : fields_of line ≡ cache_fields sectors
+
+-- a text whose first line is ended and begins with another word
+pub record IsOtherWord (text : List ℕ) : Type 0 where
+  pub line : List ℕ
+  pub rest : List ℕ
+  pub cut : lines_of text ≡ line ∷ lines_of rest
+  pub other : first_field line ≡ spelled Cache → ⊥
+
+-- a text whose first line is that of the cache but for its fields
+pub record RefusesCache (text : List ℕ) (fault : FaultKind) : Type 0 where
+  pub line : List ℕ
+  pub rest : List ℕ
+  pub cut : lines_of text ≡ line ∷ lines_of rest
+  pub first : first_field line ≡ spelled Cache
+  pub refused : RefusesFields (shapes Cache) (other_fields line) fault
+
+-- the second line, at the front of a text, is refused
+abbrev pub RefusesSecond : List ℕ → FaultKind → Type 0
+RefusesSecond text kind.Cut = lines_of text ≡ text ∷ []
+RefusesSecond text kind.Word = IsOtherWord text
+RefusesSecond text fault = RefusesCache text fault
+
+-- whether an event was read
+abbrev pub has_begun : {A : Type 0} → Content A → Bool
+has_begun c = nat_lt 0 (length c.events)
+
+-- a trace with one slot or event more
+abbrev pub with_entry : {A : Type 0} → Content A → Entry A → Content A
+with_entry c (entry.Slot s) = record c { slots = c.slots ++ s ∷ [] }
+with_entry c (entry.Event e) = record c { events = c.events ++ e ∷ [] }
+
+-- the new trace is the old one with what the line says
+pub record AddsLine {A : Type 0} (old : Content A) (line : List ℕ) (new : Content A) : Type 0 where
+  pub entry : Entry A
+  pub fields : fields_of line ≡ entry_fields entry
+  pub fine : IsFineEntry (has_begun old) entry
+  pub added : new ≡ with_entry old entry

@@ -1,0 +1,39 @@
+-- How each field of a trace and of the records is spelled, as a list of ASCII bytes.
+use Rattle.std.specs.Prelude.{ℕ, zero, suc, ◌+◌, ◌/◌, ◌%◌, Bool, true, false, List, [], ◌∷◌, ◌++◌, map, slice_index, codes}
+use Rattle.std.specs.Int.Digits.{digits_of}
+use Rattle.hex.specs.Hex.{lower_digits, encode_lower}
+use Rattle.board.specs.declared.event.DeviceKind.{DeviceKind}
+use Rattle.board.specs.declared.event.DeviceKind.TheVariants.{Block, Console}
+
+-- the lower case hexadecimal digit of a number below 16
+unfoldable pub digit : ℕ → ℕ
+digit d = slice_index lower_digits d
+
+-- a whole number in hexadecimal, the highest digit first and without leading zeros; zero is `0`
+unfoldable pub num : ℕ → List ℕ
+num zero = codes "0"
+num (suc n) = map digit (digits_of 16 (suc n))
+
+-- exactly k digits of a number below 16 ^ k, leading zeros included
+unfoldable pub fixed : ℕ → ℕ → List ℕ
+fixed zero n = []
+fixed (suc k) n = fixed k (n / 16) ++ digit (n % 16) ∷ []
+
+-- bytes as two digits each, and none as `-`
+unfoldable pub bytes : List ℕ → List ℕ
+bytes [] = codes "-"
+bytes (b ∷ bs) = encode_lower (b ∷ bs)
+
+-- the window of a kind of device
+abbrev pub window : DeviceKind → List ℕ
+window Block = codes "b"
+window Console = codes "c"
+
+-- whether a slot is read-only
+abbrev pub mode : Bool → List ℕ
+mode false = codes "rw"
+mode true = codes "ro"
+
+-- the width of a register access, which is one digit (48 is `0`)
+abbrev pub width_digit : ℕ → List ℕ
+width_digit width = (48 + width) ∷ []

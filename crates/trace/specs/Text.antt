@@ -1,0 +1,84 @@
+-- The one text of a trace: its lines in order, each ended by a line feed.
+use Rattle.std.specs.Prelude.{ℕ, List, [], ◌∷◌, ◌++◌, map, codes}
+use Rattle.std.specs.List.{flat_map, join_with_byte}
+use Rattle.board.specs.declared.event.DeviceKind.{DeviceKind}
+use Rattle.board.specs.declared.event.Event.{Event}
+use Rattle.board.specs.declared.event.EventKind.{EventKind}
+use Rattle.board.specs.declared.event.EventKind.TheVariants as what
+use Rattle.board.specs.declared.spec.SlotSpec.{SlotSpec}
+use Rattle.trace.specs.declared.trace.Trace.{Trace}
+use Rattle.trace.specs.declared.word.Word.TheVariants.{Cache, Slot, Read, MemRead, MemWrite}
+use Rattle.trace.specs.Spelling.{num, fixed, bytes, window, width_digit, mode}
+use Rattle.trace.specs.Words.{spelled}
+
+-- a trace without where it lies in memory
+pub record Content (A : Type 0) : Type 0 where
+  pub cache : ℕ
+  pub slots : List SlotSpec
+  pub events : List (Event A)
+
+abbrev pub content : {A : Type 0} → Trace A → Content A
+content t = record { cache = t.cache; slots = t.slots.items; events = t.events.items }
+
+-- a line of fields: a space stands between two of them
+abbrev pub line : List (List ℕ) → List ℕ
+line fields = join_with_byte 32 fields
+
+-- the first line, which names the format and its version
+abbrev pub header : List ℕ
+header = codes "vreplay 1"
+
+abbrev pub cache_fields : ℕ → List (List ℕ)
+cache_fields sectors = spelled Cache ∷ num sectors ∷ []
+
+abbrev pub slot_fields : SlotSpec → List (List ℕ)
+slot_fields s =
+    spelled Slot ∷ num s.base ∷ num s.len ∷ num s.extent.start ∷ num s.extent.count ∷ mode s.read_only ∷ num s.cols ∷ num s.rows ∷ []
+
+-- a read of a register, a read of memory, and a write of memory
+abbrev pub read_fields : ℕ → DeviceKind → ℕ → ℕ → List (List ℕ)
+read_fields slot kind offset width = spelled Read ∷ num slot ∷ window kind ∷ fixed 3 offset ∷ width_digit width ∷ []
+
+abbrev pub mem_read_fields : ℕ → ℕ → ℕ → List (List ℕ)
+mem_read_fields slot addr len = spelled MemRead ∷ num slot ∷ num addr ∷ num len ∷ []
+
+abbrev pub mem_write_fields : ℕ → ℕ → List ℕ → List (List ℕ)
+mem_write_fields slot addr bs = spelled MemWrite ∷ num slot ∷ num addr ∷ bytes bs ∷ []
+
+-- the fields of what a slot does
+abbrev pub what_fields : {A : Type 0} → ℕ → EventKind A → List (List ℕ)
+what_fields slot (what.Read kind offset width) = read_fields slot kind offset width
+what_fields slot (what.MemRead addr len) = mem_read_fields slot addr len
+what_fields slot (what.MemWrite addr bs) = mem_write_fields slot addr bs
+
+abbrev pub event_fields : {A : Type 0} → Event A → List (List ℕ)
+event_fields e = what_fields e.slot e.what
+
+-- the line of a slot, and that of an event
+unfoldable pub slot_line : SlotSpec → List ℕ
+slot_line s = line (slot_fields s)
+
+unfoldable pub event_line : {A : Type 0} → Event A → List ℕ
+event_line e = line (event_fields e)
+
+unfoldable pub cache_line : ℕ → List ℕ
+cache_line sectors = line (cache_fields sectors)
+
+-- the lines of a trace: the header, the cache, the slots, the events
+unfoldable pub trace_lines : {A : Type 0} → Content A → List (List ℕ)
+trace_lines t = header ∷ cache_line t.cache ∷ map slot_line t.slots ++ map event_line t.events
+
+-- lines as a text, each ended by a line feed
+abbrev pub ended : List ℕ → List ℕ
+ended l = l ++ 10 ∷ []
+
+unfoldable pub joined : List (List ℕ) → List ℕ
+joined lines = flat_map ended lines
+
+-- the text of a trace
+abbrev pub text : {A : Type 0} → Content A → List ℕ
+text t = joined (trace_lines t)
+
+-- its first two lines
+abbrev pub front_text : ℕ → List ℕ
+front_text cache = ended header ++ ended (cache_line cache)

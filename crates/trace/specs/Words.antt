@@ -1,0 +1,76 @@
+-- The table of a trace's lines: the word that each begins with, and what the fields after it say.
+use Rattle.std.specs.Prelude.{◌≡◌, ℕ, ◌^◌, ◌<◌, ◌⊎◌, Bool, List, [], ◌∷◌, codes, length, ◌%◌, All}
+use Rattle.board.specs.declared.event.DeviceKind.{DeviceKind}
+use Rattle.trace.specs.declared.word.Word.{Word}
+use Rattle.trace.specs.declared.word.Word.TheVariants.{Cache, Slot, Read, MemRead, MemWrite}
+use Rattle.trace.specs.Spelling.{digit, num, fixed, bytes, window, width_digit, mode}
+
+-- the field is a number of that many bits, without leading zeros
+pub record IsNum (bits : ℕ) (field : List ℕ) (n : ℕ) : Type 0 where
+  pub fits : n < 2 ^ bits
+  pub spelled : field ≡ num n
+
+-- the field is a number by exactly that many digits
+pub record IsFixed (digits : ℕ) (field : List ℕ) (n : ℕ) : Type 0 where
+  pub fits : n < 16 ^ digits
+  pub spelled : field ≡ fixed digits n
+
+-- how many bytes a register access may have
+abbrev pub IsWidth : ℕ → Type 0
+IsWidth width = (width ≡ 1) ⊎ ((width ≡ 2) ⊎ (width ≡ 4))
+
+-- the field is the width of a register access
+pub record IsWidthField (field : List ℕ) (width : ℕ) : Type 0 where
+  pub fits : IsWidth width
+  pub spelled : field ≡ width_digit width
+
+-- the field is bytes by two digits each, or `-` for none
+pub record IsBytesField (field bs : List ℕ) : Type 0 where
+  pub fits : All (λ b. b < 2 ^ 8) bs
+  pub spelled : field ≡ bytes bs
+
+-- a byte that is a lower case hexadecimal digit
+pub record IsDigit (c : ℕ) : Type 0 where
+  pub value : ℕ
+  pub small : value < 16
+  pub is : c ≡ digit value
+
+-- some digits, two and two
+pub record ArePairs (field : List ℕ) : Type 0 where
+  pub some : 0 < length field
+  pub even : length field % 2 ≡ 0
+  pub digits : All IsDigit field
+
+-- the shapes of fields
+pub data Shape : Type 0 where
+  Num : (bits : ℕ) → Shape
+  Offset : Shape
+  Window : Shape
+  Width : Shape
+  Mode : Shape
+  Bytes : Shape
+
+-- the field has a shape where some value of it is spelled so
+abbrev pub Says : Shape → List ℕ → Type 0
+Says (Num bits) field = (n : ℕ) × IsNum bits field n
+Says Offset field = (n : ℕ) × IsFixed 3 field n
+Says Window field = (kind : DeviceKind) × (field ≡ window kind)
+Says Width field = (width : ℕ) × IsWidthField field width
+Says Mode field = (read_only : Bool) × (field ≡ mode read_only)
+Says Bytes field = (bs : List ℕ) × IsBytesField field bs
+
+-- how each word is spelled
+abbrev pub spelled : Word → List ℕ
+spelled Cache = codes "cache"
+spelled Slot = codes "slot"
+spelled Read = codes "r"
+spelled MemRead = codes "mr"
+spelled MemWrite = codes "mw"
+
+-- the shapes of the fields after each word
+abbrev pub shapes : Word → List Shape
+shapes Cache = Num 32 ∷ []
+shapes Slot = Num 64 ∷ Num 64 ∷ Num 64 ∷ Num 64 ∷ Mode ∷ Num 16 ∷ Num 16 ∷ []
+shapes Read = Num 8 ∷ Window ∷ Offset ∷ Width ∷ []
+shapes MemRead = Num 8 ∷ Num 64 ∷ Num 32 ∷ []
+shapes MemWrite = Num 8 ∷ Num 64 ∷ Bytes ∷ []

@@ -1,0 +1,54 @@
+//! Fields that spell bytes.
+
+ghost use Rattle.std.specs.Prelude.{◌≡◌, ◌∷◌, [], ◌↔◌, All, IsTrue, IfOk, IfErr, OnOk};
+ghost use Rattle.trace.specs.Words.{ArePairs, IsBytesField, IsDigit, Says, Bytes as ByBytes};
+ghost use Rattle.trace.specs.Refusals.{RefusesBytes};
+
+use crate::digit::value_of;
+use crate::fault::FaultKind;
+use board::Bytes;
+use std::alloc::Allocator;
+
+/// Whether all bytes are lower case digits.
+fn are_digits(field: &[u8]) -> bool
+    ensures { IsTrue result ↔ All IsDigit field.now }
+{
+    for c in field {
+        if value_of(*c).is_none() {
+            return false;
+        }
+    }
+    true
+}
+
+/// Whether they are so, and in pairs.
+fn are_pairs(field: &[u8]) -> bool
+    ensures { IsTrue result ↔ ArePairs field.now }
+{
+    !field.is_empty() && field.len() % 2 == 0 && are_digits(field)
+}
+
+/// Whether the field says that there are no bytes.
+fn is_minus(field: &[u8]) -> bool
+    ensures { IsTrue result ↔ (field.now ≡ 45 ∷ []) }
+{
+    matches!(field, b"-")
+}
+
+/// The bytes that a field spells by two digits each, or by `-` where there are none.
+pub(crate) fn bytes_of<A: Allocator>(alloc: A, field: &[u8]) -> Result<Bytes<A>, FaultKind>
+    ensures ok { IfOk result (λ bs. IsBytesField field.now bs) }
+    ensures said { OnOk result (Says ByBytes field.now) }
+    ensures err { IfErr result (λ fault. RefusesBytes field.now fault) }
+{
+    if is_minus(field) {
+        return Ok(Bytes::new(alloc));
+    }
+    if !are_pairs(field) {
+        return Err(FaultKind::Bytes);
+    }
+    match hex::decode(alloc, field) {
+        Ok(bytes) => Ok(Bytes::from(bytes)),
+        Err(_) => Err(FaultKind::NoMemory),
+    }
+}

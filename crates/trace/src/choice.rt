@@ -1,0 +1,47 @@
+//! Fields that choose one of a few values.
+
+ghost use Rattle.std.specs.Prelude.{◌≡◌, IfSome, IfNone, OnSome};
+ghost use Rattle.trace.specs.Spelling.{window, mode};
+ghost use Rattle.trace.specs.Words.{IsWidthField, Says, Window, Width, Mode};
+
+use board::DeviceKind;
+
+/// The kind of device whose window a field names.
+pub(crate) fn window_of(field: &[u8]) -> Option<DeviceKind>
+    ensures some { IfSome result (λ kind. field.now ≡ window kind) }
+    ensures said { OnSome result (Says Window field.now) }
+    ensures none { IfNone result (¬ Says Window field.now) }
+{
+    match field {
+        b"b" => Some(DeviceKind::Block),
+        b"c" => Some(DeviceKind::Console),
+        _ => None,
+    }
+}
+
+/// The width of a register access, in bytes.
+pub(crate) fn width_of(field: &[u8]) -> Option<u8>
+    ensures some { IfSome result (λ width. IsWidthField field.now width) }
+    ensures said { OnSome result (Says Width field.now) }
+    ensures none { IfNone result (¬ Says Width field.now) }
+{
+    match field {
+        b"1" => Some(1),
+        b"2" => Some(2),
+        b"4" => Some(4),
+        _ => None,
+    }
+}
+
+/// Whether a slot is read-only.
+pub(crate) fn mode_of(field: &[u8]) -> Option<bool>
+    ensures some { IfSome result (λ read_only. field.now ≡ mode read_only) }
+    ensures said { OnSome result (Says Mode field.now) }
+    ensures none { IfNone result (¬ Says Mode field.now) }
+{
+    match field {
+        b"rw" => Some(false),
+        b"ro" => Some(true),
+        _ => None,
+    }
+}

@@ -1,0 +1,144 @@
+//! Reading the fields of one line, once its word is known.
+//!
+//! The numbers are looked at, then the choices, then the bytes, each from left to right, so that the fault
+//! that is answered is the first in the order of the checks.
+
+ghost use Rattle.std.specs.Prelude.{◌≡◌, ◌∷◌, [], IfOk, IfErr};
+ghost use Rattle.trace.specs.Printable.{SlotInRange};
+ghost use Rattle.trace.specs.Text.{event_fields, slot_fields};
+ghost use Rattle.trace.specs.Words.{shapes, spelled};
+ghost use Rattle.trace.specs.Refusals.{RefusesFields, IsFine};
+
+use crate::bytes::bytes_of;
+use crate::choice::{mode_of, width_of, window_of};
+use crate::fault::FaultKind;
+use crate::number::{number, number_u8, number_u16, number_u32, offset_of};
+use crate::word::Word;
+use board::{Event, EventKind, Extent, SlotSpec};
+use std::alloc::Allocator;
+
+/// A read of a register: slot, window, offset and width.
+pub(crate) fn read_of<A: Allocator>(
+    slot: &[u8],
+    window: &[u8],
+    offset: &[u8],
+    width: &[u8],
+) -> Result<Event<A>, FaultKind>
+    ensures ok { IfOk result (λ e. event_fields e ≡ spelled Word.Read ∷ slot.now ∷ window.now ∷ offset.now ∷ width.now ∷ []) }
+    ensures fine { IfOk result IsFine }
+    ensures err { IfErr result (λ fault. RefusesFields (shapes Word.Read) (slot.now ∷ window.now ∷ offset.now ∷ width.now ∷ []) fault) }
+{
+    let Some(slot) = number_u8(slot) else {
+        return Err(FaultKind::Number);
+    };
+    let Some(offset) = offset_of(offset) else {
+        return Err(FaultKind::Number);
+    };
+    let Some(window) = window_of(window) else {
+        return Err(FaultKind::Choice);
+    };
+    let Some(width) = width_of(width) else {
+        return Err(FaultKind::Choice);
+    };
+    let what = EventKind::Read {
+        window,
+        offset,
+        width,
+    };
+    Ok(Event { slot, what })
+}
+
+/// A read of memory: slot, address and length.
+pub(crate) fn mem_read_of<A: Allocator>(
+    slot: &[u8],
+    addr: &[u8],
+    len: &[u8],
+) -> Result<Event<A>, FaultKind>
+    ensures ok { IfOk result (λ e. event_fields e ≡ spelled Word.MemRead ∷ slot.now ∷ addr.now ∷ len.now ∷ []) }
+    ensures fine { IfOk result IsFine }
+    ensures err { IfErr result (λ fault. RefusesFields (shapes Word.MemRead) (slot.now ∷ addr.now ∷ len.now ∷ []) fault) }
+{
+    let Some(slot) = number_u8(slot) else {
+        return Err(FaultKind::Number);
+    };
+    let Some(addr) = number(addr) else {
+        return Err(FaultKind::Number);
+    };
+    let Some(len) = number_u32(len) else {
+        return Err(FaultKind::Number);
+    };
+    let what = EventKind::MemRead { addr, len };
+    Ok(Event { slot, what })
+}
+
+/// A write of memory: slot, address and bytes.
+pub(crate) fn mem_write_of<A: Allocator>(
+    alloc: A,
+    slot: &[u8],
+    addr: &[u8],
+    bytes: &[u8],
+) -> Result<Event<A>, FaultKind>
+    ensures ok { IfOk result (λ e. event_fields e ≡ spelled Word.MemWrite ∷ slot.now ∷ addr.now ∷ bytes.now ∷ []) }
+    ensures fine { IfOk result IsFine }
+    ensures err { IfErr result (λ fault. RefusesFields (shapes Word.MemWrite) (slot.now ∷ addr.now ∷ bytes.now ∷ []) fault) }
+{
+    let Some(slot) = number_u8(slot) else {
+        return Err(FaultKind::Number);
+    };
+    let Some(addr) = number(addr) else {
+        return Err(FaultKind::Number);
+    };
+    match bytes_of(alloc, bytes) {
+        Ok(bytes) => {
+            let what = EventKind::MemWrite { addr, bytes };
+            Ok(Event { slot, what })
+        }
+        Err(fault) => Err(fault),
+    }
+}
+
+/// A slot: its memory, its extent, its mode and its console's size.
+pub(crate) fn slot_of(
+    base: &[u8],
+    len: &[u8],
+    start: &[u8],
+    count: &[u8],
+    mode: &[u8],
+    cols: &[u8],
+    rows: &[u8],
+) -> Result<SlotSpec, FaultKind>
+    ensures ok { IfOk result (λ s. slot_fields s ≡ spelled Word.Slot ∷ base.now ∷ len.now ∷ start.now ∷ count.now ∷ mode.now ∷ cols.now ∷ rows.now ∷ []) }
+    ensures fine { IfOk result SlotInRange }
+    ensures err { IfErr result (λ fault. RefusesFields (shapes Word.Slot) (base.now ∷ len.now ∷ start.now ∷ count.now ∷ mode.now ∷ cols.now ∷ rows.now ∷ []) fault) }
+{
+    let Some(base) = number(base) else {
+        return Err(FaultKind::Number);
+    };
+    let Some(len) = number(len) else {
+        return Err(FaultKind::Number);
+    };
+    let Some(start) = number(start) else {
+        return Err(FaultKind::Number);
+    };
+    let Some(count) = number(count) else {
+        return Err(FaultKind::Number);
+    };
+    let Some(cols) = number_u16(cols) else {
+        return Err(FaultKind::Number);
+    };
+    let Some(rows) = number_u16(rows) else {
+        return Err(FaultKind::Number);
+    };
+    let Some(read_only) = mode_of(mode) else {
+        return Err(FaultKind::Choice);
+    };
+    let extent = Extent { start, count };
+    Ok(SlotSpec {
+        base,
+        len,
+        extent,
+        read_only,
+        cols,
+        rows,
+    })
+}

@@ -1,0 +1,19 @@
+//! Two laws of the format, by which a text has one meaning or one fault.
+
+ghost use Rattle.std.specs.Prelude.{◌≡◌, ℕ, List};
+ghost use Rattle.trace.specs.declared.fault.FaultKind.{FaultKind};
+ghost use Rattle.trace.specs.Faults.{IsFault};
+ghost use Rattle.trace.specs.Printable.{InRange, IsPrintable};
+ghost use Rattle.trace.specs.Text.{Content, text};
+
+use std::alloc::Allocator;
+
+/// A text belongs to one trace.
+pub fn one_trace<A: Allocator>()
+    ensures { (s t : Content A) → InRange s → InRange t → IsPrintable s → IsPrintable t → text s ≡ text t → s ≡ t }
+{}
+
+/// A text has one fault.
+pub fn one_fault()
+    ensures { (text : List ℕ) (k l : ℕ) (c d : FaultKind) → IsFault text k c → IsFault text l d → (k ≡ l) × (c ≡ d) }
+{}

@@ -1,0 +1,205 @@
+//! Writing a whole trace.
+
+ghost use Rattle.std.specs.Prelude.{◌≡◌, ◌↔◌, ◌++◌, ◌∷◌, [], All, IsTrue, IfOk, OnOk, map};
+ghost use Rattle.trace.specs.Printable.{IsAccess, IsPrintable, IsPrintableKind};
+ghost use Rattle.trace.specs.Spelling.{mode, num, window as window_name};
+ghost use Rattle.trace.specs.Text.{content, text as text_of, ended, event_line, front_text, joined, line, mem_read_fields, mem_write_fields, read_fields, slot_line};
+
+use crate::no_memory::NoMemory;
+use crate::push::{push_bytes, push_fixed, push_num};
+use crate::trace::Trace;
+use board::{DeviceKind, Event, EventKind, SlotSpec};
+use std::alloc::{AllocError, Allocator};
+
+/// Whether the trace has a text: the offset of each register access has three digits, and its width is
+/// 1, 2 or 4. Each trace that was read has one.
+pub fn is_printable<A: Allocator>(trace: &Trace<A>) -> bool
+    ensures { IsTrue result ↔ IsPrintable (content trace.now) }
+{
+    trace.events.iter().all(|event| has_line(&event.what))
+}
+
+// Whether there is a line for it.
+fn has_line<A: Allocator>(what: &EventKind<A>) -> bool
+    ensures { IsTrue result ↔ IsPrintableKind what.now }
+{
+    match what {
+        EventKind::Read { offset, width, .. } => {
+            *offset < 0x1000 && (*width == 1 || *width == 2 || *width == 4)
+        }
+        EventKind::MemRead { .. } => true,
+        EventKind::MemWrite { .. } => true,
+    }
+}
+
+/// The text of a trace. `is_printable` is the test.
+pub fn print_trace<A: Allocator>(alloc: A, trace: &Trace<A>) -> Result<Vec<u8, A>, NoMemory>
+    requires { IsPrintable (content trace.now) }
+    ensures { IfOk result (λ text. text.items ≡ text_of (content trace.now)) }
+{
+    let mut out = Vec::new(alloc);
+    push_front(&mut out, trace.cache)?;
+    push_slots(&mut out, &trace.slots)?;
+    push_events(&mut out, &trace.events)?;
+    Ok(out)
+}
+
+// Appends the lines of the slots.
+fn push_slots<A: Allocator>(out: &mut Vec<u8, A>, slots: &[SlotSpec]) -> Result<(), AllocError>
+    ensures { OnOk result (out.new.items ≡ out.old.items ++ joined (map slot_line slots.now)) }
+{
+    for slot in slots {
+        push_slot(out, slot)?;
+    }
+    Ok(())
+}
+
+// Appends the lines of the events.
+fn push_events<A: Allocator>(out: &mut Vec<u8, A>, events: &[Event<A>]) -> Result<(), AllocError>
+    requires { All (λ event. IsPrintableKind event.what) events.now }
+    ensures { OnOk result (out.new.items ≡ out.old.items ++ joined (map event_line events.now)) }
+{
+    for event in events {
+        push_event(out, event)?;
+    }
+    Ok(())
+}
+
+// Appends a space and a number.
+fn push_next<A: Allocator>(out: &mut Vec<u8, A>, n: u64) -> Result<(), AllocError>
+    ensures { OnOk result (out.new.items ≡ out.old.items ++ 32 ∷ num n) }
+{
+    out.push(b' ')?;
+    push_num(out, n)
+}
+
+// Appends two numbers, each after a space.
+fn push_pair<A: Allocator>(out: &mut Vec<u8, A>, a: u64, b: u64) -> Result<(), AllocError>
+    ensures { OnOk result (out.new.items ≡ out.old.items ++ 32 ∷ (num a ++ 32 ∷ num b)) }
+{
+    push_next(out, a)?;
+    push_next(out, b)?;
+    Ok(())
+}
+
+// Appends the first two lines.
+#[tactic(auto, unfolding(crate::specs::Text::cache_line))]
+fn push_front<A: Allocator>(out: &mut Vec<u8, A>, cache: u32) -> Result<(), AllocError>
+    ensures { OnOk result (out.new.items ≡ out.old.items ++ front_text cache) }
+{
+    out.extend_from_slice(b"vreplay 1\ncache")?;
+    push_next(out, u64::from(cache))?;
+    out.push(b'\n')?;
+    Ok(())
+}
+
+// Appends the line of a slot.
+#[tactic(auto, unfolding(crate::specs::Text::slot_line))]
+fn push_slot<A: Allocator>(out: &mut Vec<u8, A>, slot: &SlotSpec) -> Result<(), AllocError>
+    ensures { OnOk result (out.new.items ≡ out.old.items ++ ended (slot_line slot.now)) }
+{
+    out.extend_from_slice(b"slot")?;
+    push_pair(out, slot.base, slot.len)?;
+    push_pair(out, slot.extent.start, slot.extent.count)?;
+    push_device(out, slot.read_only, slot.cols, slot.rows)?;
+    Ok(())
+}
+
+// Appends the end of such a line: the mode, and the size of the console.
+fn push_device<A: Allocator>(
+    out: &mut Vec<u8, A>,
+    read_only: bool,
+    cols: u16,
+    rows: u16,
+) -> Result<(), AllocError>
+    ensures { OnOk result (out.new.items ≡ out.old.items ++ 32 ∷ (mode read_only ++ 32 ∷ (num cols ++ 32 ∷ (num rows ++ 10 ∷ [])))) }
+{
+    out.extend_from_slice(if read_only { b" ro" } else { b" rw" })?;
+    push_next(out, u64::from(cols))?;
+    push_next(out, u64::from(rows))?;
+    out.push(b'\n')?;
+    Ok(())
+}
+
+// Appends the line of an event.
+#[tactic(auto, unfolding(crate::specs::Text::event_line))]
+fn push_event<A: Allocator>(out: &mut Vec<u8, A>, event: &Event<A>) -> Result<(), AllocError>
+    requires { IsPrintableKind event.now.what }
+    ensures { OnOk result (out.new.items ≡ out.old.items ++ ended (event_line event.now)) }
+{
+    match &event.what {
+        EventKind::Read {
+            window,
+            offset,
+            width,
+        } => push_read(out, event.slot, *window, *offset, *width),
+        EventKind::MemRead { addr, len } => push_mem_read(out, event.slot, *addr, *len),
+        EventKind::MemWrite { addr, bytes } => {
+            push_mem_write(out, event.slot, *addr, bytes.as_slice())
+        }
+    }
+}
+
+// Appends the line of a read of a register.
+fn push_read<A: Allocator>(
+    out: &mut Vec<u8, A>,
+    slot: u8,
+    window: DeviceKind,
+    offset: u16,
+    width: u8,
+) -> Result<(), AllocError>
+    requires { IsAccess offset width }
+    ensures { OnOk result (out.new.items ≡ out.old.items ++ ended (line (read_fields slot window offset width))) }
+{
+    out.push(b'r')?;
+    push_next(out, u64::from(slot))?;
+    out.extend_from_slice(window_text(window))?;
+    push_fixed(out, 3, u32::from(offset))?;
+    out.extend_from_slice(&[b' ', b'0' + width, b'\n'])?;
+    Ok(())
+}
+
+// A window between two spaces.
+fn window_text(window: DeviceKind) -> &'static [u8]
+    ensures { result.now ≡ 32 ∷ (window_name window ++ 32 ∷ []) }
+{
+    match window {
+        DeviceKind::Block => b" b ",
+        DeviceKind::Console => b" c ",
+    }
+}
+
+// Appends the line of a read of memory.
+fn push_mem_read<A: Allocator>(
+    out: &mut Vec<u8, A>,
+    slot: u8,
+    addr: u64,
+    len: u32,
+) -> Result<(), AllocError>
+    ensures { OnOk result (out.new.items ≡ out.old.items ++ ended (line (mem_read_fields slot addr len))) }
+{
+    out.extend_from_slice(b"mr")?;
+    push_next(out, u64::from(slot))?;
+    push_next(out, addr)?;
+    push_next(out, u64::from(len))?;
+    out.push(b'\n')?;
+    Ok(())
+}
+
+// Appends the line of a write of memory.
+fn push_mem_write<A: Allocator>(
+    out: &mut Vec<u8, A>,
+    slot: u8,
+    addr: u64,
+    bytes: &[u8],
+) -> Result<(), AllocError>
+    ensures { OnOk result (out.new.items ≡ out.old.items ++ ended (line (mem_write_fields slot addr bytes.now))) }
+{
+    out.extend_from_slice(b"mw")?;
+    push_next(out, u64::from(slot))?;
+    push_next(out, addr)?;
+    out.push(b' ')?;
+    push_bytes(out, bytes)?;
+    out.push(b'\n')?;
+    Ok(())
+}

@@ -1,0 +1,53 @@
+//! Writing fields: each call appends the spelling of one value.
+//!
+//! After an error the output may end in a part of the spelling.
+
+ghost use Rattle.std.specs.Prelude.{◌≡◌, ◌++◌, ◌^◌, ◌<◌, OnOk};
+ghost use Rattle.trace.specs.Spelling.{num, fixed, bytes as bytes_field};
+
+use crate::digit::digit_of;
+use std::alloc::{AllocError, Allocator};
+
+/// Appends a number without leading zeros.
+pub(crate) fn push_num<A: Allocator>(out: &mut Vec<u8, A>, n: u64) -> Result<(), AllocError>
+    ensures { OnOk result (out.new.items ≡ out.old.items ++ num n) }
+{
+    if n < 16 {
+        out.push(digit_of(n as u8))?;
+        return Ok(());
+    }
+    push_num(out, n / 16)?;
+    out.push(digit_of((n % 16) as u8))?;
+    Ok(())
+}
+
+/// Appends a number by exactly `digits` digits. What is above them is left out.
+pub(crate) fn push_fixed<A: Allocator>(
+    out: &mut Vec<u8, A>,
+    digits: u8,
+    n: u32,
+) -> Result<(), AllocError>
+    ensures { OnOk result (out.new.items ≡ out.old.items ++ fixed digits n) }
+{
+    if digits == 0 {
+        return Ok(());
+    }
+    push_fixed(out, digits - 1, n / 16)?;
+    out.push(digit_of((n % 16) as u8))?;
+    Ok(())
+}
+
+/// Appends bytes by two digits each, or `-` where there are none.
+pub(crate) fn push_bytes<A: Allocator>(out: &mut Vec<u8, A>, bytes: &[u8]) -> Result<(), AllocError>
+    ensures { OnOk result (out.new.items ≡ out.old.items ++ bytes_field bytes.now) }
+{
+    if bytes.is_empty() {
+        out.push(b'-')?;
+        return Ok(());
+    }
+    for b in bytes {
+        out.push(digit_of(*b / 16))?;
+        out.push(digit_of(*b % 16))?;
+    }
+    Ok(())
+}

@@ -1,0 +1,126 @@
+//! Reading a whole trace.
+
+ghost use Rattle.std.specs.Prelude.{◌≡◌, ◌≢◌, ◌++◌, ◌∷◌, ◌↔◌, IsTrue, IfOk, IfErr, OnOk};
+ghost use Rattle.trace.specs.Faults.{IsFault, IsCleanBefore};
+ghost use Rattle.trace.specs.Text.{Content, content, text as text_of, header};
+ghost use Rattle.trace.specs.Printable.{InRange, IsPrintable};
+ghost use Rattle.trace.specs.Refusals.{RefusesHead, IsSecond, RefusesSecond, AddsLine, RefusesLine, has_begun};
+
+use crate::cut::{one, take_field, take_line};
+use crate::entry::entry_of;
+use crate::fault::{FaultKind, TraceFault};
+use crate::number::number_u32;
+use crate::trace::Trace;
+use crate::word::is_cache;
+use std::alloc::Allocator;
+
+/// Whether the line is that of the format and its version.
+fn is_header(line: &[u8]) -> bool
+    ensures { IsTrue result ↔ (line.now ≡ header) }
+{
+    matches!(line, b"vreplay 1")
+}
+
+/// What follows the first line, which is the header.
+fn after_header(text: &[u8]) -> Result<&[u8], FaultKind>
+    ensures ok { IfOk result (λ rest. text.now ≡ header ++ 10 ∷ rest.now) }
+    ensures err { IfErr result (λ fault. RefusesHead text.now fault) }
+{
+    let Some((line, rest)) = take_line(text) else {
+        return Err(FaultKind::Cut);
+    };
+    if !is_header(line) {
+        return Err(FaultKind::Header);
+    }
+    Ok(rest)
+}
+
+/// The capacity of the cache, from the second line, and what follows it.
+fn cache_of(rest: &[u8]) -> Result<(u32, &[u8]), FaultKind>
+    ensures ok { IfOk result (λ x. IsSecond rest.now x.0 x.1.now) }
+    ensures err { IfErr result (λ fault. RefusesSecond rest.now fault) }
+{
+    let Some((line, after)) = take_line(rest) else {
+        return Err(FaultKind::Cut);
+    };
+    let (first, others) = take_field(line);
+    if !is_cache(first) {
+        return Err(FaultKind::Word);
+    }
+    let Some(sectors) = one(others) else {
+        return Err(FaultKind::Fields);
+    };
+    let Some(cache) = number_u32(sectors) else {
+        return Err(FaultKind::Number);
+    };
+    Ok((cache, after))
+}
+
+/// The trace whose text this is. A `line` beside a fault is numbered from 1.
+pub fn read_trace<A: Allocator + Copy>(alloc: A, text: &[u8]) -> Result<Trace<A>, TraceFault>
+    // What is read has this text, and no other trace has it.
+    ensures found { IfOk result (λ t. text.now ≡ text_of (content t)) }
+    ensures printable { IfOk result (λ t. IsPrintable (content t)) }
+    ensures range { IfOk result (λ t. InRange (content t)) }
+    ensures only { IfOk result
+        (λ t. (u : Content A) → InRange u → IsPrintable u → text.now ≡ text_of u → u ≡ content t) }
+
+    // Where no memory was wanting, the fault is that of the text, which is no trace's.
+    ensures fault { IfErr result
+        (λ e. e.kind ≢ FaultKind.NoMemory → IsFault text.now e.line e.kind) }
+    ensures none { IfErr result
+        (λ e. e.kind ≢ FaultKind.NoMemory → (u : Content A) → InRange u → IsPrintable u → text.now ≢ text_of u) }
+
+    // No line before it has a fault, also where memory was wanting.
+    ensures clean { IfErr result (λ e. IsCleanBefore text.now e.line) }
+{
+    read(alloc, text)
+}
+
+/// The trace that the lines say, one after another.
+fn read<A: Allocator + Copy>(alloc: A, text: &[u8]) -> Result<Trace<A>, TraceFault>
+    ensures found { IfOk result (λ t. text.now ≡ text_of (content t)) }
+    ensures printable { IfOk result (λ t. IsPrintable (content t)) }
+    ensures range { IfOk result (λ t. InRange (content t)) }
+    ensures fault { IfErr result (λ e. e.kind ≢ FaultKind.NoMemory → IsFault text.now e.line e.kind) }
+    ensures clean { IfErr result (λ e. IsCleanBefore text.now e.line) }
+{
+    let rest = match after_header(text) {
+        Ok(rest) => rest,
+        Err(kind) => return Err(TraceFault { line: 1, kind }),
+    };
+    let (cache, mut rest) = match cache_of(rest) {
+        Ok(found) => found,
+        Err(kind) => return Err(TraceFault { line: 2, kind }),
+    };
+    let mut trace = Trace::new(alloc, cache);
+    let mut line = 3;
+    while !rest.is_empty() {
+        let Some((this, after)) = take_line(rest) else {
+            let kind = FaultKind::Cut;
+            return Err(TraceFault { line, kind });
+        };
+        if let Err(kind) = add_line(alloc, &mut trace, this) {
+            return Err(TraceFault { line, kind });
+        }
+        rest = after;
+        line += 1;
+    }
+    Ok(trace)
+}
+
+/// Adds what a line says to what was read before it. After an error the trace is as it was.
+fn add_line<A: Allocator + Copy>(
+    alloc: A,
+    trace: &mut Trace<A>,
+    line: &[u8],
+) -> Result<(), FaultKind>
+    ensures ok { OnOk result (AddsLine (content trace.old) line.now (content trace.new)) }
+    ensures err { IfErr result (λ fault. RefusesLine (has_begun (content trace.old)) line.now fault) }
+{
+    let begun = !trace.events.is_empty();
+    match entry_of(alloc, line, begun) {
+        Ok(entry) => trace.push(entry).map_err(|_| FaultKind::NoMemory),
+        Err(fault) => Err(fault),
+    }
+}

@@ -1,0 +1,47 @@
+//! What a trace is made of.
+
+ghost use Rattle.std.specs.Prelude.{◌≡◌, [], OnOk};
+ghost use Rattle.trace.specs.Text.{content};
+ghost use Rattle.trace.specs.Refusals.{with_entry};
+
+use crate::entry::Entry;
+use board::{Event, SlotSpec};
+use std::alloc::{AllocError, Allocator, Global};
+
+/// A whole trace: the board that it is for, and what its guests do.
+#[derive(Drop)]
+#[derive_where(Debug)]
+pub struct Trace<A: Allocator = Global> {
+    /// The capacity of the cache, in sectors.
+    pub cache: u32,
+    /// The slots, numbered from 0 in their order.
+    pub slots: Vec<SlotSpec, A>,
+    /// The events, in the order in which they happen.
+    pub events: Vec<Event<A>, A>,
+}
+
+impl<A: Allocator + Copy> Trace<A> {
+    /// A trace with no slot and no event. This takes no memory.
+    pub(crate) fn new(alloc: A, cache: u32) -> Trace<A>
+        ensures { content result ≡ record { cache = cache; slots = []; events = [] } }
+    {
+        Trace {
+            cache,
+            slots: Vec::new(alloc),
+            events: Vec::new(alloc),
+        }
+    }
+}
+
+impl<A: Allocator> Trace<A> {
+    /// Adds a slot or an event at the end of its kind.
+    pub(crate) fn push(&mut self, entry: Entry<A>) -> Result<(), AllocError>
+        ensures { OnOk result (content self.new ≡ with_entry (content self.old) entry) }
+    {
+        match entry {
+            Entry::Slot(slot) => self.slots.push(slot)?,
+            Entry::Event(event) => self.events.push(event)?,
+        }
+        Ok(())
+    }
+}

@@ -1,0 +1,37 @@
+//! The words that lines begin with.
+
+ghost use Rattle.std.specs.Prelude.{◌≡◌, ◌≢◌, ◌↔◌, IsTrue, IfSome, IfNone};
+ghost use Rattle.trace.specs.Words.{spelled};
+ghost use Rattle.trace.specs.declared.word.Word.{Word};
+
+/// The first word of a line after the header. The second line has `Cache`, the later ones the others.
+#[derive(Clone, Copy, Debug, PartialEq, Eq)]
+pub(crate) enum Word {
+    Cache,
+    Slot,
+    Read,
+    MemRead,
+    MemWrite,
+}
+
+/// The word that a field is.
+pub(crate) fn word_of(field: &[u8]) -> Option<Word>
+    ensures some { IfSome result (λ word. field.now ≡ spelled word) }
+    ensures none { IfNone result ((word : Word) → field.now ≢ spelled word) }
+{
+    match field {
+        b"r" => Some(Word::Read),
+        b"mr" => Some(Word::MemRead),
+        b"mw" => Some(Word::MemWrite),
+        b"slot" => Some(Word::Slot),
+        b"cache" => Some(Word::Cache),
+        _ => None,
+    }
+}
+
+/// Whether a field is the word of the second line.
+pub(crate) fn is_cache(field: &[u8]) -> bool
+    ensures { IsTrue result ↔ (field.now ≡ spelled Word.Cache) }
+{
+    matches!(field, b"cache")
+}
