@@ -2,15 +2,19 @@
 .PHONY: run test bench
 
 TRACE ?= examples/two-guests.trace
+PROGRAM = crates/vreplay/out/vreplay
 
-# Replays a trace; TRACE=FILE names another.
+# Proves what the program stands on, builds it, and replays a trace; TRACE=FILE names another.
 run:
-	@echo "make run: the program vreplay is not there yet; the README's map says what is"
+	@echo "Proving and building vreplay: some minutes the first time, seconds after that." >&2
+	@cd crates/vreplay && mkdir -p out && rt run < stdin > out/run.log || { tail -20 out/run.log >&2; exit 1; }
+	@echo "Replaying $(TRACE):" >&2
+	@$(PROGRAM) < "$(TRACE)"
 
 # The gate: every proof from nothing, the must-fail edits, the tests and the programs.
 test:
 	@rt ci
 
-# Times the built program.
+# Times the built program over traces that the script makes.
 bench:
-	@echo "make bench: the program vreplay is not there yet, so there is nothing to measure"
+	@bench/run
