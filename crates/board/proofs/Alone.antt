@@ -1,36 +1,39 @@
 -- Every guest whose own events met no refusal sees what it would see alone.
-use Rattle.std.proofs.Common.{◌≡◌, ◌≢◌, ◌⊎◌, inl, inr, ℕ, zero, suc, true, false, List, [], ◌∷◌, Option, Some, None, eqb, refl, sym, ◌∙◌, ap, subst}
+use Rattle.std.proofs.Common.{◌≡◌, ◌≢◌, ◌⊎◌, inl, inr, ℕ, zero, suc, true, false, List, [], ◌∷◌, Option, Some, None, eqb, refl, sym, ◌∙◌, ap, subst, arith}
 use Rattle.std.specs.Prelude.{slice_set, MatchOption}
 use Rattle.std.specs.List.{slice_get}
 use Rattle.std.proofs.lemmas.Bool.Decides.{eqb_tells}
 use Rattle.board.specs.declared.event.Event.{Event}
 use Rattle.board.specs.declared.event.EventKind.{EventKind}
-use Rattle.board.specs.declared.event.EventKind.TheVariants.{Read, MemRead, MemWrite}
+use Rattle.board.specs.declared.event.EventKind.TheVariants.{Read, Write, MemRead, MemWrite}
 use Rattle.board.specs.declared.reply.Reply.TheVariants.{NoMemory}
 use Rattle.board.specs.declared.reply.Record.{Record}
-use Rattle.board.specs.Machine.{Outcome, next, record_of, records_alone, state_alone}
+use Rattle.board.specs.Image.{Health}
+use Rattle.board.specs.Machine.{Outcome, Gives, IsNext, RunsOnItsOwn, record_of}
 use Rattle.board.specs.Slot.{SlotState}
-use Rattle.board.specs.World.{World, Health, IsRefused, MayGive, SlotStep, MissingStep, Step}
+use Rattle.board.specs.World.{World, IsRefused, MayGive, SlotStep, MissingStep, Step}
 use Rattle.board.specs.Line.{Move, IsLine, IsUndisturbed, IsQuiet, RunsAlone, IsAlone, SeesTheSame, own_events, own_records, events_of, records_of}
+use Rattle.board.proofs.OneRun.{OneRun, next_of, one_run}
 
 -- an event that was refused shows it: memory was wanting, or a call of the image failed
 refused_shows : {A : Type 0} (state : SlotState) (what : EventKind A) (old new : Health) (outcome : Outcome A) → IsRefused state what old new outcome → outcome.reply ≢ NoMemory → new.failures ≡ old.failures → ⊥
 refused_shows state (Read window offset width) old new outcome refused answered stood = refused
+refused_shows state (Write window offset width value) old new outcome refused answered stood = absurd (omega (arith, refused.failures, stood))
 refused_shows state (MemRead addr len) old new outcome refused answered stood = answered (ap (λ o. o.reply) refused.unchanged)
 refused_shows state (MemWrite addr bytes) old new outcome refused answered stood = refused
 
 -- an event that met no refusal came out as the one-slot machine has it
-served : {A : Type 0} (state : SlotState) (what : EventKind A) (old new : Health) (outcome : Outcome A) → MayGive state what old new outcome → outcome.reply ≢ NoMemory → new.failures ≡ old.failures → outcome ≡ next state what
+served : {A : Type 0} (state : SlotState) (what : EventKind A) (old new : Health) (outcome : Outcome A) → MayGive state what old new outcome → outcome.reply ≢ NoMemory → new.failures ≡ old.failures → Gives state what old new outcome
 served state what old new outcome (inl alike) answered stood = alike.alike
 served state what old new outcome (inr refused) answered stood = absurd (refused_shows state what old new outcome refused answered stood)
 
 -- one element of a list is replaced: it is there, and the others are as they were
-get_set : {X : Type 0} (xs : List X) (h : ℕ) (old new : X) → slice_get xs h ≡ Some old → slice_get (slice_set xs h new) h ≡ Some new
+pub get_set : {X : Type 0} (xs : List X) (h : ℕ) (old new : X) → slice_get xs h ≡ Some old → slice_get (slice_set xs h new) h ≡ Some new
 get_set [] h old new here = absurd (cc)
 get_set (x ∷ xs) zero old new here = refl
 get_set (x ∷ xs) (suc h) old new here = get_set xs h old new here
 
-get_set_other : {X : Type 0} (xs : List X) (h g : ℕ) (new : X) → h ≢ g → slice_get (slice_set xs h new) g ≡ slice_get xs g
+pub get_set_other : {X : Type 0} (xs : List X) (h g : ℕ) (new : X) → h ≢ g → slice_get (slice_set xs h new) g ≡ slice_get xs g
 get_set_other [] h g new apart = refl
 get_set_other (x ∷ xs) zero zero new apart = absurd (apart refl)
 get_set_other (x ∷ xs) zero (suc g) new apart = refl
@@ -53,16 +56,20 @@ other_at g old event written new (Some s) other step =
 
 -- what a guest's own event comes to, where it met no refusal
 pub record CameOut {A : Type 0} (g : ℕ) (state : SlotState) (what : EventKind A) (written : Record A) (new : World) : Type 0 where
-  pub recorded : written ≡ record_of g (next state what)
-  pub there : slice_get new.slots g ≡ Some (next state what).state
+  pub outcome : Outcome A
+  pub is_next : IsNext state what outcome
+  pub recorded : written ≡ record_of g outcome
+  pub there : slice_get new.slots g ≡ Some outcome.state
 
 own_at : {A : Type 0} (old : World) (event : Event A) (written : Record A) (new : World) (state : SlotState) → slice_get old.slots event.slot ≡ Some state → SlotStep old event.slot state event.what written new → written.reply ≢ NoMemory → new.health.failures ≡ old.health.failures → CameOut event.slot state event.what written new
 own_at old event written new state here step answered stood =
     let said : written.reply ≡ step.outcome.reply = ap (λ w. w.reply) step.recorded in
-    let alike : step.outcome ≡ next state event.what = served state event.what old.health new.health step.outcome step.given (λ none. answered (said ∙ none)) stood in
+    let gives : Gives state event.what old.health new.health step.outcome = served state event.what old.health new.health step.outcome step.given (λ none. answered (said ∙ none)) stood in
     record {
-      recorded = step.recorded ∙ ap (record_of event.slot) alike;
-      there = ap (λ (slots : List SlotState). slice_get slots event.slot) step.slots ∙ (get_set old.slots event.slot state step.outcome.state here ∙ ap (λ o. Some o.state) alike);
+      outcome = step.outcome;
+      is_next = next_of state event.what old.health new.health step.outcome gives;
+      recorded = step.recorded;
+      there = ap (λ (slots : List SlotState). slice_get slots event.slot) step.slots ∙ get_set old.slots event.slot state step.outcome.state here;
     }
 
 own : {A : Type 0} (g : ℕ) (old : World) (move : Move A) (state : SlotState) → move.event.slot ≡ g → slice_get old.slots g ≡ Some state → Step old move.event move.written move.after → IsUndisturbed g old move → CameOut g state move.event.what move.written move.after
@@ -73,15 +80,24 @@ own g old move state mine here step undisturbed =
     subst (λ h. CameOut h state move.event.what move.written move.after) mine
     (own_at old move.event move.written move.after state there taken (undisturbed.memory mine) (undisturbed.image mine))
 
+-- one event more on its own
+on_its_own : {A : Type 0} (g : ℕ) (state last : SlotState) (what : EventKind A) (rest : List (EventKind A)) (written : Record A) (records : List (Record A)) (outcome : Outcome A) → IsNext state what outcome → written ≡ record_of g outcome → RunsOnItsOwn g outcome.state rest records last → RunsOnItsOwn g state (what ∷ rest) (written ∷ records) last
+on_its_own g state last what rest written records outcome is_next recorded own = record {
+  outcomes = outcome ∷ own.outcomes;
+  course = (is_next, own.course);
+  told = ap (λ w. w ∷ records) recorded ∙ ap (λ ws. record_of g outcome ∷ ws) own.told;
+}
+
 -- the guest's own event comes first, and then the rest of the line
 mine : {A : Type 0} (g : ℕ) (old : World) (move : Move A) (moves : List (Move A)) (new : World) (state : SlotState) → eqb move.event.slot g ≡ true → move.event.slot ≡ g → slice_get old.slots g ≡ Some state → Step old move.event move.written move.after → IsUndisturbed g old move → IsAlone g move.after moves new → RunsAlone g state (move ∷ moves) new
 mine g old move moves new state test same here step undisturbed rest =
     let came : CameOut g state move.event.what move.written move.after = own g old move state same here step undisturbed in
-    let alone : RunsAlone g (next state move.event.what).state moves new = rest (next state move.event.what).state came.there in
+    let alone : RunsAlone g came.outcome.state moves new = rest came.outcome.state came.there in
     let tested : eqb move.written.slot g ≡ true = rw (recorded_slot old move.event move.written move.after step) test in
     record {
-      records = rw (test, tested) (ap (λ w. w ∷ own_records g (records_of moves)) came.recorded ∙ ap (λ ws. record_of g (next state move.event.what) ∷ ws) alone.records);
-      state_after = rw test alone.state_after;
+      last = alone.last;
+      own = rw (test, tested) (on_its_own g state alone.last move.event.what (own_events g (events_of moves)) move.written (own_records g (records_of moves)) came.outcome came.is_next came.recorded alone.own);
+      state_after = alone.state_after;
     }
 
 -- an event of another slot comes first, and then the rest of the line
@@ -90,10 +106,7 @@ others g old move moves new state test other here step rest =
     let kept : slice_get move.after.slots g ≡ slice_get old.slots g = other_at g old move.event move.written move.after (slice_get old.slots move.event.slot) other step in
     let alone : RunsAlone g state moves new = rest state (kept ∙ here) in
     let tested : eqb move.written.slot g ≡ false = rw (recorded_slot old move.event move.written move.after step) test in
-    record {
-      records = rw (test, tested) alone.records;
-      state_after = rw test alone.state_after;
-    }
+    record { last = alone.last; own = rw (test, tested) alone.own; state_after = alone.state_after }
 
 either : {A : Type 0} (g : ℕ) (old : World) (move : Move A) (moves : List (Move A)) (new : World) (state : SlotState) → ((eqb move.event.slot g ≡ true) × (move.event.slot ≡ g)) ⊎ ((eqb move.event.slot g ≡ false) × (move.event.slot ≢ g)) → slice_get old.slots g ≡ Some state → Step old move.event move.written move.after → IsUndisturbed g old move → IsAlone g move.after moves new → RunsAlone g state (move ∷ moves) new
 either g old move moves new state (inl is) here step undisturbed rest = mine g old move moves new state is.0 is.1 here step undisturbed rest
@@ -101,7 +114,11 @@ either g old move moves new state (inr is) here step undisturbed rest = others g
 
 -- the law: a guest that is quiet in a line is alone in it
 pub alone : {A : Type 0} (g : ℕ) (old : World) (moves : List (Move A)) (new : World) → IsLine old moves new → IsQuiet g old moves → IsAlone g old moves new
-alone g old [] new line quiet state here = record { records = refl; state_after = ap (λ (w : World). slice_get w.slots g) line ∙ here }
+alone g old [] new line quiet state here = record {
+  last = state;
+  own = record { outcomes = []; course = refl; told = refl };
+  state_after = ap (λ (w : World). slice_get w.slots g) line ∙ here;
+}
 alone g old (move ∷ moves) new line quiet state here =
     either g old move moves new state (eqb_tells move.event.slot g) here line.0 quiet.0 (alone g move.after moves new line.1 quiet.1)
 
@@ -110,7 +127,10 @@ pub same_seen : {A : Type 0} (g : ℕ) (state : SlotState) (old new old' new' : 
 same_seen g state old new old' new' moves moves' line line' quiet quiet' here here' same =
     let one : RunsAlone g state moves new = alone g old moves new line quiet state here in
     let other : RunsAlone g state moves' new' = alone g old' moves' new' line' quiet' state here' in
+    let run : OneRun (own_records g (records_of moves)) (own_records g (records_of moves')) one.last other.last =
+    one_run g state one.last other.last (own_events g (events_of moves)) (own_records g (records_of moves)) (own_records g (records_of moves')) one.own
+    (subst (λ whats. RunsOnItsOwn g state whats (own_records g (records_of moves')) other.last) (sym same) other.own) in
     record {
-      records = one.records ∙ (ap (records_alone g state) same ∙ sym other.records);
-      state_after = one.state_after ∙ (ap (λ whats. Some (state_alone state whats)) same ∙ sym other.state_after);
+      records = run.records;
+      state_after = one.state_after ∙ (ap (λ (s : SlotState). Some s) run.last ∙ sym other.state_after);
     }

@@ -10,7 +10,7 @@ use Rattle.sector_cache.specs.Fault.{IsCapacity}
 use Rattle.sector_cache.specs.declared.fault.CacheFault.TheVariants.{BadCapacity}
 use Rattle.board.specs.declared.fault.BoardFault.{BoardFault}
 use Rattle.board.specs.declared.fault.BoardFault.TheVariants.{NoSlots, TooManySlots, Memory, ExtentOutside, ExtentsOverlap, Cache, NoMemory}
-use Rattle.board.specs.declared.spec.Extent.{Extent}
+use Rattle.block_device.specs.declared.extent.Extent.{Extent}
 use Rattle.board.specs.declared.spec.SlotSpec.{SlotSpec}
 use Rattle.board.specs.Extent.{IsApart, Overlaps}
 use Rattle.board.specs.Fault.{IsGoodSlot, AreGood, HasFirstFault, IsFaultOf, Refuses}

@@ -1,6 +1,12 @@
+pub mod Simulating
+pub mod Guests
+pub mod OneRun
+pub mod Blocks
 pub mod Outside
 pub mod Seats
 pub mod Alone
+pub mod Failures
+pub mod Noted
 pub mod Runs
 pub mod Specs
 pub mod Faults

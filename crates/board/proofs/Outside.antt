@@ -1,12 +1,14 @@
 -- The image's bytes outside an extent: what stays where they do.
-use Rattle.std.proofs.Common.{◌≡◌, ℕ, zero, suc, ◌+◌, ◌*◌, ◌/◌, ◌<◌, ◌≤◌, Bool, true, false, ◌||◌, List, [], ◌∷◌, length, get_or, refl, sym, ◌∙◌, ap, subst, arith, length-take, length-drop}
-use Rattle.std.specs.Prelude.{if◌then◌else◌}
+use Rattle.std.proofs.Common.{◌≡◌, inl, inr, ℕ, zero, suc, ◌+◌, ◌*◌, ◌/◌, ◌<◌, ◌≤◌, Bool, true, false, ◌||◌, List, [], ◌∷◌, length, get_or, refl, sym, ◌∙◌, ap, subst, arith, length-take, length-drop}
+use Rattle.std.specs.Prelude.{if◌then◌else◌, IsSome, unwrap_or, Option, Some, None, drop, ◌⊎◌, ◌-◌}
 use Rattle.std.specs.List.{list_any}
+use Rattle.std.proofs.lemmas.Bool.{cases_lt}
 use Rattle.std.proofs.lemmas.Bool.Decides.{nat_tests}
-use Rattle.std.proofs.lemmas.List.{same_lists}
+use Rattle.std.proofs.lemmas.List.{same_lists, places, get_or-take}
 use Rattle.sector_cache.specs.Sector.{extent_of}
 use Rattle.sector_cache.proofs.Sectors.{get_or-extent_of}
-use Rattle.board.specs.declared.spec.Extent.{Extent}
+use Rattle.block_device.specs.declared.extent.Extent.{Extent}
+use Rattle.block_device.specs.Extent.{SameOutside, ToldOutside}
 use Rattle.board.specs.Extent.{has_sector, IsApart, outside_from, outside_of}
 
 -- a byte outside a smaller set of sectors and outside a larger one
@@ -68,3 +70,63 @@ extent_apart one other apart xs ys same = same_lists _ _ long bytes
         get_or-extent_of xs other.start other.count k d below
         ∙ byte_apart one 0 xs ys same (512 * other.start + k) d (not_in one other apart ((0 + (512 * other.start + k)) / 512) (omega arith) (omega arith))
         ∙ sym (get_or-extent_of ys other.start other.count k d below)
+
+-- ---- what a block device leaves outside its extent
+
+length-outside : (extents : List Extent) (i : ℕ) (xs : List ℕ) → length (outside_from extents i xs) ≡ length xs
+length-outside extents i [] = refl
+length-outside extents i (x ∷ xs) = ap suc (length-outside extents (i + 1) xs)
+
+-- a byte, or a zero within the extent
+get_or-outside : (extent : Extent) (i : ℕ) (xs : List ℕ) (k d : ℕ) → k < length xs → get_or (outside_from (extent ∷ []) i xs) k d ≡ (if has_sector extent ((i + k) / 512) || false then 0 else get_or xs k d)
+get_or-outside extent i [] k d below = absurd (omega (arith, below))
+get_or-outside extent i (x ∷ xs) zero d below = ap (λ n. if has_sector extent (n / 512) || false then 0 else x) (omega arith)
+get_or-outside extent i (x ∷ xs) (suc k) d below =
+    get_or-outside extent (i + 1) xs k d (omega (arith, below)) ∙ ap (λ n. if has_sector extent (n / 512) || false then 0 else get_or xs k d) (omega arith)
+
+-- a byte before the extent's first or behind its last
+byte_kept : (extent : Extent) (xs ys : List ℕ) → SameOutside extent xs ys → (k d : ℕ) → k < length xs → (k < 512 * extent.start) ⊎ (512 * (extent.start + extent.count) ≤ k) → get_or xs k d ≡ get_or ys k d
+byte_kept extent xs ys same k d below (inl before) =
+    sym (get_or-take (512 * extent.start) xs k d before) ∙ (ap (λ bs. get_or bs k d) (sym same.before) ∙ get_or-take (512 * extent.start) ys k d before)
+byte_kept extent xs ys same k d below (inr behind) =
+    let n = 512 * (extent.start + extent.count) in
+    let one : get_or xs k d ≡ get_or (drop n xs) (k - n) d = grind (arith, places) in
+    let other : get_or ys k d ≡ get_or (drop n ys) (k - n) d = grind (arith, places, same.size) in
+    one ∙ (ap (λ bs. get_or bs (k - n) d) (sym same.behind) ∙ sym other)
+
+masked : (b : Bool) (x y : ℕ) → (b ≡ false → x ≡ y) → (if b || false then 0 else x) ≡ (if b || false then 0 else y)
+masked true x y same = refl
+masked false x y same = same refl
+
+-- a place whose sector isn't the extent's lies before it or behind it
+apart_place : (extent : Extent) (k : ℕ) → has_sector extent (k / 512) ≡ false → (k < 512 * extent.start) ⊎ (512 * extent.start ≤ k) → (k < 512 * extent.start) ⊎ (512 * (extent.start + extent.count) ≤ k)
+apart_place extent k not (inl before) = inl before
+apart_place extent k not (inr from) =
+    let first : extent.start ≤ k / 512 = omega (arith, from) in
+    let past : extent.start + extent.count ≤ k / 512 = grind (arith, nat_tests, not, first) in
+    inr (omega (arith, past))
+
+outside_kept_bytes : (extent : Extent) (xs ys : List ℕ) → SameOutside extent xs ys → outside_of (extent ∷ []) xs ≡ outside_of (extent ∷ []) ys
+outside_kept_bytes extent xs ys same = same_lists _ _ long each
+  where
+    long : length (outside_of (extent ∷ []) xs) ≡ length (outside_of (extent ∷ []) ys)
+    long = length-outside (extent ∷ []) 0 xs ∙ (sym same.size ∙ sym (length-outside (extent ∷ []) 0 ys))
+
+    each : (k d : ℕ) → k < length (outside_of (extent ∷ []) xs) → get_or (outside_of (extent ∷ []) xs) k d ≡ get_or (outside_of (extent ∷ []) ys) k d
+    each k d within =
+        let below : k < length xs = subst (λ n. k < n) (length-outside (extent ∷ []) 0 xs) within in
+        let below' : k < length ys = subst (λ n. k < n) (sym same.size) below in
+        get_or-outside extent 0 xs k d below
+        ∙ (masked (has_sector extent ((0 + k) / 512)) (get_or xs k d) (get_or ys k d)
+        (λ not. byte_kept extent xs ys same k d below (apart_place extent k (subst (λ n. has_sector extent (n / 512) ≡ false) (omega arith) not) (cases_lt k (512 * extent.start))))
+        ∙ sym (get_or-outside extent 0 ys k d below'))
+
+-- the image goes on telling its bytes, and those outside the extent stay
+pub record Kept (extent : Extent) (old new : Option (List ℕ)) : Type 0 where
+  pub tells : IsSome new
+  pub outside : outside_of (extent ∷ []) (unwrap_or old []) ≡ outside_of (extent ∷ []) (unwrap_or new [])
+
+pub outside_kept : (extent : Extent) (old new : Option (List ℕ)) → IsSome old → ToldOutside extent old new → Kept extent old new
+outside_kept extent None new tells kept = absurd (cc)
+outside_kept extent (Some xs) None tells kept = absurd kept
+outside_kept extent (Some xs) (Some ys) tells kept = record { tells = refl; outside = outside_kept_bytes extent xs ys kept }

@@ -1,31 +1,19 @@
 -- A run, event by event.
-use Rattle.std.proofs.Common.{◌≡◌, ◌≢◌, inl, inr, ℕ, ◌+◌, ◌<◌, ◌≤◌, List, [], ◌∷◌, ◌++◌, length, take, Option, Some, None, Result, Ok, Err, false, get_or, refl, sym, ◌∙◌, ap, subst, append_assoc, append-nil, arith}
+use Rattle.std.proofs.Common.{◌≡◌, ◌≢◌, ℕ, ◌+◌, ◌<◌, ◌≤◌, List, [], ◌∷◌, ◌++◌, length, take, Option, Some, None, Result, Ok, Err, false, get_or, refl, sym, ◌∙◌, ap, subst, append_assoc, append-nil, arith}
 use Rattle.std.specs.Prelude.{MatchOption, All, OnOk, is_err}
 use Rattle.std.specs.List.{slice_get}
 use Rattle.std.proofs.lemmas.List.{map-append, take_more, take_all}
 use Rattle.std.proofs.lemmas.List.Elements.{All-head, All-tail, All-push}
 use Rattle.board.specs.declared.event.Event.{Event}
-use Rattle.board.specs.declared.event.EventKind.{EventKind}
-use Rattle.board.specs.declared.event.EventKind.TheVariants.{Read, MemRead, MemWrite}
 use Rattle.board.specs.declared.reply.Reply.{Reply}
 use Rattle.board.specs.declared.reply.Reply.TheVariants.{NoMemory}
 use Rattle.board.specs.declared.reply.Record.{Record}
-use Rattle.board.specs.Machine.{Outcome}
 use Rattle.board.specs.Slot.{SlotState}
-use Rattle.board.specs.World.{World, Health, IsRefused, MayGive, SlotStep, MissingStep, Step, Handles}
+use Rattle.board.specs.World.{World, SlotStep, MissingStep, Step, Handles}
 use Rattle.board.specs.Line.{Move, IsLine, IsQuiet, HadMemory, HasInterruptWords, IsRun, events_of, records_of}
 use Rattle.board.proofs.Alone.{alone, recorded_slot}
-
--- the number of the image's failures never falls: in a refused event
-refused_failures : {A : Type 0} (state : SlotState) (what : EventKind A) (old new : Health) (outcome : Outcome A) → IsRefused state what old new outcome → old.failures ≤ new.failures
-refused_failures state (Read window offset width) old new outcome refused = absurd refused
-refused_failures state (MemRead addr len) old new outcome refused = let same : new.failures ≡ old.failures = ap (λ (h : Health). h.failures) refused.image in omega arith
-refused_failures state (MemWrite addr bytes) old new outcome refused = absurd refused
-
--- in any event of a slot
-given_failures : {A : Type 0} (state : SlotState) (what : EventKind A) (old new : Health) (outcome : Outcome A) → MayGive state what old new outcome → old.failures ≤ new.failures
-given_failures state what old new outcome (inl served) = let same : new.failures ≡ old.failures = served.failures in omega arith
-given_failures state what old new outcome (inr refused) = refused_failures state what old new outcome refused
+use Rattle.board.proofs.Failures.{given_failures}
+use Rattle.board.proofs.Noted.{line_noted}
 
 step_failures_at : {A : Type 0} (old : World) (event : Event A) (written : Record A) (new : World) (o : Option SlotState) → MatchOption o (MissingStep old event.slot written new) (λ s. SlotStep old event.slot s event.what written new) → old.health.failures ≤ new.health.failures
 step_failures_at old event written new None step = let same : new.health.failures ≡ old.health.failures = ap (λ (w : World). w.health.failures) step.same in omega arith
@@ -119,6 +107,7 @@ run_of old new events before after reached = record {
   events_are = reached.events_are;
   records_are = reached.records_are;
   alone = λ g still. alone g old reached.moves new reached.line still;
+  noted = λ g. line_noted g old reached.moves new reached.line;
   quiet = λ stood g had. quiet g old reached.moves new reached.line stood had;
 }
 

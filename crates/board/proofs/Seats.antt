@@ -1,7 +1,7 @@
 -- One slot's event, seen as a step of the whole board. Here the extents' being apart is used: what a
 -- slot's event does to the image stays within that slot's own.
-use Rattle.std.proofs.Common.{◌≡◌, ◌≢◌, ◌⊎◌, inl, inr, ℕ, zero, suc, ◌<◌, true, List, [], ◌∷◌, length, map, Option, Some, None, get_or, refl, sym, ◌∙◌, ap, subst, append-nil, arith}
-use Rattle.std.specs.Prelude.{slice_set, MatchOption, AllPairs}
+use Rattle.std.proofs.Common.{◌≡◌, ◌≢◌, ◌⊎◌, inl, inr, ℕ, zero, suc, ◌<◌, Bool, true, false, ◌||◌, List, [], ◌∷◌, length, map, Option, Some, None, get_or, refl, sym, ◌∙◌, ap, subst, append-nil, arith}
+use Rattle.std.specs.Prelude.{slice_set, MatchOption, All, AllPairs}
 use Rattle.std.specs.List.{slice_get, list_any}
 use Rattle.std.specs.Option.{option_map}
 use Rattle.std.proofs.Math.Seq.{map-set_same}
@@ -16,11 +16,12 @@ use Rattle.board.specs.declared.event.Event.{Event}
 use Rattle.board.specs.declared.reply.Reply.{Reply}
 use Rattle.board.specs.declared.reply.Reply.TheVariants.{BadSlot}
 use Rattle.board.specs.declared.reply.Record.{Record}
-use Rattle.board.specs.declared.spec.Extent.{Extent}
-use Rattle.board.specs.Extent.{has_sector, IsApart, outside_of}
+use Rattle.block_device.specs.declared.extent.Extent.{Extent}
+use Rattle.board.specs.Extent.{has_sector, IsWithin, IsApart, outside_of}
 use Rattle.board.specs.Machine.{block_irq, console_irq}
+use Rattle.board.specs.Image.{bytes_of, health_of}
 use Rattle.board.specs.Slot.{SlotState, BoardSlot, state_of}
-use Rattle.board.specs.World.{World, SlotStep, MissingStep, Step, Serves, Handles, bytes_of, health_of, extents_of, seen}
+use Rattle.board.specs.World.{World, SlotStep, MissingStep, Step, Serves, Handles, disturbed_of, extents_of, met_refusal, noted, seen}
 use Rattle.board.proofs.Outside.{outside_more, extent_apart}
 
 -- a slot that is put back as it was changes nothing
@@ -31,6 +32,13 @@ set_same slots h slot new here same = rw (same, ← get_or_from_slice_get slots 
 pub extents_of-set : (slots : List BoardSlot) (h : ℕ) (slot new : BoardSlot) → slice_get slots h ≡ Some slot → new.extent ≡ slot.extent → extents_of (slice_set slots h new) ≡ extents_of slots
 extents_of-set slots h slot new here same =
     map-set_same (λ (s : BoardSlot). s.extent) slots h new slot (same ∙ ap (λ (s : BoardSlot). s.extent) (sym (get_or_from_slice_get slots h slot slot here)))
+
+-- each slot's extent lies in the image
+pub slot_within : (sectors : ℕ) (slots : List BoardSlot) (h : ℕ) (slot : BoardSlot) → All (IsWithin sectors) (extents_of slots) → slice_get slots h ≡ Some slot → IsWithin sectors slot.extent
+slot_within sectors slots h slot within here =
+    let extent : BoardSlot → Extent = λ s. s.extent in
+    let fits : h < length slots = slice_get_within slots h slot here in
+    rw (get_or-map extent slots h slot slot.extent fits, get_or_from_slice_get slots h slot slot here) at (within h slot.extent (omega (arith, length-map slots extent)))
 
 -- apart is apart from either side
 apart_sym : (one other : Extent) → IsApart one other → IsApart other one
@@ -47,9 +55,21 @@ slots_apart slots apart h k d fits fits' (inr (inr behind)) differ =
     let other : IsApart (get_or slots k d).extent (get_or slots h d).extent = rw (← get_or-map extent slots k d d.extent fits', ← get_or-map extent slots h d d.extent fits) (apart k h d.extent behind (omega (arith, length-map slots extent))) in
     apart_sym (get_or slots k d).extent (get_or slots h d).extent other
 
+-- what the guest of a slot can see, with these bytes of its extent
+abbrev with_extent_bytes : BoardSlot → List ℕ → SlotState
+with_extent_bytes slot bytes = record {
+  memory = slot.memory;
+  extent = bytes;
+  read_only = slot.read_only;
+  block = slot.block;
+  console = slot.console;
+  cols = slot.cols;
+  rows = slot.rows;
+}
+
 -- what a guest can see stays where the bytes of its extent do
 state_same : (slot : BoardSlot) (xs ys : List ℕ) → extent_of xs slot.extent.start slot.extent.count ≡ extent_of ys slot.extent.start slot.extent.count → state_of xs slot ≡ state_of ys slot
-state_same slot xs ys same = ap (λ (bytes : List ℕ). record { memory = slot.memory; extent = bytes; read_only = slot.read_only; cols = slot.cols; rows = slot.rows }) same
+state_same slot xs ys same = ap (λ (bytes : List ℕ). with_extent_bytes slot bytes) same
 
 -- one slot changed, and the image within that slot's extent alone: the states of all others stay
 states_set : (slots : List BoardSlot) (h : ℕ) (slot new : BoardSlot) (xs ys : List ℕ) → AllPairs IsApart (extents_of slots) → slice_get slots h ≡ Some slot → outside_of (slot.extent ∷ []) xs ≡ outside_of (slot.extent ∷ []) ys → map (state_of ys) (slice_set slots h new) ≡ slice_set (map (state_of xs) slots) h (state_of ys new)
@@ -98,15 +118,31 @@ pub step_missing : {A : Type 0} (old : World) (event : Event A) → slice_get ol
 step_missing old event missing written step =
     subst (λ (o : Option SlotState). MatchOption o (MissingStep old event.slot written old) (λ s. SlotStep old event.slot s event.what written old)) (sym missing) step
 
+or_true : (b : Bool) → (b || true) ≡ true
+or_true true = refl
+or_true false = refl
+
+or_false : (b : Bool) → (b || false) ≡ b
+or_false true = refl
+or_false false = refl
+
+-- a slot notes a refusal: so does the board
+pub noted_set : (slots : List BoardSlot) (h : ℕ) (slot new : BoardSlot) (met : Bool) → slice_get slots h ≡ Some slot → new.disturbed ≡ (slot.disturbed || met) → disturbed_of (slice_set slots h new) ≡ noted h met (disturbed_of slots)
+noted_set slots h slot new true here is =
+    map-set (λ (s : BoardSlot). s.disturbed) slots h new ∙ ap (λ b. slice_set (disturbed_of slots) h b) (is ∙ or_true slot.disturbed)
+noted_set slots h slot new false here is =
+    map-set_same (λ (s : BoardSlot). s.disturbed) slots h new slot ((is ∙ or_false slot.disturbed) ∙ ap (λ (s : BoardSlot). s.disturbed) (sym (get_or_from_slice_get slots h slot slot here)))
+
 -- A slot of the board served its guest, and left the image's bytes outside its own extent as they were:
 -- the board handled the event.
 pub handles : {A : Type 0} (slots : List BoardSlot) (old new : Disk) (event : Event A) (slot after : BoardSlot) (reply : Reply A) (block console : ℕ) (out_before out_after : List ℕ) →
     AllPairs IsApart (extents_of slots) → slice_get slots event.slot ≡ Some slot → after.extent ≡ slot.extent →
+    after.disturbed ≡ (slot.disturbed || met_refusal reply old.failures new.failures) →
     outside_of (slot.extent ∷ []) (bytes_of old) ≡ outside_of (slot.extent ∷ []) (bytes_of new) →
     Serves (state_of (bytes_of old) slot) event.what (health_of old) (health_of new) (state_of (bytes_of new) after) reply out_before out_after →
     block ≡ block_irq (state_of (bytes_of new) after) → console ≡ console_irq (state_of (bytes_of new) after) →
     Handles (seen slots old) event reply block console out_before out_after (seen (slice_set slots event.slot after) new)
-handles slots old new event slot after reply block console out_before out_after apart here extent stays serves block_is console_is = record {
+handles slots old new event slot after reply block console out_before out_after apart here extent notes stays serves block_is console_is = record {
   output = serves.output;
   step =
       step_there (seen slots old) (seen (slice_set slots event.slot after) new) event _ (state_of (bytes_of old) slot)
@@ -116,6 +152,7 @@ handles slots old new event slot after reply block console out_before out_after 
         given = serves.given;
         recorded = rw (block_is, console_is) refl;
         slots = states_set slots event.slot slot after (bytes_of old) (bytes_of new) apart here stays;
+        disturbed = noted_set slots event.slot slot after (met_refusal reply old.failures new.failures) here notes;
         outside =
             ap (λ es. outside_of es (bytes_of new)) (extents_of-set slots event.slot slot after here extent)
             ∙ sym (outside_more (extents_of slots) slot.extent (λ sector. in_some slots event.slot slot here sector) 0 (bytes_of old) (bytes_of new) stays);

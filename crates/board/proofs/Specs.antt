@@ -9,7 +9,7 @@ use Rattle.std.proofs.lemmas.Option.{slice_get-get_or}
 use Rattle.board.specs.declared.fault.BoardFault.{BoardFault}
 use Rattle.board.specs.declared.fault.BoardFault.TheVariants.{NoSlots, TooManySlots, Memory, ExtentOutside, ExtentsOverlap, Cache}
 use Rattle.board.specs.declared.spec.SlotSpec.{SlotSpec}
-use Rattle.board.specs.declared.spec.Extent.{Extent}
+use Rattle.block_device.specs.declared.extent.Extent.{Extent}
 use Rattle.board.specs.Extent.{IsWithin, IsApart, AreSound}
 use Rattle.board.specs.Fault.{IsMemory, IsGoodSlot, GoodBelow, AreGood, IsFaultOf, Refuses, cache_refusal}
 use Rattle.board.specs.Slot.{opened}

@@ -1,7 +1,7 @@
 -- Extents: which sectors of the backing image each slot has. A sector has 512 bytes (5.2.4).
 use Rattle.std.specs.Prelude.{◌≡◌, ℕ, ◌+◌, ◌/◌, ◌≤◌, ◌&&◌, Bool, false, IsTrue, nat_le, nat_lt, if◌then◌else◌, List, [], ◌∷◌, All, AllPairs}
 use Rattle.std.specs.List.{list_any}
-use Rattle.board.specs.declared.spec.Extent.{Extent}
+use Rattle.block_device.specs.declared.extent.Extent.{Extent}
 
 -- whether the sector is one of the extent's
 abbrev pub has_sector : Extent → ℕ → Bool

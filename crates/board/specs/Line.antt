@@ -1,12 +1,12 @@
 -- Lines of events, and what each slot sees of one: its own events, as if it were alone.
-use Rattle.std.specs.Prelude.{◌≡◌, ◌≢◌, ℕ, ◌≤◌, ◌==◌, ⊤, List, [], ◌∷◌, ◌++◌, map, filter, take, All, Some, Ok, Err, Result}
+use Rattle.std.specs.Prelude.{◌≡◌, ◌≢◌, ◌↔◌, ℕ, ◌≤◌, ◌==◌, ⊤, false, List, [], ◌∷◌, ◌++◌, map, filter, take, All, Some, Ok, Err, Result}
 use Rattle.std.specs.List.{slice_get}
 use Rattle.board.specs.declared.event.Event.{Event}
 use Rattle.board.specs.declared.event.EventKind.{EventKind}
 use Rattle.board.specs.declared.reply.Reply.TheVariants.{NoMemory}
 use Rattle.board.specs.declared.reply.Record.{Record}
 use Rattle.board.specs.declared.reply.RunStop.{RunStop}
-use Rattle.board.specs.Machine.{records_alone, state_alone}
+use Rattle.board.specs.Machine.{RunsOnItsOwn}
 use Rattle.board.specs.Slot.{SlotState}
 use Rattle.board.specs.World.{World, Step}
 
@@ -51,10 +51,10 @@ IsQuiet g old (move ∷ moves) = IsUndisturbed g old move × IsQuiet g move.afte
 -- what it would be alone: its own events decide both, whatever others did in between.
 pub record RunsAlone {A : Type 0} (g : ℕ) (state : SlotState) (moves : List (Move A))
     (new : World) : Type 0 where
-  pub records :
-      own_records g (records_of moves) ≡ records_alone g state (own_events g (events_of moves))
-  pub state_after :
-      slice_get new.slots g ≡ Some (state_alone state (own_events g (events_of moves)))
+  pub last : SlotState
+  pub own :
+      RunsOnItsOwn g state (own_events g (events_of moves)) (own_records g (records_of moves)) last
+  pub state_after : slice_get new.slots g ≡ Some last
 
 -- guest g sees of the line what it would see alone
 abbrev pub IsAlone : {A : Type 0} → ℕ → World → List (Move A) → World → Type 0
@@ -67,6 +67,11 @@ pub record SeesTheSame {A : Type 0} (g : ℕ) (moves : List (Move A)) (new : Wor
   pub records : own_records g (records_of moves) ≡ own_records g (records_of moves')
   pub state_after : slice_get new.slots g ≡ slice_get new'.slots g
 
+-- what is noted of guest g says whether an event of it has met a refusal: before the line, or in it
+abbrev pub IsNoted : {A : Type 0} → ℕ → World → List (Move A) → World → Type 0
+IsNoted g old moves new =
+    (slice_get new.disturbed g ≡ Some false) ↔ ((slice_get old.disturbed g ≡ Some false) × IsQuiet g old moves)
+
 -- no record of g's says that memory was wanting
 abbrev pub HadMemory : {A : Type 0} → ℕ → List (Record A) → Type 0
 HadMemory g written = All (λ entry. entry.slot ≡ g → entry.reply ≢ NoMemory) written
@@ -78,8 +83,8 @@ pub record HasInterruptWords {A : Type 0} (written : Record A) : Type 0 where
   pub console : written.console_irq ≤ 3
 
 -- A run from one world to another over these events, whose records were added to those before it.
--- Every guest whose own events met no refusal sees what it would see alone. Where no call of the
--- image failed in the whole run, those are the guests without a record of NoMemory.
+-- Every guest whose own events met no refusal sees what it would see alone. Which guests those are is
+-- noted. Where no call of the image failed in the whole run, they are those without a record of NoMemory.
 pub record IsRun {A : Type 0} (old new : World) (events : List (Event A))
     (before after : List (Record A)) : Type 0 where
   pub moves : List (Move A)
@@ -87,6 +92,7 @@ pub record IsRun {A : Type 0} (old new : World) (events : List (Event A))
   pub events_are : events_of moves ≡ events
   pub records_are : after ≡ before ++ records_of moves
   pub alone : (g : ℕ) → IsQuiet g old moves → IsAlone g old moves new
+  pub noted : (g : ℕ) → IsNoted g old moves new
   pub quiet :
       new.health.failures ≡ old.health.failures →
       (g : ℕ) → HadMemory g (records_of moves) → IsQuiet g old moves

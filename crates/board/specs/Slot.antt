@@ -1,26 +1,36 @@
 -- A slot: what its guest can see, and what the board keeps of it.
-use Rattle.std.specs.Prelude.{ℕ, Bool, List}
+use Rattle.std.specs.Prelude.{ℕ, ◌+◌, Bool, false, if◌then◌else◌, List}
 use Rattle.guest_memory.specs.Memory.{Memory, zeroed}
+use Rattle.negotiation.specs.Features.{block_seg_max, block_ro, block_blk_size, block_flush, indirect_desc, version_1}
+use Rattle.mmio_window.specs.declared.device_kind.DeviceKind.TheVariants.{Block, Console}
+use Rattle.mmio_window.specs.Soundness.{IsSound}
+use Rattle.mmio_window.specs.Window.{WindowState, fresh_window}
 use Rattle.sector_cache.specs.Sector.{extent_of}
-use Rattle.board.specs.declared.spec.Extent.{Extent}
+use Rattle.block_device.specs.declared.extent.Extent.{Extent}
 use Rattle.board.specs.declared.spec.SlotSpec.{SlotSpec}
 
 -- All that one guest can see: its memory, the bytes of its extent of the image, whether its block
--- device refuses writes, and the size of its console.
+-- device refuses writes, the windows of its two devices, and the size of its console.
 pub record SlotState : Type 0 where
   pub memory : Memory
   pub extent : List ℕ
   pub read_only : Bool
+  pub block : WindowState
+  pub console : WindowState
   pub cols : ℕ
   pub rows : ℕ
 
--- A slot as the board keeps it. The bytes of its extent stand in the image, which all slots share.
+-- A slot as the board keeps it. The bytes of its extent stand in the image, which all slots share. The
+-- board notes whether an event of the slot has ever met a refusal, which the guest isn't told.
 pub record BoardSlot : Type 0 where
   pub memory : Memory
   pub extent : Extent
   pub read_only : Bool
+  pub block : WindowState
+  pub console : WindowState
   pub cols : ℕ
   pub rows : ℕ
+  pub disturbed : Bool
 
 -- what the slot's guest can see where the image has these bytes
 abbrev pub state_of : List ℕ → BoardSlot → SlotState
@@ -28,16 +38,36 @@ state_of bytes slot = record {
   memory = slot.memory;
   extent = extent_of bytes slot.extent.start slot.extent.count;
   read_only = slot.read_only;
+  block = slot.block;
+  console = slot.console;
   cols = slot.cols;
   rows = slot.rows;
 }
 
--- a slot of a new board: its memory is all zeros, and the rest is as it was asked for
+-- both windows are sound for the memory: their ready queues lie in it
+pub record HasSoundWindows (memory : Memory) (block console : WindowState) : Type 0 where
+  pub block_sound : IsSound memory block
+  pub console_sound : IsSound memory console
+
+-- the features that a block device offers (5.2.3, 6); one that refuses writes says so
+abbrev pub block_features : Bool → ℕ
+block_features read_only =
+    (if read_only then block_ro else 0) + block_seg_max + block_blk_size + block_flush + indirect_desc + version_1
+
+-- the features that a console offers (6)
+abbrev pub console_features : ℕ
+console_features = indirect_desc + version_1
+
+-- a slot of a new board: its memory is all zeros, its windows are as after a reset, nothing met a
+-- refusal yet, and the rest is as it was asked for
 abbrev pub opened : SlotSpec → BoardSlot
 opened spec = record {
   memory = zeroed spec.base spec.len;
   extent = spec.extent;
   read_only = spec.read_only;
+  block = fresh_window Block (block_features spec.read_only) 0;
+  console = fresh_window Console console_features 0;
   cols = spec.cols;
   rows = spec.rows;
+  disturbed = false;
 }

@@ -1,17 +1,20 @@
 -- The whole board as it can be seen from outside, and what one event may do to it.
-use Rattle.std.specs.Prelude.{◌≡◌, ◌≢◌, ◌⊎◌, ℕ, ◌<◌, Bool, IsSome, IsTrue, List, [], ◌++◌, unwrap_or, map, slice_set, MatchOption}
+use Rattle.std.specs.Prelude.{◌≡◌, ◌≢◌, ◌⊎◌, ℕ, ◌<◌, ◌||◌, Bool, true, false, nat_lt, if◌then◌else◌, IsTrue, List, [], ◌++◌, map, slice_set, MatchOption}
 use Rattle.std.specs.List.{slice_get}
 use Rattle.guest_memory.specs.Memory.{Memory, Inside}
+use Rattle.mmio_window.specs.declared.device_kind.DeviceKind.{DeviceKind}
 use Rattle.sector_cache.specs.Disk.{Disk}
+use Rattle.block_device.specs.declared.extent.Extent.{Extent}
+use Rattle.block_device.specs.Device.{block_device}
 use Rattle.board.specs.declared.event.Event.{Event}
 use Rattle.board.specs.declared.event.EventKind.{EventKind}
-use Rattle.board.specs.declared.event.EventKind.TheVariants.{Read, MemRead, MemWrite}
+use Rattle.board.specs.declared.event.EventKind.TheVariants.{Read, Write, MemRead, MemWrite}
 use Rattle.board.specs.declared.reply.Reply.{Reply}
 use Rattle.board.specs.declared.reply.Reply.TheVariants.{BadSlot, NoMemory}
 use Rattle.board.specs.declared.reply.Record.{Record}
-use Rattle.board.specs.declared.spec.Extent.{Extent}
 use Rattle.board.specs.Extent.{outside_of}
-use Rattle.board.specs.Machine.{Outcome, replies, holds, next, record_of}
+use Rattle.board.specs.Image.{Health, bytes_of, health_of}
+use Rattle.board.specs.Machine.{Outcome, replies, holds, device_of, IsWritten, Gives, record_of}
 use Rattle.board.specs.Slot.{SlotState, BoardSlot, state_of}
 
 -- A board: its slots, and the image that they share.
@@ -19,38 +22,27 @@ pub record BoardState (I : Type 0) : Type 0 where
   pub slots : List BoardSlot
   pub image : I
 
--- How the image fares: how many of its calls failed so far, and whether a write was tried since the
--- last flush that succeeded.
-pub record Health : Type 0 where
-  pub failures : ℕ
-  pub mark : Bool
-
--- All that can be seen of a board: the state of each slot, the image's bytes outside all extents,
--- and how the image fares.
+-- All that can be seen of a board: the state of each slot, for each whether an event of it has met a
+-- refusal, the image's bytes outside all extents, and how the image fares.
 pub record World : Type 0 where
   pub slots : List SlotState
+  pub disturbed : List Bool
   pub outside : List ℕ
   pub health : Health
-
--- the image tells its bytes
-abbrev pub Tells : Disk → Type 0
-Tells disk = IsSome disk.told
-
--- the bytes that the image tells
-abbrev pub bytes_of : Disk → List ℕ
-bytes_of disk = unwrap_or disk.told []
-
-abbrev pub health_of : Disk → Health
-health_of disk = record { failures = disk.failures; mark = disk.mark }
 
 -- where the slots' extents lie in the image
 abbrev pub extents_of : List BoardSlot → List Extent
 extents_of slots = map (λ slot. slot.extent) slots
 
+-- for each slot whether an event of it has met a refusal
+abbrev pub disturbed_of : List BoardSlot → List Bool
+disturbed_of slots = map (λ slot. slot.disturbed) slots
+
 -- what can be seen of slots over an image
 abbrev pub seen : List BoardSlot → Disk → World
 seen slots disk = record {
   slots = map (state_of (bytes_of disk)) slots;
+  disturbed = disturbed_of slots;
   outside = outside_of (extents_of slots) (bytes_of disk);
   health = health_of disk;
 }
@@ -59,14 +51,15 @@ seen slots disk = record {
 abbrev pub world_of : {I : Type 0} → (I → Disk) → BoardState I → World
 world_of disk board = seen board.slots (disk board.image)
 
--- The event is handled as the one-slot machine handles it: memory was found for it, and the image
--- stands as before.
+-- ---- one slot
+
+-- The event is handled as the one-slot machine handles it: memory was found for it, and no call of the
+-- image failed.
 pub record IsServed {A : Type 0} (state : SlotState) (what : EventKind A) (old new : Health)
     (outcome : Outcome A) : Type 0 where
-  pub alike : outcome ≡ next state what
+  pub alike : Gives state what old new outcome
   pub answered : outcome.reply ≢ NoMemory
   pub failures : new.failures ≡ old.failures
-  pub mark : new.mark ≡ old.mark
 
 -- A read of some bytes that lie in the memory found no memory for its reply: nothing changed, and
 -- nothing was put out.
@@ -77,9 +70,18 @@ pub record IsUnread {A : Type 0} (state : SlotState) (addr len : ℕ) (old new :
   pub unchanged : outcome ≡ replies state NoMemory
   pub image : new ≡ old
 
--- how an event may be refused for want of memory or by the image; most can't be
+-- A write that notified the block device met an image that failed: each request that met no failure is
+-- served as ever, and each that did is counted and ends in one of the ways of a request that fails.
+pub record IsUnwritten {A : Type 0} (state : SlotState) (window : DeviceKind) (offset width value : ℕ)
+    (old new : Health) (outcome : Outcome A) : Type 0 where
+  pub written : IsWritten (block_device (device_of state)) state window offset width value old new outcome
+  pub failures : old.failures < new.failures
+
+-- how an event may be refused for want of memory or by the image; some can't be
 abbrev pub IsRefused : {A : Type 0} → SlotState → EventKind A → Health → Health → Outcome A → Type 0
 IsRefused state (Read window offset width) old new outcome = ⊥
+IsRefused state (Write window offset width value) old new outcome =
+    IsUnwritten state window offset width value old new outcome
 IsRefused state (MemRead addr len) old new outcome = IsUnread state addr len old new outcome
 IsRefused state (MemWrite addr bytes) old new outcome = ⊥
 
@@ -96,14 +98,32 @@ pub record Serves {A : Type 0} (state : SlotState) (what : EventKind A) (old new
   pub given : MayGive state what old new (record { state = after; reply = reply; output = output })
   pub appended : out_after ≡ out_before ++ output
 
--- An event of slot h, which was in this state: it comes out as it may, its record says so, and every
--- other slot and each byte outside all extents stay as they are.
+-- ---- the whole board
+
+-- whether a reply says that memory was wanting
+abbrev pub lacks_memory : {A : Type 0} → Reply A → Bool
+lacks_memory NoMemory = true
+lacks_memory _ = false
+
+-- whether an event that was answered so met a refusal, of memory or of the image
+abbrev pub met_refusal : {A : Type 0} → Reply A → ℕ → ℕ → Bool
+met_refusal reply old_failures new_failures = lacks_memory reply || nat_lt old_failures new_failures
+
+-- an event of slot h that met a refusal is noted for it, once and for all
+abbrev pub noted : ℕ → Bool → List Bool → List Bool
+noted h met disturbed = if met then slice_set disturbed h true else disturbed
+
+-- An event of slot h, which was in this state: it comes out as it may, its record says so, a refusal is
+-- noted, and every other slot and each byte outside all extents stay as they are.
 pub record SlotStep {A : Type 0} (old : World) (h : ℕ) (state : SlotState) (what : EventKind A)
     (written : Record A) (new : World) : Type 0 where
   pub outcome : Outcome A
   pub given : MayGive state what old.health new.health outcome
   pub recorded : written ≡ record_of h outcome
   pub slots : new.slots ≡ slice_set old.slots h outcome.state
+  pub disturbed :
+      new.disturbed
+      ≡ noted h (met_refusal outcome.reply old.health.failures new.health.failures) old.disturbed
   pub outside : new.outside ≡ old.outside
 
 -- the record of an event of a slot that isn't there
@@ -149,5 +169,6 @@ pub record Answers {A : Type 0} (old : World) (event : Event A) (reply : Reply A
 -- the events that may find no memory, of a guest with this memory: a read of some bytes inside it
 abbrev pub MayLackMemory : {A : Type 0} → Memory → EventKind A → Type 0
 MayLackMemory memory (Read window offset width) = ⊥
+MayLackMemory memory (Write window offset width value) = ⊥
 MayLackMemory memory (MemRead addr len) = (0 < len) × Inside memory addr len
 MayLackMemory memory (MemWrite addr bytes) = ⊥

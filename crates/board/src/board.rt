@@ -6,7 +6,8 @@ ghost use Rattle.board.specs.declared.fault.BoardFault.{BoardFault};
 ghost use Rattle.board.specs.Fault.{IsAccepted, Refuses, cache_refusal};
 ghost use Rattle.board.specs.Line.{IsRun, HasInterruptWords, events_done};
 ghost use Rattle.board.specs.Slot.{opened};
-ghost use Rattle.board.specs.World.{Tells, Handles, Answers, MayLackMemory, extents_of, world_of};
+ghost use Rattle.board.specs.Image.{Tells};
+ghost use Rattle.board.specs.World.{Handles, Answers, MayLackMemory, disturbed_of, extents_of, met_refusal, noted, world_of};
 
 use crate::bytes::Bytes;
 use crate::check;
@@ -103,6 +104,12 @@ impl<I: Image, A: Allocator + Copy> Board<I, A> {
         ensures outside { Tells (I.disk self.old.image) →
             (world_of I.disk self.new).outside ≡ (world_of I.disk self.old).outside }
         ensures extents { extents_of self.new.slots ≡ extents_of self.old.slots }
+        ensures rises { (I.disk self.old.image).failures ≤ (I.disk self.new.image).failures }
+
+        // a refusal, of memory or of the image, is noted for the event's slot
+        ensures noted { disturbed_of self.new.slots ≡ noted event.now.slot
+            (met_refusal result (I.disk self.old.image).failures (I.disk self.new.image).failures)
+            (disturbed_of self.old.slots) }
 
         // what is refused changes nothing, and only some reads of memory may find no memory
         ensures bad_slot { (result ≡ Reply.BadSlot) ↔ (length self.old.slots ≤ event.now.slot) }
@@ -134,6 +141,7 @@ impl<I: Image, A: Allocator + Copy> Board<I, A> {
         ensures outside { Tells (I.disk self.old.image) →
             (world_of I.disk self.new).outside ≡ (world_of I.disk self.old).outside }
         ensures extents { extents_of self.new.slots ≡ extents_of self.old.slots }
+        ensures rises { (I.disk self.old.image).failures ≤ (I.disk self.new.image).failures }
     {
         for (done, event) in events.iter().enumerate() {
             if records.reserve(1).is_err() {
@@ -165,6 +173,10 @@ impl<I: Image, A: Allocator + Copy> Board<I, A> {
         ensures console_word { result.console_irq ≤ 3 }
         ensures told { Tells (I.disk self.old.image) → Tells (I.disk self.new.image) }
         ensures extents { extents_of self.new.slots ≡ extents_of self.old.slots }
+        ensures rises { (I.disk self.old.image).failures ≤ (I.disk self.new.image).failures }
+        ensures noted { disturbed_of self.new.slots ≡ noted event.now.slot
+            (met_refusal result.reply (I.disk self.old.image).failures (I.disk self.new.image).failures)
+            (disturbed_of self.old.slots) }
         ensures bad_slot { (result.reply ≡ Reply.BadSlot) ↔
             (length self.old.slots ≤ event.now.slot) }
         ensures bad_slot_keeps { result.reply ≡ Reply.BadSlot → self.new ≡ self.old }
@@ -180,7 +192,7 @@ impl<I: Image, A: Allocator + Copy> Board<I, A> {
                 console_irq: 0,
             };
         };
-        let reply = slot.serve(self.alloc, &event.what, out);
+        let reply = slot.serve(self.alloc, &event.what, &mut self.cache, out);
         Handled {
             reply,
             block_irq: slot.block_irq(),
@@ -190,6 +202,15 @@ impl<I: Image, A: Allocator + Copy> Board<I, A> {
 }
 
 impl<I: Image, A: Allocator> Board<I, A> {
+    /// Whether an event of the slot has met a refusal since the board was made: there was no memory for
+    /// its answer, or a call of the image failed in it. There is no answer for a slot that isn't there.
+    pub fn disturbed(&self, slot: u8) -> Option<bool>
+        ensures { result ≡ slice_get (disturbed_of self.now.slots) slot }
+    {
+        let slot = self.slots.get(slot as usize)?;
+        Some(slot.is_disturbed())
+    }
+
     /// Gives the image back as it stands.
     pub fn into_image(self) -> I
         ensures { result ≡ self.image }

@@ -6,7 +6,8 @@ ghost use Rattle.board.specs.Extent.{IsWithin, IsApart, Overlaps};
 ghost use Rattle.board.specs.Fault.{IsGoodSlot, AreGood, IsFaultOf, Refuses};
 
 use crate::fault::BoardFault;
-use crate::spec::{Extent, SlotSpec};
+use crate::spec::SlotSpec;
+use block_device::Extent;
 use guest_memory::fault_of;
 
 /// How many slots a board may have.

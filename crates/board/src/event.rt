@@ -1,16 +1,8 @@
 //! What comes in: the events of the guests.
 
 use crate::bytes::Bytes;
+use mmio_window::DeviceKind;
 use std::alloc::{Allocator, Global};
-
-/// A kind of device. Each slot has one window of each kind.
-#[derive(Clone, Copy, Debug, PartialEq, Eq)]
-pub enum DeviceKind {
-    /// A block device (5.2).
-    Block,
-    /// A console (5.3).
-    Console,
-}
 
 /// What one guest does, in one step that nothing interrupts.
 #[derive(Drop)]
@@ -30,6 +22,14 @@ pub enum EventKind<A: Allocator = Global> {
         window: DeviceKind,
         offset: u16,
         width: u8,
+    },
+    /// The guest's driver writes `width` bytes at an offset of a window (4.2.2). Bits of the value above
+    /// the width are ignored.
+    Write {
+        window: DeviceKind,
+        offset: u16,
+        width: u8,
+        value: u32,
     },
     /// The guest reads `len` bytes of its memory from address `addr` on.
     MemRead {

@@ -2,7 +2,10 @@
 
 ghost use Rattle.std.specs.Prelude.{◌≡◌, ℕ, List, Some};
 ghost use Rattle.std.specs.List.{slice_get};
-ghost use Rattle.board.specs.Line.{Move, IsLine, IsQuiet, IsAlone, SeesTheSame, events_of, own_events};
+ghost use Rattle.board.specs.declared.event.EventKind.{EventKind};
+ghost use Rattle.board.specs.declared.reply.Record.{Record};
+ghost use Rattle.board.specs.Line.{Move, IsLine, IsNoted, IsQuiet, IsAlone, SeesTheSame, events_of, own_events};
+ghost use Rattle.board.specs.Machine.{Outcome, IsNext, RunsOnItsOwn};
 ghost use Rattle.board.specs.Slot.{SlotState};
 ghost use Rattle.board.specs.World.{World};
 
@@ -23,4 +26,24 @@ pub fn nothing_else_is_seen<A: Allocator>()
         slice_get old.slots g ≡ Some state → slice_get old'.slots g ≡ Some state →
         own_events g (events_of moves) ≡ own_events g (events_of moves') →
         SeesTheSame g moves new moves' new' }
+{}
+
+/// In every line of events it is noted of each guest exactly whether an event of it has met a refusal.
+pub fn refusals_are_noted<A: Allocator>()
+    ensures { (g : ℕ) (old new : World) (moves : List (Move A)) →
+        IsLine old moves new → IsNoted g old moves new }
+{}
+
+/// The one-slot machine is deterministic: an event has one outcome.
+pub fn one_outcome<A: Allocator>()
+    ensures { (state : SlotState) (what : EventKind A) (one other : Outcome A) →
+        IsNext state what one → IsNext state what other → one ≡ other }
+{}
+
+/// And so is a guest's whole run: its state and its events decide its records and its last state.
+pub fn a_guest_alone_has_one_run<A: Allocator>()
+    ensures { (g : ℕ) (state one other : SlotState) (events : List (EventKind A))
+        (records records' : List (Record A)) →
+        RunsOnItsOwn g state events records one → RunsOnItsOwn g state events records' other →
+        (records ≡ records') × (one ≡ other) }
 {}

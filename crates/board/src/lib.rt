@@ -6,8 +6,9 @@
 //! difference that another one caused.
 //!
 //! `board` is the board. `spec` says what it is made of, `check` and `fault` why one is refused;
-//! `event` is what comes in and `reply` what goes out. `slot` serves one guest, and knows of no
-//! other; `register` has the registers that it shows. `laws` has what holds of every run by itself.
+//! `event` is what comes in and `reply` what goes out. `slot` serves one guest, its memory, its two
+//! windows and its block device, and knows of no other; `features` says what its devices offer. `laws`
+//! has what holds of every run by itself.
 #![tactic(auto)]
 
 mod board;
@@ -15,21 +16,26 @@ mod bytes;
 mod check;
 mod event;
 mod fault;
+mod features;
 mod laws;
-mod register;
 mod reply;
 mod slot;
 mod spec;
 
+pub use block_device::Extent;
 pub use board::Board;
 pub use bytes::Bytes;
-pub use event::{DeviceKind, Event, EventKind};
+pub use event::{Event, EventKind};
 pub use fault::BoardFault;
 pub use guest_memory::MemoryFault;
-pub use laws::{each_guest_is_alone, nothing_else_is_seen};
+pub use laws::{
+    a_guest_alone_has_one_run, each_guest_is_alone, nothing_else_is_seen, one_outcome,
+    refusals_are_noted,
+};
+pub use mmio_window::DeviceKind;
 pub use reply::{Record, Reply, RunStop};
 pub use sector_cache::{CacheFault, Image, ImageError, ImageFault, MemoryImage, Refused};
-pub use spec::{Extent, SlotSpec};
+pub use spec::SlotSpec;
 
 #[cfg(test)]
 mod tests;

@@ -1,21 +1,28 @@
 //! One slot: a guest's memory and devices, and how its events are served.
 //!
 //! Nothing here knows of other slots. What a slot does is stated against the one-slot machine, and
-//! the board lifts that to all of its slots.
+//! the board lifts that to all of its slots. `memory` has the events of the guest's memory, `window`
+//! those of its devices' windows.
 
-ghost use Rattle.std.specs.Prelude.{◌≡◌, ◌≢◌, ◌<◌, ◌≤◌, ℕ, List, All, map, IfOk};
-ghost use Rattle.guest_memory.specs.Memory.{Inside};
+ghost use Rattle.std.specs.Prelude.{◌≡◌, ◌≢◌, ◌<◌, ◌≤◌, ◌||◌, ℕ, List, All, map, nat_lt, IfOk};
+ghost use Rattle.block_device.specs.Extent.{LiesIn, KeepsOutside};
 ghost use Rattle.board.specs.Fault.{IsMemory};
+ghost use Rattle.board.specs.Image.{Tells, bytes_of, health_of};
 ghost use Rattle.board.specs.Machine.{replies, block_irq, console_irq};
 ghost use Rattle.board.specs.Slot.{opened, state_of};
-ghost use Rattle.board.specs.World.{Health, MayGive, Serves, MayLackMemory};
+ghost use Rattle.board.specs.World.{MayGive, Serves, MayLackMemory, met_refusal};
 
-use crate::bytes::Bytes;
+mod memory;
+mod window;
+
 use crate::event::EventKind;
-use crate::register;
+use crate::features;
 use crate::reply::Reply;
-use crate::spec::{Extent, SlotSpec};
+use crate::spec::SlotSpec;
+use block_device::BlockDevice;
 use guest_memory::GuestMemory;
+use mmio_window::{DeviceKind, Window};
+use sector_cache::{Image, SectorCache};
 use std::alloc::{AllocError, Allocator, Global};
 use std::marker::Model;
 
@@ -23,24 +30,40 @@ use std::marker::Model;
 #[derive(Drop)]
 pub(crate) struct Slot<A: Allocator = Global> {
     memory: GuestMemory<A>,
-    extent: Extent,
-    read_only: bool,
+    device: BlockDevice,
+    block: Window,
+    console: Window,
     cols: u16,
     rows: u16,
+    // Whether an event of the slot has met a refusal.
+    disturbed: bool,
 }
 
 impl<A: Allocator> Model for Slot<A> {
-    ghost use Rattle.board.specs.Slot.{BoardSlot};
+    ghost use Rattle.board.specs.Slot.{BoardSlot, HasSoundWindows};
 
     ghost Value = { BoardSlot };
 
     ghost view = { λ s. record {
       memory = s.memory;
-      extent = s.extent;
-      read_only = s.read_only;
+      extent = s.device.extent;
+      read_only = s.device.read_only;
+      block = s.block;
+      console = s.console;
       cols = s.cols;
       rows = s.rows;
+      disturbed = s.disturbed;
     } };
+
+    ghost invariant = { λ s. HasSoundWindows s.memory s.block s.console };
+}
+
+// What came of an event.
+#[derive(Drop)]
+struct Answer<A: Allocator = Global> {
+    reply: Reply<A>,
+    // Whether a call of the image failed.
+    failed: bool,
 }
 
 impl<A: Allocator + Copy> Slot<A> {
@@ -52,37 +75,104 @@ impl<A: Allocator + Copy> Slot<A> {
         match GuestMemory::new(alloc, spec.base, spec.len) {
             Ok(memory) => Ok(Slot {
                 memory,
-                extent: spec.extent,
-                read_only: spec.read_only,
+                device: BlockDevice::new(spec.extent, spec.read_only),
+                block: Window::new(DeviceKind::Block, features::of_block(spec.read_only)),
+                console: Window::new(DeviceKind::Console, features::of_console()),
                 cols: spec.cols,
                 rows: spec.rows,
+                disturbed: false,
             }),
             Err(_) => Err(AllocError),
         }
     }
 
-    /// Serves one event of the slot's guest. What its console puts out is appended to `out`;
-    /// nothing is yet.
-    pub(crate) fn serve(&mut self, alloc: A, what: &EventKind<A>, out: &mut Vec<u8, A>) -> Reply<A>
-        ensures serves { (bytes : List ℕ) (health : Health) →
-            Serves (state_of bytes self.old) what.now health health
-            (state_of bytes self.new) result out.old.items out.new.items }
+    /// Serves one event of the slot's guest, and notes a refusal. What its console puts out is
+    /// appended to `out`; nothing is yet.
+    pub(crate) fn serve<I: Image>(
+        &mut self,
+        alloc: A,
+        what: &EventKind<A>,
+        cache: &mut SectorCache<I, A>,
+        out: &mut Vec<u8, A>,
+    ) -> Reply<A>
+        requires lies { LiesIn (I.disk cache.old) self.old.extent }
+        ensures serves { Tells (I.disk cache.old) →
+            Serves (state_of (bytes_of (I.disk cache.old)) self.old) what.now
+            (health_of (I.disk cache.old)) (health_of (I.disk cache.new))
+            (state_of (bytes_of (I.disk cache.new)) self.new) result out.old.items out.new.items }
+        ensures noted { self.new.disturbed ≡ (self.old.disturbed ||
+            met_refusal result (I.disk cache.old).failures (I.disk cache.new).failures) }
+
+        // the failures never fall, and the image stays outside the slot's extent
+        ensures rises { (I.disk cache.old).failures ≤ (I.disk cache.new).failures }
+        ensures outside { KeepsOutside self.old.extent (I.disk cache.old) (I.disk cache.new) }
         ensures extent { self.new.extent ≡ self.old.extent }
 
         // a slot that is there is never said to be missing, and what is refused changes nothing
         ensures there { result ≢ Reply.BadSlot }
         ensures bad_range { result ≡ Reply.BadRange → self.new ≡ self.old }
+        ensures bad_range_image { result ≡ Reply.BadRange → cache.new ≡ cache.old }
         ensures no_memory { result ≡ Reply.NoMemory → MayLackMemory self.old.memory what.now }
     {
-        match what {
+        let Answer { reply, failed } = self.answer(alloc, what, cache);
+        if failed || matches!(reply, Reply::NoMemory) {
+            self.disturbed = true;
+        }
+        reply
+    }
+
+    // Handles an event, and leaves it to the caller to note a refusal.
+    fn answer<I: Image>(
+        &mut self,
+        alloc: A,
+        what: &EventKind<A>,
+        cache: &mut SectorCache<I, A>,
+    ) -> Answer<A>
+        requires lies { LiesIn (I.disk cache.old) self.old.extent }
+        ensures given { Tells (I.disk cache.old) →
+            MayGive (state_of (bytes_of (I.disk cache.old)) self.old) what.now
+            (health_of (I.disk cache.old)) (health_of (I.disk cache.new))
+            (replies (state_of (bytes_of (I.disk cache.new)) self.new) result.reply) }
+        ensures failed { result.failed ≡
+            nat_lt (I.disk cache.old).failures (I.disk cache.new).failures }
+        ensures rises { (I.disk cache.old).failures ≤ (I.disk cache.new).failures }
+        ensures outside { KeepsOutside self.old.extent (I.disk cache.old) (I.disk cache.new) }
+        ensures extent { self.new.extent ≡ self.old.extent }
+        ensures disturbed { self.new.disturbed ≡ self.old.disturbed }
+        ensures there { result.reply ≢ Reply.BadSlot }
+        ensures bad_range { result.reply ≡ Reply.BadRange → self.new ≡ self.old }
+        ensures bad_range_image { result.reply ≡ Reply.BadRange → cache.new ≡ cache.old }
+        ensures no_memory { result.reply ≡ Reply.NoMemory → MayLackMemory self.old.memory what.now }
+    {
+        let mut failed = false;
+        let reply = match what {
             EventKind::Read {
                 window,
                 offset,
                 width,
-            } => Reply::Value(register::read(*window, *offset, *width)),
+            } => Reply::Value(self.read_window(*window, *offset, *width)),
+            EventKind::Write {
+                window,
+                offset,
+                width,
+                value,
+            } => {
+                failed = self.write_window(*window, *offset, *width, *value, cache);
+                Reply::Done
+            }
             EventKind::MemRead { addr, len } => self.read_memory(alloc, *addr, *len),
             EventKind::MemWrite { addr, bytes } => self.write_memory(*addr, bytes.as_slice()),
-        }
+        };
+        Answer { reply, failed }
+    }
+}
+
+impl<A: Allocator> Slot<A> {
+    /// Whether an event of the slot has met a refusal.
+    pub(crate) fn is_disturbed(&self) -> bool
+        ensures { result ≡ self.now.disturbed }
+    {
+        self.disturbed
     }
 
     /// The block window's InterruptStatus.
@@ -90,7 +180,7 @@ impl<A: Allocator + Copy> Slot<A> {
         ensures value { (bytes : List ℕ) → result ≡ block_irq (state_of bytes self.now) }
         ensures word { result ≤ 3 }
     {
-        0
+        self.block.interrupts()
     }
 
     /// The console window's InterruptStatus.
@@ -98,44 +188,7 @@ impl<A: Allocator + Copy> Slot<A> {
         ensures value { (bytes : List ℕ) → result ≡ console_irq (state_of bytes self.now) }
         ensures word { result ≤ 3 }
     {
-        0
-    }
-
-    // A copy of `len` bytes of the memory.
-    fn read_memory(&self, alloc: A, addr: u64, len: u32) -> Reply<A>
-        ensures given { (bytes : List ℕ) (health : Health) →
-            MayGive (state_of bytes self.now) (EventKind.MemRead addr len) health health
-            (replies (state_of bytes self.now) result) }
-        ensures there { result ≢ Reply.BadSlot }
-        ensures no_memory { result ≡ Reply.NoMemory → (0 < len) × Inside self.now.memory addr len }
-    {
-        let Some(part) = self.memory.part(addr, u64::from(len)) else {
-            return Reply::BadRange;
-        };
-        let mut bytes = Vec::new(alloc);
-        match bytes.extend_from_slice(part) {
-            Ok(()) => Reply::Bytes(Bytes::from(bytes)),
-            Err(AllocError) => Reply::NoMemory,
-        }
-    }
-
-    // Writes bytes to the memory.
-    fn write_memory(&mut self, addr: u64, new: &[u8]) -> Reply<A>
-        ensures given { (bytes : List ℕ) (health : Health) →
-            MayGive (state_of bytes self.old) (EventKind.MemWrite addr new.now) health health
-            (replies (state_of bytes self.new) result) }
-        ensures extent { self.new.extent ≡ self.old.extent }
-        ensures there { result ≢ Reply.BadSlot }
-        ensures bad_range { result ≡ Reply.BadRange → self.new ≡ self.old }
-        ensures no_memory { result ≢ Reply.NoMemory }
-    {
-        if !self.memory.holds(addr, new.len() as u64) {
-            return Reply::BadRange;
-        }
-        self.memory
-            .part_mut(addr, new.len() as u64)
-            .copy_from_slice(new);
-        Reply::Done
+        self.console.interrupts()
     }
 }
 

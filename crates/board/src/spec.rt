@@ -1,13 +1,6 @@
 //! What a board is made of.
 
-/// A run of sectors of the backing image.
-#[derive(Clone, Copy, Debug, PartialEq, Eq)]
-pub struct Extent {
-    /// Its first sector.
-    pub start: u64,
-    /// How many sectors it has, which may be none.
-    pub count: u64,
-}
+use block_device::Extent;
 
 /// What a slot is to be.
 #[derive(Clone, Copy, Debug, PartialEq, Eq)]

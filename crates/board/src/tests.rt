@@ -1,8 +1,13 @@
 //! Worked values from outside, and what stands where memory is refused.
 
+mod console;
+mod disturbed;
+mod driver;
 mod made;
 mod refused;
+mod requests;
 mod served;
+mod windows;
 
 use crate::{Board, DeviceKind, Event, EventKind, Extent, SlotSpec};
 use sector_cache::MemoryImage;
@@ -47,6 +52,22 @@ fn read<A: Allocator>(slot: u8, window: DeviceKind, offset: u16, width: u8) -> E
         window,
         offset,
         width,
+    };
+    Event { slot, what }
+}
+
+fn write<A: Allocator>(
+    slot: u8,
+    window: DeviceKind,
+    offset: u16,
+    width: u8,
+    value: u32,
+) -> Event<A> {
+    let what = EventKind::Write {
+        window,
+        offset,
+        width,
+        value,
     };
     Event { slot, what }
 }

@@ -1,5 +1,5 @@
 -- Bytes spelled by digits: which fields spell some.
-use Rattle.std.proofs.Common.{◌≡◌, ◌≢◌, ℕ, suc, ◌+◌, ◌*◌, ◌/◌, ◌%◌, ◌^◌, ◌<◌, List, [], ◌∷◌, ◌++◌, All, length, Ok, Option, Some, None, true, refl, sym, ap, subst, ◌∙◌, arith, inl, inr}
+use Rattle.std.proofs.Common.{◌≡◌, ◌≢◌, ℕ, suc, ◌+◌, ◌*◌, ◌/◌, ◌%◌, ◌^◌, ◌<◌, List, [], ◌∷◌, ◌++◌, All, length, get_or, take, drop, take-append-drop, append_assoc, append-nil, Ok, Option, Some, None, true, refl, sym, ap, subst, ◌∙◌, arith, inl, inr}
 use Rattle.std.proofs.lemmas.List.{get_or_past}
 use Rattle.std.proofs.lemmas.Bool.{cases_lt}
 use Rattle.std.proofs.lemmas.List.Elements.{All-head, All-tail, All-cons, All-nil, recursion_from_All}
@@ -100,15 +100,25 @@ unfolding bytes
 bytes_digits [] h = above_tested 32 (45 ∷ []) refl
 bytes_digits (b ∷ bs) h = above_digits (encode_lower (b ∷ bs)) (recursion_from_All IsDigit (encode_lower (b ∷ bs)) (digits_encoded (b ∷ bs) (is_bytes (b ∷ bs) h)))
 
--- one byte more
-pub encode_push : (bs : List ℕ) (b : ℕ) → encode_lower (bs ++ b ∷ []) ≡ (encode_lower bs ++ digit (b / 16) ∷ []) ++ digit (b % 16) ∷ []
-unfolding digit encode_with
-encode_push [] b = refl
-encode_push (x ∷ bs) b = ap (λ (xs : List ℕ). digit (x / 16) ∷ digit (x % 16) ∷ xs) (encode_push bs b)
-
-pub encode_none : encode_lower [] ≡ []
+-- one run of bytes after another
+encode_append : (xs ys : List ℕ) → encode_lower (xs ++ ys) ≡ encode_lower xs ++ encode_lower ys
 unfolding encode_with
-encode_none = refl
+encode_append [] ys = refl
+encode_append (x ∷ xs) ys = ap (λ (t : List ℕ). get_or lower_digits (x / 16) 0 ∷ get_or lower_digits (x % 16) 0 ∷ t) (encode_append xs ys)
+
+-- where the first n bytes were written, the later ones are left
+pub one_block : (front out text bytes : List ℕ) (n : ℕ) → out ++ encode_lower bytes ≡ text → front ≡ out ++ encode_lower (take n bytes) → front ++ encode_lower (drop n bytes) ≡ text
+one_block front out text bytes n so more =
+    ap (λ (t : List ℕ). t ++ encode_lower (drop n bytes)) more
+    ∙ append_assoc out (encode_lower (take n bytes)) (encode_lower (drop n bytes))
+    ∙ ap (λ (t : List ℕ). out ++ t) (sym (encode_append (take n bytes) (drop n bytes)) ∙ ap encode_lower (take-append-drop n bytes))
+    ∙ so
+
+-- none is left
+pub all_written : (out text bytes : List ℕ) → out ++ encode_lower bytes ≡ text → length bytes ≡ 0 → out ≡ text
+unfolding encode_with
+all_written out text [] so none = sym (append-nil out) ∙ so
+all_written out text (b ∷ bytes) so none = absurd (omega arith)
 
 pub bytes_some : (bs : List ℕ) → 0 < length bs → bytes bs ≡ encode_lower bs
 unfolding bytes

@@ -6,9 +6,9 @@ use Rattle.std.proofs.lemmas.List.Elements.{All-get_or}
 use Rattle.trace.specs.declared.fault.FaultKind.{FaultKind}
 use Rattle.trace.specs.declared.fault.FaultKind.TheVariants as kind
 use Rattle.trace.specs.declared.word.Word.{Word}
-use Rattle.trace.specs.declared.word.Word.TheVariants.{Cache, Slot, Read, MemRead, MemWrite}
+use Rattle.trace.specs.declared.word.Word.TheVariants.{Cache, Slot, Read, Write, MemRead, MemWrite}
 use Rattle.trace.specs.Cuts.{lines_of}
-use Rattle.trace.specs.Faults.{AllSay, MayStand, HasWord, IsEnded, Passes, first_field, line_at, other_fields}
+use Rattle.trace.specs.Faults.{AllSay, AreAsMany, MayStand, HasWord, IsEnded, Passes, first_field, line_at, other_fields}
 use Rattle.trace.specs.Text.{header}
 use Rattle.trace.specs.Words.{spelled, shapes}
 use Rattle.trace.proofs.Entries.{Entered, EnteredEvent, same_word}
@@ -28,15 +28,15 @@ first_is l w e = ap (λ (fs : List (List ℕ)). get_or fs 0 []) e.cut
 others_are : (l : List ℕ) (w : Word) (e : Entered l w) → other_fields l ≡ e.fields
 others_are l w e = ap (drop 1) e.cut
 
-counted : (l : List ℕ) (v w : Word) → Entered l v → first_field l ≡ spelled w → length (other_fields l) ≡ length (shapes w)
+counted : (l : List ℕ) (v w : Word) → Entered l v → first_field l ≡ spelled w → AreAsMany w (other_fields l)
 counted l v w e is =
     let same = same_word v w (sym (first_is l v e) ∙ is) in
-    ap length (others_are l v e) ∙ e.count ∙ ap (λ (x : Word). length (shapes x)) same
+    subst (λ (x : Word). AreAsMany x (other_fields l)) same (subst (AreAsMany v) (sym (others_are l v e)) e.count)
 
-said : (l : List ℕ) (v w : Word) (fault : FaultKind) → Entered l v → first_field l ≡ spelled w → AllSay fault (shapes w) (other_fields l)
+said : (l : List ℕ) (v w : Word) (fault : FaultKind) → Entered l v → first_field l ≡ spelled w → AllSay fault (shapes w (other_fields l)) (other_fields l)
 said l v w fault e is =
     let same = same_word v w (sym (first_is l v e) ∙ is) in
-    subst (λ (x : Word). AllSay fault (shapes x) (other_fields l)) same (subst (λ (fs : List (List ℕ)). AllSay fault (shapes v) fs) (sym (others_are l v e)) (e.say fault))
+    subst (λ (x : Word). AllSay fault (shapes x (other_fields l)) (other_fields l)) same (subst (λ (fs : List (List ℕ)). AllSay fault (shapes v fs) fs) (sym (others_are l v e)) (e.say fault))
 
 pub good_passes : (text : List ℕ) (k : ℕ) → Good text k → (fault : FaultKind) → Passes text k fault
 good_passes text k g kind.Cut = λ owed. g.ended
@@ -54,6 +54,7 @@ pub may_later : (w : Word) (k : ℕ) → 3 ≤ k → MayStand 3 w → MayStand k
 may_later Cache k le h = absurd (omega arith)
 may_later Slot k le h = le
 may_later Read k le h = le
+may_later Write k le h = le
 may_later MemRead k le h = le
 may_later MemWrite k le h = le
 
@@ -61,6 +62,7 @@ pub may_earlier : (w : Word) (k : ℕ) → 3 ≤ k → MayStand k w → MayStand
 may_earlier Cache k le h = absurd (omega arith)
 may_earlier Slot k le h = omega arith
 may_earlier Read k le h = omega arith
+may_earlier Write k le h = omega arith
 may_earlier MemRead k le h = omega arith
 may_earlier MemWrite k le h = omega arith
 

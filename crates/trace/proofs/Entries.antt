@@ -1,22 +1,22 @@
 -- The line of a slot, of an event and of the cache: its word, and fields that say what they have to.
-use Rattle.std.proofs.Common.{◌≡◌, ◌≢◌, ℕ, ◌+◌, ◌*◌, ◌^◌, ◌<◌, Bool, true, false, cond, eqb, List, [], ◌∷◌, length, get_or, refl, sym, ap, subst, ◌∙◌, arith, MatchBool}
+use Rattle.std.proofs.Common.{◌≡◌, ◌≢◌, ℕ, ◌+◌, ◌*◌, ◌^◌, ◌<◌, Bool, true, false, cond, eqb, List, [], ◌∷◌, get_or, refl, sym, ap, subst, ◌∙◌, arith, MatchBool, inl, inr}
 use Rattle.std.specs.Prelude.{⊤, Option, Some, None, IfSome, IfNone}
-use Rattle.board.specs.declared.event.DeviceKind.{DeviceKind}
-use Rattle.board.specs.declared.event.DeviceKind.TheVariants.{Block, Console}
+use Rattle.mmio_window.specs.declared.device_kind.DeviceKind.{DeviceKind}
+use Rattle.mmio_window.specs.declared.device_kind.DeviceKind.TheVariants.{Block, Console}
 use Rattle.board.specs.declared.event.Event.{Event}
 use Rattle.board.specs.declared.event.EventKind.{EventKind}
 use Rattle.board.specs.declared.event.EventKind.TheVariants as what
 use Rattle.board.specs.declared.spec.SlotSpec.{SlotSpec}
 use Rattle.trace.specs.declared.fault.FaultKind.{FaultKind}
 use Rattle.trace.specs.declared.word.Word.{Word}
-use Rattle.trace.specs.declared.word.Word.TheVariants.{Cache, Slot, Read, MemRead, MemWrite}
+use Rattle.trace.specs.declared.word.Word.TheVariants.{Cache, Slot, Read, Write, MemRead, MemWrite}
 use Rattle.trace.specs.Cuts.{fields_of}
-use Rattle.trace.specs.Faults.{AllSay, MayStand, order, fault_of}
+use Rattle.trace.specs.Faults.{AllSay, AreAsMany, MayStand, order, fault_of}
 use Rattle.trace.specs.Printable.{EventInRange, KindInRange, IsPrintableKind, SlotInRange}
 use Rattle.trace.specs.Refusals.{IsFine}
 use Rattle.trace.specs.Spelling.{num, fixed, bytes, window, mode, width_digit}
 use Rattle.trace.specs.Text.{line, cache_fields, cache_line, slot_fields, slot_line, event_fields, event_line, what_fields}
-use Rattle.trace.specs.Words.{Shape, Says, spelled, shapes, IsNum}
+use Rattle.trace.specs.Words.{Shape, Value, Says, spelled, shapes, IsNum, IsFixed, IsWidth}
 use Rattle.trace.proofs.ByteFields.{bytes_digits}
 use Rattle.trace.proofs.Signs.{Above, AllAbove, above_tested, above_num, above_fixed, fields_of-line, above_line}
 
@@ -26,12 +26,13 @@ abbrev key : List ℕ → ℕ
 key xs = get_or xs 0 0 * 1000 + get_or xs 1 0
 
 abbrev word_at : ℕ → Word
-word_at n = cond (eqb n 99097) Cache (cond (eqb n 115108) Slot (cond (eqb n 114000) Read (cond (eqb n 109114) MemRead MemWrite)))
+word_at n = cond (eqb n 99097) Cache (cond (eqb n 115108) Slot (cond (eqb n 114000) Read (cond (eqb n 119000) Write (cond (eqb n 109114) MemRead MemWrite))))
 
 found : (w : Word) → word_at (key (spelled w)) ≡ w
 found Cache = refl
 found Slot = refl
 found Read = refl
+found Write = refl
 found MemRead = refl
 found MemWrite = refl
 
@@ -43,6 +44,7 @@ pub above_word : (w : Word) → Above 32 (spelled w)
 above_word Cache = above_tested 32 (spelled Cache) refl
 above_word Slot = above_tested 32 (spelled Slot) refl
 above_word Read = above_tested 32 (spelled Read) refl
+above_word Write = above_tested 32 (spelled Write) refl
 above_word MemRead = above_tested 32 (spelled MemRead) refl
 above_word MemWrite = above_tested 32 (spelled MemWrite) refl
 
@@ -69,17 +71,17 @@ all_say (s ∷ ss) (f ∷ fs) h fault = (one_way (eqb (order (fault_of s)) (orde
 pub record Entered (l : List ℕ) (word : Word) : Type 0 where
   pub fields : List (List ℕ)
   pub cut : fields_of l ≡ spelled word ∷ fields
-  pub count : length fields ≡ length (shapes word)
-  pub say : (fault : FaultKind) → AllSay fault (shapes word) fields
+  pub count : AreAsMany word fields
+  pub say : (fault : FaultKind) → AllSay fault (shapes word fields) fields
   pub unbroken : Above 10 l
 
-entered : (l : List ℕ) (word : Word) (fs : List (List ℕ)) → l ≡ line (spelled word ∷ fs) → length fs ≡ length (shapes word) → EachSays (shapes word) fs → AllAbove 32 fs → Entered l word
+entered : (l : List ℕ) (word : Word) (fs : List (List ℕ)) → l ≡ line (spelled word ∷ fs) → AreAsMany word fs → EachSays (shapes word fs) fs → AllAbove 32 fs → Entered l word
 entered l word fs is count says above =
     record {
       fields = fs;
       cut = ap fields_of is ∙ fields_of-line (spelled word) fs (above_word word, above);
       count = count;
-      say = all_say (shapes word) fs says;
+      say = all_say (shapes word fs) fs says;
       unbroken = subst (Above 10) (sym is) (above_line (spelled word) fs (above_word word, above));
     }
 
@@ -94,6 +96,14 @@ above_mode true = above_tested 32 (mode true) refl
 number : (bits n : ℕ) → n < 2 ^ bits → (m : ℕ) × IsNum bits (num n) m
 number bits n lt = (n, record { fits = lt; spelled = refl })
 
+-- a value within a width fits its digits
+pub fits_digits : (width value : ℕ) → IsWidth width → value < 2 ^ (8 * width) → value < 16 ^ (2 * width)
+fits_digits width value wide within =
+    elim wide [
+      | inl one ↦ rw one (rw one at within)
+      | inr more ↦ elim more [ inl two ↦ rw two (rw two at within) | inr four ↦ rw four (rw four at within) ]
+    ]
+
 pub entered_cache : (n : ℕ) → n < 2 ^ 32 → Entered (cache_line n) Cache
 unfolding cache_line
 entered_cache n lt = entered (cache_line n) Cache (num n ∷ []) refl refl (number 32 n lt, tt) (above_num n, tt)
@@ -104,6 +114,12 @@ entered_slot s h =
     entered (slot_line s) Slot (num s.base ∷ num s.len ∷ num s.extent.start ∷ num s.extent.count ∷ mode s.read_only ∷ num s.cols ∷ num s.rows ∷ []) refl refl
     (number 64 s.base h.base, (number 64 s.len h.len, (number 64 s.extent.start h.start, (number 64 s.extent.count h.count, ((s.read_only, refl), (number 16 s.cols h.cols, (number 16 s.rows h.rows, tt)))))))
     (above_num s.base, (above_num s.len, (above_num s.extent.start, (above_num s.extent.count, (above_mode s.read_only, (above_num s.cols, (above_num s.rows, tt)))))))
+
+-- a value within a width, beside that width
+says_value : (width value : ℕ) → IsWidth width → value < 2 ^ (8 * width) → Says (Value (width_digit width)) (fixed (2 * width) value)
+says_value width value wide within other h =
+    let same : width ≡ other = omega (arith, ap (λ (xs : List ℕ). get_or xs 0 0) h.spelled) in
+    (value, subst (λ (w : ℕ). IsFixed (2 * w) (fixed (2 * width) value) value) same (record { fits = fits_digits width value wide within; spelled = refl }))
 
 -- the line of an event, which has another word than a slot's
 pub record EnteredEvent (l : List ℕ) : Type 0 where
@@ -122,6 +138,16 @@ entered_what slot (what.Read kind offset width) lt range fine =
           entered _ Read (num slot ∷ window kind ∷ fixed 3 offset ∷ width_digit width ∷ []) refl refl
           (number 8 slot lt, ((kind, refl), ((offset, record { fits = fine.three_digits; spelled = refl }), ((width, record { fits = fine.wide; spelled = refl }), tt))))
           (above_num slot, (above_window kind, (above_fixed 3 offset, ((omega arith, tt), tt))));
+    }
+entered_what slot (what.Write kind offset width value) lt range fine =
+    record {
+      word = Write;
+      may = omega arith;
+      other = λ e. absurd cc;
+      entry =
+          entered _ Write (num slot ∷ window kind ∷ fixed 3 offset ∷ width_digit width ∷ fixed (2 * width) value ∷ []) refl refl
+          (number 8 slot lt, ((kind, refl), ((offset, record { fits = fine.access.three_digits; spelled = refl }), ((width, record { fits = fine.access.wide; spelled = refl }), (says_value width value fine.access.wide fine.within, tt)))))
+          (above_num slot, (above_window kind, (above_fixed 3 offset, ((omega arith, tt), (above_fixed (2 * width) value, tt)))));
     }
 entered_what slot (what.MemRead addr len) lt range fine =
     record {
@@ -169,6 +195,9 @@ cut_what : {A : Type 0} (slot : ℕ) (w : EventKind A) → KindInRange w → fie
 cut_what slot (what.Read kind offset width) range =
     fields_of-line (spelled Read) (num slot ∷ window kind ∷ fixed 3 offset ∷ width_digit width ∷ [])
     (above_word Read, (above_num slot, (above_window kind, (above_fixed 3 offset, ((omega arith, tt), tt)))))
+cut_what slot (what.Write kind offset width value) range =
+    fields_of-line (spelled Write) (num slot ∷ window kind ∷ fixed 3 offset ∷ width_digit width ∷ fixed (2 * width) value ∷ [])
+    (above_word Write, (above_num slot, (above_window kind, (above_fixed 3 offset, ((omega arith, tt), (above_fixed (2 * width) value, tt))))))
 cut_what slot (what.MemRead addr len) range =
     fields_of-line (spelled MemRead) (num slot ∷ num addr ∷ num len ∷ []) (above_word MemRead, (above_num slot, (above_num addr, (above_num len, tt))))
 cut_what slot (what.MemWrite addr bs) range =

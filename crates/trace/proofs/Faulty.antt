@@ -1,11 +1,11 @@
 -- From what one line is refused for to the fault of the text.
-use Rattle.std.proofs.Common.{◌≡◌, ◌≢◌, ℕ, ◌<◌, ◌≤◌, List, length, refl, sym, ap, subst, ◌∙◌, arith}
+use Rattle.std.proofs.Common.{◌≡◌, ◌≢◌, ℕ, ◌<◌, ◌≤◌, List, refl, sym, subst, ◌∙◌, arith}
 use Rattle.trace.specs.declared.fault.FaultKind.{FaultKind}
 use Rattle.trace.specs.declared.fault.FaultKind.TheVariants as kind
 use Rattle.trace.specs.declared.word.Word.{Word}
 use Rattle.trace.specs.declared.word.Word.TheVariants.{Slot}
-use Rattle.trace.specs.Faults.{AllSay, MayStand, IsCleanBefore, IsEnded, IsFault, IsOwed, Passes, first_field, line_at, order, other_fields}
-use Rattle.trace.specs.Refusals.{RefusesFields, AreAsMany}
+use Rattle.trace.specs.Faults.{AllSay, AreAsMany, MayStand, IsCleanBefore, IsEnded, IsFault, IsOwed, Passes, first_field, line_at, order, other_fields}
+use Rattle.trace.specs.Refusals.{RefusesFields}
 use Rattle.trace.specs.Words.{spelled, shapes}
 use Rattle.trace.proofs.Entries.{same_word}
 
@@ -73,14 +73,14 @@ module _ (text : List ℕ) (k : ℕ) (late : 2 ≤ k) (clean : IsCleanBefore tex
     word_passes : Passes text k kind.Word
     word_passes _ _ = record { word = w; may = may; first = is }
 
-    fields_pass : AreAsMany (shapes w) (other_fields (line_at text k)) → Passes text k kind.Fields
-    fields_pass same = λ _ _ v first. same ∙ ap (λ (x : Word). length (shapes x)) (same_word w v (sym is ∙ first))
+    fields_pass : AreAsMany w (other_fields (line_at text k)) → Passes text k kind.Fields
+    fields_pass same = λ _ _ v first. subst (λ (x : Word). AreAsMany x (other_fields (line_at text k))) (same_word w v (sym is ∙ first)) same
 
-    say_pass : (fault : FaultKind) → AllSay fault (shapes w) (other_fields (line_at text k)) → (v : Word) → first_field (line_at text k) ≡ spelled v → AllSay fault (shapes v) (other_fields (line_at text k))
-    say_pass fault all v first = subst (λ (x : Word). AllSay fault (shapes x) (other_fields (line_at text k))) (same_word w v (sym is ∙ first)) all
+    say_pass : (fault : FaultKind) → AllSay fault (shapes w (other_fields (line_at text k))) (other_fields (line_at text k)) → (v : Word) → first_field (line_at text k) ≡ spelled v → AllSay fault (shapes v (other_fields (line_at text k))) (other_fields (line_at text k))
+    say_pass fault all v first = subst (λ (x : Word). AllSay fault (shapes x (other_fields (line_at text k))) (other_fields (line_at text k))) (same_word w v (sym is ∙ first)) all
 
     -- its fields are refused
-    pub fields_fault : (fault : FaultKind) → RefusesFields (shapes w) (other_fields (line_at text k)) fault → fault ≢ kind.NoMemory → IsFault text k fault
+    pub fields_fault : (fault : FaultKind) → RefusesFields w (other_fields (line_at text k)) fault → fault ≢ kind.NoMemory → IsFault text k fault
     fields_fault kind.Cut h some = absurd h
     fields_fault kind.Header h some = absurd h
     fields_fault kind.Word h some = absurd h

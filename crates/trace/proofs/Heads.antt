@@ -4,12 +4,12 @@ use Rattle.std.proofs.lemmas.List.{append_assoc, append-nil}
 use Rattle.trace.specs.declared.fault.FaultKind.{FaultKind}
 use Rattle.trace.specs.declared.fault.FaultKind.TheVariants as kind
 use Rattle.trace.specs.declared.word.Word.{Word}
-use Rattle.trace.specs.declared.word.Word.TheVariants.{Cache, Slot, Read, MemRead, MemWrite}
+use Rattle.trace.specs.declared.word.Word.TheVariants.{Cache, Slot, Read, Write, MemRead, MemWrite}
 use Rattle.trace.specs.Cuts.{lines_of}
 use Rattle.trace.specs.Faults.{MayStand, IsCleanBefore, IsEnded, IsFault, Passes, first_field, line_at, other_fields}
 use Rattle.trace.specs.Refusals.{RefusesCache, RefusesFields, RefusesHead, RefusesSecond}
 use Rattle.trace.specs.Text.{header, joined}
-use Rattle.trace.specs.Words.{spelled, shapes}
+use Rattle.trace.specs.Words.{spelled}
 use Rattle.trace.proofs.Clean.{Good, good_passes}
 use Rattle.trace.proofs.Faulty.{cut_fault, fields_fault, header_fault, word_fault}
 use Rattle.trace.proofs.Signs.{above_tested, lines_of-joined}
@@ -57,6 +57,7 @@ module _ (text rest : List ℕ) (whole : text ≡ header ++ 10 ∷ rest) where
   only_cache Cache h = refl
   only_cache Slot h = absurd (omega arith)
   only_cache Read h = absurd (omega arith)
+  only_cache Write h = absurd (omega arith)
   only_cache MemRead h = absurd (omega arith)
   only_cache MemWrite h = absurd (omega arith)
 
@@ -65,7 +66,7 @@ module _ (text rest : List ℕ) (whole : text ≡ header ++ 10 ∷ rest) where
       let here : line_at text 2 ≡ h.line = at_two ∙ ap (λ (ls : List (List ℕ)). get_or ls 0 []) h.cut in
       let end : IsEnded text 2 = omega (arith, ap length headed, ap length h.cut, some_lines h.rest) in
       fields_fault text 2 (omega arith) head_clean end Cache refl (ap first_field here ∙ h.first) (λ _ _ j low high. absurd (omega arith)) fault
-      (subst (λ (l : List ℕ). RefusesFields (shapes Cache) (other_fields l) fault) (sym here) h.refused) known
+      (subst (λ (l : List ℕ). RefusesFields Cache (other_fields l) fault) (sym here) h.refused) known
 
   pub second_fault : (fault : FaultKind) → RefusesSecond rest fault → fault ≢ kind.NoMemory → IsFault text 2 fault
   second_fault kind.Cut h known = cut_fault text 2 (omega arith) head_clean (inl (omega arith)) (λ end. omega (arith, ap length headed, ap length h))

@@ -6,19 +6,20 @@ use Rattle.std.proofs.lemmas.Bool.Decides.{eqb_tells, nat_tests}
 use Rattle.std.proofs.lemmas.List.{take_all, drop-drop}
 use Rattle.sector_cache.specs.Disk.{Disk}
 use Rattle.sector_cache.specs.Sector.{extent_of}
+use Rattle.block_device.specs.declared.extent.Extent.{Extent}
 use Rattle.board.specs.declared.event.Event.{Event}
 use Rattle.board.specs.declared.reply.Record.{Record}
-use Rattle.board.specs.declared.spec.Extent.{Extent}
 use Rattle.board.specs.declared.spec.SlotSpec.{SlotSpec}
 use Rattle.board.specs.Extent.{IsApart, outside_of}
-use Rattle.board.specs.Line.{HadMemory, IsLine, IsQuiet, IsRun, IsUndisturbed, Move, RunsAlone, events_of, records_of}
-use Rattle.board.specs.Machine.{next, record_of}
+use Rattle.board.specs.Image.{bytes_of}
+use Rattle.board.specs.Line.{HadMemory, IsLine, IsQuiet, IsRun, Move, RunsAlone, events_of, own_events, own_records, records_of}
+use Rattle.board.specs.Machine.{RunsOnItsOwn}
 use Rattle.board.specs.Slot.{BoardSlot, SlotState, opened, state_of}
-use Rattle.board.specs.World.{MissingStep, SlotStep, Step, World, bad_slot, bytes_of, extents_of, seen}
-use Rattle.board.proofs.Alone.{alone, recorded_slot}
+use Rattle.board.specs.World.{MissingStep, SlotStep, Step, World, bad_slot, extents_of, seen}
+use Rattle.board.proofs.Alone.{recorded_slot}
 use Rattle.board.proofs.Outside.{extent_apart}
 use Rattle.board.proofs.Runs.{line_outside}
-use Rattle.trace.specs.OneSlot.{IsMachine, machine, machine_after, machine_records, with_extent}
+use Rattle.trace.specs.OneSlot.{IsMachine, machine, with_extent, with_missing}
 
 -- ---- the image
 
@@ -59,74 +60,53 @@ around extent old new same =
 
 -- ---- the records
 
--- what one event of the slot comes to, where it met no refusal
-record Came {A : Type 0} (state : SlotState) (event : Event A) (written : Record A) (after : World) : Type 0 where
-  recorded : written ≡ record_of 0 (next state event.what)
-  slots : after.slots ≡ (next state event.what).state ∷ []
+-- a list of one has nothing at another place than the first, also where that was replaced
+abbrev IsOne : List SlotState → Type 0
+IsOne slots = length slots ≡ 1
 
-own : {A : Type 0} (state : SlotState) (old : World) (move : Move A) → old.slots ≡ state ∷ [] → eqb move.event.slot 0 ≡ true → move.event.slot ≡ 0 → Step old move.event move.written move.after → IsUndisturbed 0 old move → Came state move.event move.written move.after
-own state old move here test same step undisturbed =
-    let there : slice_get old.slots move.event.slot ≡ Some state = ap (λ (slots : List SlotState). slice_get slots move.event.slot) here ∙ ap (λ h. slice_get (state ∷ []) h) same in
-    let taken : SlotStep old move.event.slot state move.event.what move.written move.after =
-    subst (λ (o : Option SlotState). MatchOption o (MissingStep old move.event.slot move.written move.after) (λ s. SlotStep old move.event.slot s move.event.what move.written move.after)) there step in
-    let set : move.after.slots ≡ taken.outcome.state ∷ [] =
-    taken.slots ∙ (ap (λ (slots : List SlotState). slice_set slots move.event.slot taken.outcome.state) here ∙ ap (λ h. slice_set (state ∷ []) h taken.outcome.state) same) in
-    let law : RunsAlone 0 state (move ∷ []) move.after = alone 0 old (move ∷ []) move.after (step, refl) (undisturbed, tt) state (ap (λ (slots : List SlotState). slice_get slots 0) here) in
-    let tested : eqb move.written.slot 0 ≡ true = rw (recorded_slot old move.event move.written move.after step) test in
-    let said : move.written ∷ [] ≡ record_of 0 (next state move.event.what) ∷ [] = rw (test, tested) at law.records in
-    let left : Some taken.outcome.state ≡ Some (next state move.event.what).state = sym (ap (λ (slots : List SlotState). slice_get slots 0) set) ∙ (rw test at law.state_after) in
-    record {
-      recorded = cc said;
-      slots = set ∙ ap (λ (s : SlotState). s ∷ []) (cc left);
-    }
+nothing_at : (slots : List SlotState) (h : ℕ) → IsOne slots → h ≢ 0 → slice_get slots h ≡ None
+nothing_at [] h one other = absurd (omega arith)
+nothing_at (s ∷ []) zero one other = absurd (other refl)
+nothing_at (s ∷ []) (suc h) one other = refl
+nothing_at (s ∷ t ∷ slots) h one other = absurd (omega arith)
+
+length_set : (slots : List SlotState) (h : ℕ) (s : SlotState) → length (slice_set slots h s) ≡ length slots
+length_set [] h s = refl
+length_set (x ∷ slots) zero s = refl
+length_set (x ∷ slots) (suc h) s = ap suc (length_set slots h s)
+
+-- a step leaves as many slots as there were
+as_many_at : {A : Type 0} (old : World) (event : Event A) (written : Record A) (new : World) (o : Option SlotState) → MatchOption o (MissingStep old event.slot written new) (λ s. SlotStep old event.slot s event.what written new) → length new.slots ≡ length old.slots
+as_many_at old event written new None step = ap (λ (w : World). length w.slots) step.same
+as_many_at old event written new (Some s) step = ap (λ (slots : List SlotState). length slots) step.slots ∙ length_set old.slots event.slot step.outcome.state
 
 -- an event of another slot finds none
-record Missed {A : Type 0} (old : World) (event : Event A) (written : Record A) (after : World) : Type 0 where
-  recorded : written ≡ bad_slot event.slot
-  same : after ≡ old
+missed : {A : Type 0} (old : World) (event : Event A) (written : Record A) (after : World) → IsOne old.slots → event.slot ≢ 0 → Step old event written after → written ≡ bad_slot event.slot
+missed old event written after one other step =
+    let none : slice_get old.slots event.slot ≡ None = nothing_at old.slots event.slot one other in
+    let taken : MissingStep old event.slot written after = subst (λ (o : Option SlotState). MatchOption o (MissingStep old event.slot written after) (λ s. SlotStep old event.slot s event.what written after)) none step in
+    taken.recorded
 
-nothing_at : (state : SlotState) (h : ℕ) → h ≢ 0 → slice_get (state ∷ []) h ≡ None
-nothing_at state zero other = absurd (other refl)
-nothing_at state (suc h) other = refl
-
-missed : {A : Type 0} (state : SlotState) (old : World) (event : Event A) (written : Record A) (after : World) → old.slots ≡ state ∷ [] → event.slot ≢ 0 → Step old event written after → MissingStep old event.slot written after
-missed state old event written after here other step =
-    let none : slice_get old.slots event.slot ≡ None = ap (λ (slots : List SlotState). slice_get slots event.slot) here ∙ nothing_at state event.slot other in
-    subst (λ (o : Option SlotState). MatchOption o (MissingStep old event.slot written after) (λ s. SlotStep old event.slot s event.what written after)) none step
-
--- a whole line of events
-pub record Ran {A : Type 0} (state : SlotState) (moves : List (Move A)) (new : World) : Type 0 where
-  pub recorded : records_of moves ≡ machine_records state (events_of moves)
-  pub slots : new.slots ≡ machine_after state (events_of moves) ∷ []
-
-first_own : {A : Type 0} (state : SlotState) (move : Move A) (moves : List (Move A)) (new : World) → eqb move.event.slot 0 ≡ true → Came state move.event move.written move.after → Ran (next state move.event.what).state moves new → Ran state (move ∷ moves) new
-first_own state move moves new test came rest = record {
-  recorded = rw test (ap (λ w. w ∷ records_of moves) came.recorded ∙ ap (λ ws. record_of 0 (next state move.event.what) ∷ ws) rest.recorded);
-  slots = rw test rest.slots;
-}
-
-first_missed : {A : Type 0} (state : SlotState) (old : World) (move : Move A) (moves : List (Move A)) (new : World) → eqb move.event.slot 0 ≡ false → MissingStep old move.event.slot move.written move.after → Ran state moves new → Ran state (move ∷ moves) new
-first_missed state old move moves new test step rest = record {
-  recorded = rw test (ap (λ w. w ∷ records_of moves) step.recorded ∙ ap (λ ws. bad_slot move.event.slot ∷ ws) rest.recorded);
-  slots = rw test rest.slots;
-}
-
-pub ran : {A : Type 0} (state : SlotState) (old : World) (moves : List (Move A)) (new : World) → old.slots ≡ state ∷ [] → IsLine old moves new → IsQuiet 0 old moves → Ran state moves new
-ran state old [] new here line quiet = record { recorded = refl; slots = ap (λ (w : World). w.slots) line ∙ here }
-ran state old (move ∷ moves) new here line quiet =
+-- the records of a line, by those of slot 0
+pub told : {A : Type 0} (old : World) (moves : List (Move A)) (new : World) → IsOne old.slots → IsLine old moves new → records_of moves ≡ with_missing (events_of moves) (own_records 0 (records_of moves))
+told old [] new one line = refl
+told old (move ∷ moves) new one line =
+    let many : IsOne move.after.slots = as_many_at old move.event move.written move.after (slice_get old.slots move.event.slot) line.0 ∙ one in
+    let rest = told move.after moves new many line.1 in
+    let same = recorded_slot old move.event move.written move.after line.0 in
     elim (eqb_tells move.event.slot 0) [
       | inl is ↦
-          let came = own state old move here is.0 is.1 line.0 quiet.0 in
-          first_own state move moves new is.0 came (ran (next state move.event.what).state move.after moves new came.slots line.1 quiet.1)
+          let tested : eqb move.written.slot 0 ≡ true = rw same is.0 in
+          rw (is.0, tested) (ap (λ ws. move.written ∷ ws) rest)
       | inr is ↦
-          let step = missed state old move.event move.written move.after here is.1 line.0 in
-          first_missed state old move moves new is.0 step (ran state move.after moves new (ap (λ (w : World). w.slots) step.same ∙ here) line.1 quiet.1)
+          let tested : eqb move.written.slot 0 ≡ false = rw same is.0 in
+          rw (is.0, tested) (ap (λ w. w ∷ records_of moves) (missed old move.event move.written move.after one is.1 line.0) ∙ ap (λ ws. bad_slot move.event.slot ∷ ws) rest)
     ]
 
 -- ---- a run
 
 -- the one slot that is left of a board of one
-last_state : (last : List BoardSlot) (bytes : List ℕ) (extent : Extent) (state : SlotState) → extents_of last ≡ extent ∷ [] → map (state_of bytes) last ≡ state ∷ [] → extent_of bytes extent.start extent.count ≡ state.extent
+last_state : (last : List BoardSlot) (bytes : List ℕ) (extent : Extent) (state : SlotState) → extents_of last ≡ extent ∷ [] → slice_get (map (state_of bytes) last) 0 ≡ Some state → extent_of bytes extent.start extent.count ≡ state.extent
 last_state [] bytes extent state there is = absurd cc
 last_state (slot ∷ slots) bytes extent state there is =
     let place : slot.extent ≡ extent = cc there in
@@ -134,16 +114,19 @@ last_state (slot ∷ slots) bytes extent state there is =
     ap (λ (e : Extent). extent_of bytes e.start e.count) (sym place) ∙ ap (λ (s : SlotState). s.extent) first
 
 pub one_slot : {A : Type 0} (spec : SlotSpec) (old new : Disk) (last : List BoardSlot) (events : List (Event A)) (records : List (Record A)) → IsRun (seen (map opened (spec ∷ [])) old) (seen last new) events [] records → extents_of last ≡ spec.extent ∷ [] → new.failures ≡ old.failures → HadMemory 0 records → IsMachine spec (bytes_of old) (bytes_of new) events records
-one_slot spec old new last events records run place stood had =
+one_slot {A} spec old new last events records run place stood had =
+    let first : World = seen (map opened (spec ∷ [])) old in
     let state = machine spec (bytes_of old) in
-    let quiet : IsQuiet 0 (seen (map opened (spec ∷ [])) old) run.moves = run.quiet stood 0 (subst (HadMemory 0) run.records_are had) in
-    let all : Ran state run.moves (seen last new) = ran state (seen (map opened (spec ∷ [])) old) run.moves (seen last new) refl run.line quiet in
-    let stayed : outside_of (extents_of last) (bytes_of new) ≡ outside_of (spec.extent ∷ []) (bytes_of old) = line_outside (seen (map opened (spec ∷ [])) old) run.moves (seen last new) run.line in
+    let quiet : IsQuiet 0 first run.moves = run.quiet stood 0 (subst (HadMemory 0) run.records_are had) in
+    let alone : RunsAlone 0 state run.moves (seen last new) = run.alone 0 quiet state refl in
+    let stayed : outside_of (extents_of last) (bytes_of new) ≡ outside_of (spec.extent ∷ []) (bytes_of old) = line_outside first run.moves (seen last new) run.line in
     let same = ap (λ es. outside_of es (bytes_of new)) (sym place) ∙ stayed in
-    let extent_is = last_state last (bytes_of new) spec.extent (machine_after state (events_of run.moves)) place all.slots in
+    let extent_is = last_state last (bytes_of new) spec.extent alone.last place alone.state_after in
+    let own : List (Record A) = own_records 0 (records_of run.moves) in
     record {
-      told = run.records_are ∙ (all.recorded ∙ ap (machine_records state) run.events_are);
-      image =
-          around spec.extent (bytes_of old) (bytes_of new) same
-          ∙ ap (with_extent (bytes_of old) spec.extent) (extent_is ∙ ap (λ es. (machine_after state es).extent) run.events_are);
+      own = own;
+      last = alone.last;
+      ran = subst (λ (es : List (Event A)). RunsOnItsOwn 0 state (own_events 0 es) own alone.last) run.events_are alone.own;
+      told = run.records_are ∙ (told first run.moves (seen last new) refl run.line ∙ ap (λ (es : List (Event A)). with_missing es own) run.events_are);
+      image = around spec.extent (bytes_of old) (bytes_of new) same ∙ ap (with_extent (bytes_of old) spec.extent) extent_is;
     }

@@ -6,9 +6,10 @@ use Rattle.board.specs.declared.event.Event.{Event}
 use Rattle.board.specs.declared.reply.Record.{Record}
 use Rattle.board.specs.declared.spec.SlotSpec.{SlotSpec}
 use Rattle.board.specs.declared.reply.RunStop.{RunStop}
+use Rattle.board.specs.Image.{Tells, bytes_of}
 use Rattle.board.specs.Line.{HadMemory, IsRun, events_done}
 use Rattle.board.specs.Slot.{BoardSlot, opened}
-use Rattle.board.specs.World.{BoardState, Tells, bytes_of, extents_of, seen, world_of}
+use Rattle.board.specs.World.{BoardState, extents_of, seen, world_of}
 use Rattle.trace.specs.OneSlot.{IsMachine}
 use Rattle.trace.specs.Replay.{AfterRun, IsTraceOf, Replays, RunsOn, Unwritten}
 use Rattle.trace.specs.Text.{Content}

@@ -1,13 +1,13 @@
 -- A text belongs to one trace, and the text of a trace has no fault.
-use Rattle.std.proofs.Common.{◌≡◌, ℕ, suc, ◌+◌, ◌-◌, ◌≤◌, Bool, true, false, cond, eqb, List, [], ◌∷◌, ◌++◌, All, length, get_or, drop, map, Result, Ok, Err, refl, sym, ap, subst, ◌∙◌, arith, inl, inr}
+use Rattle.std.proofs.Common.{◌≡◌, ℕ, suc, ◌+◌, ◌*◌, ◌-◌, ◌^◌, ◌<◌, ◌≤◌, Bool, true, false, cond, eqb, List, [], ◌∷◌, ◌++◌, All, length, get_or, drop, map, Result, Ok, Err, refl, sym, ap, subst, ◌∙◌, arith, inl, inr}
 use Rattle.std.proofs.lemmas.List.{append_cancel_right, append-nil, get_or_past}
 use Rattle.std.proofs.lemmas.Bool.{cases_eq, cases_lt, cases_order}
 use Rattle.std.specs.Prelude.{IfOk}
 use Rattle.hex.specs.Hex.{decode_of, encode_lower, lower_digits}
 use Rattle.hex.proofs.HexLemmas.{decode_of-encode_lower, length-encode_with}
 use Rattle.hex.specs.declared.error.FromHexError.{FromHexError}
-use Rattle.board.specs.declared.event.DeviceKind.{DeviceKind}
-use Rattle.board.specs.declared.event.DeviceKind.TheVariants.{Block, Console}
+use Rattle.mmio_window.specs.declared.device_kind.DeviceKind.{DeviceKind}
+use Rattle.mmio_window.specs.declared.device_kind.DeviceKind.TheVariants.{Block, Console}
 use Rattle.board.specs.declared.event.Event.{Event}
 use Rattle.board.specs.declared.event.EventKind.{EventKind}
 use Rattle.board.specs.declared.event.EventKind.TheVariants as what
@@ -17,13 +17,13 @@ use Rattle.trace.specs.declared.fault.FaultKind.TheVariants as kind
 use Rattle.trace.specs.declared.word.Word.TheVariants.{Slot}
 use Rattle.trace.specs.Cuts.{fields_of, lines_of}
 use Rattle.trace.specs.Faults.{IsEnded, IsFault, Passes, line_at, order}
-use Rattle.trace.specs.Printable.{InRange, IsPrintable, IsPrintableKind, KindInRange, SlotInRange}
+use Rattle.trace.specs.Printable.{InRange, IsPrintable, IsPrintableKind, IsWriteAccess, KindInRange, SlotInRange}
 use Rattle.trace.specs.Refusals.{IsFine}
-use Rattle.trace.specs.Spelling.{bytes, mode, window}
+use Rattle.trace.specs.Spelling.{bytes, fixed, mode, window}
 use Rattle.trace.specs.Text.{Content, cache_line, event_fields, event_line, slot_fields, slot_line, text, trace_lines, what_fields}
 use Rattle.trace.specs.Words.{spelled}
 use Rattle.trace.proofs.ByteFields.{AreBytes, is_bytes}
-use Rattle.trace.proofs.Entries.{cut_cache, cut_event, cut_slot, entered_event, entered_slot, same_word}
+use Rattle.trace.proofs.Entries.{cut_cache, cut_event, cut_slot, entered_event, entered_slot, fits_digits, same_word}
 use Rattle.trace.proofs.Numbers.{same_fixed, same_num}
 use Rattle.trace.proofs.Signs.{lines_of-joined}
 use Rattle.trace.proofs.Sofar.{Fits, Sofar, clean, lines_left, next_is, unbroken}
@@ -80,9 +80,15 @@ same_slot_fields s t e =
     ∙ ap (λ (x : ℕ). made_slot t.base t.len t.extent.start t.extent.count t.read_only x s.rows) cols
     ∙ ap (λ (x : ℕ). made_slot t.base t.len t.extent.start t.extent.count t.read_only t.cols x) rows
 
--- the second byte of the first field, which differs for each event's word
+-- the first two bytes of the first field, which differ for each event's word
 sign : List (List ℕ) → ℕ
-sign fs = get_or (get_or fs 0 []) 1 0
+sign fs = get_or (get_or fs 0 []) 0 0 * 1000 + get_or (get_or fs 0 []) 1 0
+
+-- values by equal widths
+same_value : (w x u v o p : ℕ) → w ≡ x → IsWriteAccess o w u → IsWriteAccess p x v → fixed (2 * w) u ≡ fixed (2 * x) v → u ≡ v
+same_value w x u v o p same one other e =
+    same_fixed (2 * x) u v (subst (λ (k : ℕ). u < 16 ^ (2 * k)) same (fits_digits w u one.access.wide one.within)) (fits_digits x v other.access.wide other.within)
+    (ap (λ (k : ℕ). fixed (2 * k) u) (sym same) ∙ e)
 
 same_what : {A : Type 0} (m n : ℕ) (v w : EventKind A) → KindInRange v → KindInRange w → IsPrintableKind v → IsPrintableKind w → what_fields m v ≡ what_fields n w → (m ≡ n) × (v ≡ w)
 unfolding sign
@@ -91,6 +97,13 @@ same_what m n (what.Read k o w) (what.Read l p x) rv rw' fv fw e =
     let kind = same_window k l (ap (λ (fs : List (List ℕ)). get_or fs 2 []) e) in
     let offset = same_fixed 3 o p fv.three_digits fw.three_digits (ap (λ (fs : List (List ℕ)). get_or fs 3 []) e) in
     let width : w ≡ x = omega (arith, ap (λ (fs : List (List ℕ)). get_or (get_or fs 4 []) 0 0) e) in
+    (slot, cc)
+same_what m n (what.Write k o w u) (what.Write l p x v) rv rw' fv fw e =
+    let slot = same_num m n (ap (λ (fs : List (List ℕ)). get_or fs 1 []) e) in
+    let kind = same_window k l (ap (λ (fs : List (List ℕ)). get_or fs 2 []) e) in
+    let offset = same_fixed 3 o p fv.access.three_digits fw.access.three_digits (ap (λ (fs : List (List ℕ)). get_or fs 3 []) e) in
+    let width : w ≡ x = omega (arith, ap (λ (fs : List (List ℕ)). get_or (get_or fs 4 []) 0 0) e) in
+    let value = same_value w x u v o p width fv fw (ap (λ (fs : List (List ℕ)). get_or fs 5 []) e) in
     (slot, cc)
 same_what m n (what.MemRead a l) (what.MemRead b k) rv rw' fv fw e =
     let slot = same_num m n (ap (λ (fs : List (List ℕ)). get_or fs 1 []) e) in
@@ -102,12 +115,18 @@ same_what m n (what.MemWrite a xs) (what.MemWrite b ys) rv rw' fv fw e =
     let addr = same_num a b (ap (λ (fs : List (List ℕ)). get_or fs 2 []) e) in
     let data' = same_bytes xs ys rv.each rw'.each (ap (λ (fs : List (List ℕ)). get_or fs 3 []) e) in
     (slot, cc)
-same_what m n (what.Read k o w) (what.MemRead b l) rv rw' fv fw e = absurd (omega (arith, ap sign e))
+same_what m n (what.Read k o w) (what.Write l p x v) rv rw' fv fw e = absurd (omega (arith, ap sign e))
+same_what m n (what.Read k o w) (what.MemRead b t) rv rw' fv fw e = absurd (omega (arith, ap sign e))
 same_what m n (what.Read k o w) (what.MemWrite b ys) rv rw' fv fw e = absurd (omega (arith, ap sign e))
-same_what m n (what.MemRead a l) (what.Read k o w) rv rw' fv fw e = absurd (omega (arith, ap sign e))
-same_what m n (what.MemRead a l) (what.MemWrite b ys) rv rw' fv fw e = absurd (omega (arith, ap sign e))
-same_what m n (what.MemWrite a xs) (what.Read k o w) rv rw' fv fw e = absurd (omega (arith, ap sign e))
-same_what m n (what.MemWrite a xs) (what.MemRead b l) rv rw' fv fw e = absurd (omega (arith, ap sign e))
+same_what m n (what.Write k o w u) (what.Read l p x) rv rw' fv fw e = absurd (omega (arith, ap sign e))
+same_what m n (what.Write k o w u) (what.MemRead b t) rv rw' fv fw e = absurd (omega (arith, ap sign e))
+same_what m n (what.Write k o w u) (what.MemWrite b ys) rv rw' fv fw e = absurd (omega (arith, ap sign e))
+same_what m n (what.MemRead a r) (what.Read l p x) rv rw' fv fw e = absurd (omega (arith, ap sign e))
+same_what m n (what.MemRead a r) (what.Write l p x v) rv rw' fv fw e = absurd (omega (arith, ap sign e))
+same_what m n (what.MemRead a r) (what.MemWrite b ys) rv rw' fv fw e = absurd (omega (arith, ap sign e))
+same_what m n (what.MemWrite a xs) (what.Read l p x) rv rw' fv fw e = absurd (omega (arith, ap sign e))
+same_what m n (what.MemWrite a xs) (what.Write l p x v) rv rw' fv fw e = absurd (omega (arith, ap sign e))
+same_what m n (what.MemWrite a xs) (what.MemRead b t) rv rw' fv fw e = absurd (omega (arith, ap sign e))
 
 same_event_fields : {A : Type 0} (d e : Event A) → IsFine d → IsFine e → event_fields d ≡ event_fields e → d ≡ e
 same_event_fields d e fd fe h =

@@ -6,7 +6,7 @@ use Rattle.trace.specs.declared.word.Word.{Word}
 use Rattle.trace.specs.declared.word.Word.TheVariants.{Cache, Slot}
 use Rattle.trace.specs.Cuts.{lines_of, fields_of}
 use Rattle.trace.specs.Text.{header}
-use Rattle.trace.specs.Words.{Shape, Num, Offset, Window, Width, Mode, Bytes, Says, spelled, shapes}
+use Rattle.trace.specs.Words.{Shape, Num, Offset, Window, Width, Value, Mode, Bytes, Says, spelled, shapes}
 
 -- line k of a text, numbered from 1; a text ends before line k where nothing stands there
 abbrev pub line_at : List ℕ → ℕ → List ℕ
@@ -42,10 +42,15 @@ pub record HasWord (k : ℕ) (line : List ℕ) : Type 0 where
 abbrev pub fault_of : Shape → FaultKind
 fault_of (Num bits) = kind.Number
 fault_of Offset = kind.Number
+fault_of (Value width_field) = kind.Number
 fault_of Window = kind.Choice
 fault_of Width = kind.Choice
 fault_of Mode = kind.Choice
 fault_of Bytes = kind.Bytes
+
+-- the fields are as many as the word has
+abbrev pub AreAsMany : Word → List (List ℕ) → Type 0
+AreAsMany word fields = length fields ≡ length (shapes word fields)
 
 -- the order in which a line is checked
 abbrev pub order : FaultKind → ℕ
@@ -71,9 +76,9 @@ Passes text k kind.Cut = IsOwed text k → IsEnded text k
 Passes text k kind.Header = IsEnded text k → k ≡ 1 → line_at text k ≡ header
 Passes text k kind.Word = IsEnded text k → 2 ≤ k → HasWord k (line_at text k)
 Passes text k kind.Order = IsEnded text k → first_field (line_at text k) ≡ spelled Slot → (j : ℕ) → 3 ≤ j → j < k → first_field (line_at text j) ≡ spelled Slot
-Passes text k kind.Fields = IsEnded text k → 2 ≤ k → (word : Word) → first_field (line_at text k) ≡ spelled word → length (other_fields (line_at text k)) ≡ length (shapes word)
+Passes text k kind.Fields = IsEnded text k → 2 ≤ k → (word : Word) → first_field (line_at text k) ≡ spelled word → AreAsMany word (other_fields (line_at text k))
 Passes text k kind.NoMemory = ⊤
-Passes text k fault = IsEnded text k → 2 ≤ k → (word : Word) → first_field (line_at text k) ≡ spelled word → AllSay fault (shapes word) (other_fields (line_at text k))
+Passes text k fault = IsEnded text k → 2 ≤ k → (word : Word) → first_field (line_at text k) ≡ spelled word → AllSay fault (shapes word (other_fields (line_at text k))) (other_fields (line_at text k))
 
 -- each line before line k passes every check
 abbrev pub IsCleanBefore : List ℕ → ℕ → Type 0

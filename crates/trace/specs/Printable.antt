@@ -1,8 +1,8 @@
 -- Which traces have a text.
-use Rattle.std.specs.Prelude.{ℕ, ◌^◌, ◌<◌, List, All, ⊤}
+use Rattle.std.specs.Prelude.{ℕ, ◌*◌, ◌^◌, ◌<◌, List, All, ⊤}
 use Rattle.board.specs.declared.event.Event.{Event}
 use Rattle.board.specs.declared.event.EventKind.{EventKind}
-use Rattle.board.specs.declared.event.EventKind.TheVariants.{Read, MemRead, MemWrite}
+use Rattle.board.specs.declared.event.EventKind.TheVariants.{Read, Write, MemRead, MemWrite}
 use Rattle.board.specs.declared.spec.SlotSpec.{SlotSpec}
 use Rattle.trace.specs.Text.{Content}
 use Rattle.trace.specs.Words.{IsWidth}
@@ -12,9 +12,15 @@ pub record IsAccess (offset width : ℕ) : Type 0 where
   pub three_digits : offset < 0x1000
   pub wide : IsWidth width
 
+-- a write that has a spelling: so has its access, and its value is within its width
+pub record IsWriteAccess (offset width value : ℕ) : Type 0 where
+  pub access : IsAccess offset width
+  pub within : value < 2 ^ (8 * width)
+
 -- what has a spelling
 abbrev pub IsPrintableKind : {A : Type 0} → EventKind A → Type 0
 IsPrintableKind (Read kind offset width) = IsAccess offset width
+IsPrintableKind (Write kind offset width value) = IsWriteAccess offset width value
 IsPrintableKind (MemRead addr len) = ⊤
 IsPrintableKind (MemWrite addr bs) = ⊤
 
@@ -42,6 +48,7 @@ pub record BytesInRange (addr : ℕ) (bs : List ℕ) : Type 0 where
 
 abbrev pub KindInRange : {A : Type 0} → EventKind A → Type 0
 KindInRange (Read kind offset width) = ⊤
+KindInRange (Write kind offset width value) = ⊤
 KindInRange (MemRead addr len) = RangeInRange addr len
 KindInRange (MemWrite addr bs) = BytesInRange addr bs
 

@@ -5,14 +5,14 @@ use Rattle.trace.specs.declared.fault.FaultKind.TheVariants as kind
 use Rattle.board.specs.declared.event.Event.{Event}
 use Rattle.trace.specs.Printable.{EventInRange, IsPrintableKind}
 use Rattle.trace.specs.Cuts.{lines_of, fields_of}
-use Rattle.trace.specs.Faults.{AllSay, MayStand, first_field, other_fields}
+use Rattle.trace.specs.Faults.{AllSay, AreAsMany, MayStand, first_field, other_fields}
 use Rattle.trace.specs.Text.{Content, header, cache_fields, slot_fields, event_fields}
 use Rattle.trace.specs.Printable.{SlotInRange}
 use Rattle.trace.specs.declared.entry.Entry.{Entry}
 use Rattle.trace.specs.declared.entry.Entry.TheVariants as entry
 use Rattle.trace.specs.declared.word.Word.{Word}
 use Rattle.trace.specs.declared.word.Word.TheVariants.{Cache, Slot}
-use Rattle.trace.specs.Words.{Shape, Bytes, Says, spelled, shapes}
+use Rattle.trace.specs.Words.{Bytes, Value, Width, Says, spelled, shapes}
 
 -- an event that its integers admit and that has a line
 pub record IsFine {A : Type 0} (e : Event A) : Type 0 where
@@ -25,20 +25,22 @@ RefusesBytes field kind.Bytes = ¬ Says Bytes field
 RefusesBytes field kind.NoMemory = ⊤
 RefusesBytes field _ = ⊥
 
--- the fields are as many as the shapes
-abbrev pub AreAsMany : List Shape → List (List ℕ) → Type 0
-AreAsMany shapes fields = length fields ≡ length shapes
+-- a width is refused, or the value that is read by it
+abbrev pub RefusesValue : List ℕ → List ℕ → FaultKind → Type 0
+RefusesValue width value kind.Number = ¬ Says (Value width) value
+RefusesValue width value kind.Choice = Says (Value width) value × (¬ Says Width width)
+RefusesValue width value _ = ⊥
 
--- fields that were to have these shapes fail this check, and pass those before it
-abbrev pub RefusesFields : List Shape → List (List ℕ) → FaultKind → Type 0
-RefusesFields shapes fields kind.Fields = ¬ AreAsMany shapes fields
-RefusesFields shapes fields kind.Number = AreAsMany shapes fields × (¬ AllSay kind.Number shapes fields)
-RefusesFields shapes fields kind.Choice =
-    AreAsMany shapes fields × AllSay kind.Number shapes fields × (¬ AllSay kind.Choice shapes fields)
-RefusesFields shapes fields kind.Bytes =
-    AreAsMany shapes fields × AllSay kind.Number shapes fields × AllSay kind.Choice shapes fields × (¬ AllSay kind.Bytes shapes fields)
-RefusesFields shapes fields kind.NoMemory = ⊤
-RefusesFields shapes fields _ = ⊥
+-- the fields after a word fail this check, and pass those before it
+abbrev pub RefusesFields : Word → List (List ℕ) → FaultKind → Type 0
+RefusesFields word fields kind.Fields = ¬ AreAsMany word fields
+RefusesFields word fields kind.Number = AreAsMany word fields × (¬ AllSay kind.Number (shapes word fields) fields)
+RefusesFields word fields kind.Choice =
+    AreAsMany word fields × AllSay kind.Number (shapes word fields) fields × (¬ AllSay kind.Choice (shapes word fields) fields)
+RefusesFields word fields kind.Bytes =
+    AreAsMany word fields × AllSay kind.Number (shapes word fields) fields × AllSay kind.Choice (shapes word fields) fields × (¬ AllSay kind.Bytes (shapes word fields) fields)
+RefusesFields word fields kind.NoMemory = ⊤
+RefusesFields word fields _ = ⊥
 
 -- a line after the second is refused, where events may have begun before it: it has no word, or is a slot
 -- after an event, or its fields are refused
@@ -47,7 +49,7 @@ pub record RefusesAfterWord (begun : Bool) (line : List ℕ) (fault : FaultKind)
   pub may : MayStand 3 word
   pub first : first_field line ≡ spelled word
   pub ordered : begun ≡ true → word ≡ Slot → ⊥
-  pub refused : RefusesFields (shapes word) (other_fields line) fault
+  pub refused : RefusesFields word (other_fields line) fault
 
 abbrev pub RefusesLine : Bool → List ℕ → FaultKind → Type 0
 RefusesLine begun line kind.Word = (word : Word) → MayStand 3 word → ¬ (first_field line ≡ spelled word)
@@ -96,7 +98,7 @@ pub record RefusesCache (text : List ℕ) (fault : FaultKind) : Type 0 where
   pub rest : List ℕ
   pub cut : lines_of text ≡ line ∷ lines_of rest
   pub first : first_field line ≡ spelled Cache
-  pub refused : RefusesFields (shapes Cache) (other_fields line) fault
+  pub refused : RefusesFields Cache (other_fields line) fault
 
 -- the second line, at the front of a text, is refused
 abbrev pub RefusesSecond : List ℕ → FaultKind → Type 0

@@ -7,9 +7,10 @@ use Rattle.board.specs.declared.fault.BoardFault.{BoardFault}
 use Rattle.board.specs.declared.reply.Record.{Record}
 use Rattle.board.specs.declared.spec.SlotSpec.{SlotSpec}
 use Rattle.board.specs.Fault.{IsAccepted, Refuses}
+use Rattle.board.specs.Image.{Tells, bytes_of}
 use Rattle.board.specs.Line.{HadMemory, IsRun}
 use Rattle.board.specs.Slot.{BoardSlot, opened}
-use Rattle.board.specs.World.{Tells, bytes_of, extents_of, seen}
+use Rattle.board.specs.World.{extents_of, seen}
 use Rattle.trace.specs.declared.fault.FaultKind.TheVariants as kind
 use Rattle.trace.specs.declared.fault.TraceFault.{TraceFault}
 use Rattle.trace.specs.declared.replay_fault.ReplayFault.{ReplayFault}

@@ -2,8 +2,8 @@
 use Rattle.std.specs.Prelude.{ℕ, zero, suc, ◌+◌, ◌/◌, ◌%◌, Bool, true, false, List, [], ◌∷◌, ◌++◌, map, slice_index, codes}
 use Rattle.std.specs.Int.Digits.{digits_of}
 use Rattle.hex.specs.Hex.{lower_digits, encode_lower}
-use Rattle.board.specs.declared.event.DeviceKind.{DeviceKind}
-use Rattle.board.specs.declared.event.DeviceKind.TheVariants.{Block, Console}
+use Rattle.mmio_window.specs.declared.device_kind.DeviceKind.{DeviceKind}
+use Rattle.mmio_window.specs.declared.device_kind.DeviceKind.TheVariants.{Block, Console}
 
 -- the lower case hexadecimal digit of a number below 16
 unfoldable pub digit : ℕ → ℕ

@@ -1,13 +1,13 @@
 -- The one text of a trace: its lines in order, each ended by a line feed.
-use Rattle.std.specs.Prelude.{ℕ, List, [], ◌∷◌, ◌++◌, map, codes}
+use Rattle.std.specs.Prelude.{ℕ, ◌*◌, List, [], ◌∷◌, ◌++◌, map, codes}
 use Rattle.std.specs.List.{flat_map, join_with_byte}
-use Rattle.board.specs.declared.event.DeviceKind.{DeviceKind}
+use Rattle.mmio_window.specs.declared.device_kind.DeviceKind.{DeviceKind}
 use Rattle.board.specs.declared.event.Event.{Event}
 use Rattle.board.specs.declared.event.EventKind.{EventKind}
 use Rattle.board.specs.declared.event.EventKind.TheVariants as what
 use Rattle.board.specs.declared.spec.SlotSpec.{SlotSpec}
 use Rattle.trace.specs.declared.trace.Trace.{Trace}
-use Rattle.trace.specs.declared.word.Word.TheVariants.{Cache, Slot, Read, MemRead, MemWrite}
+use Rattle.trace.specs.declared.word.Word.TheVariants.{Cache, Slot, Read, Write, MemRead, MemWrite}
 use Rattle.trace.specs.Spelling.{num, fixed, bytes, window, width_digit, mode}
 use Rattle.trace.specs.Words.{spelled}
 
@@ -35,9 +35,13 @@ abbrev pub slot_fields : SlotSpec → List (List ℕ)
 slot_fields s =
     spelled Slot ∷ num s.base ∷ num s.len ∷ num s.extent.start ∷ num s.extent.count ∷ mode s.read_only ∷ num s.cols ∷ num s.rows ∷ []
 
--- a read of a register, a read of memory, and a write of memory
+-- a read and a write of a register, a read and a write of memory
 abbrev pub read_fields : ℕ → DeviceKind → ℕ → ℕ → List (List ℕ)
 read_fields slot kind offset width = spelled Read ∷ num slot ∷ window kind ∷ fixed 3 offset ∷ width_digit width ∷ []
+
+abbrev pub write_fields : ℕ → DeviceKind → ℕ → ℕ → ℕ → List (List ℕ)
+write_fields slot kind offset width value =
+    spelled Write ∷ num slot ∷ window kind ∷ fixed 3 offset ∷ width_digit width ∷ fixed (2 * width) value ∷ []
 
 abbrev pub mem_read_fields : ℕ → ℕ → ℕ → List (List ℕ)
 mem_read_fields slot addr len = spelled MemRead ∷ num slot ∷ num addr ∷ num len ∷ []
@@ -48,6 +52,7 @@ mem_write_fields slot addr bs = spelled MemWrite ∷ num slot ∷ num addr ∷ b
 -- the fields of what a slot does
 abbrev pub what_fields : {A : Type 0} → ℕ → EventKind A → List (List ℕ)
 what_fields slot (what.Read kind offset width) = read_fields slot kind offset width
+what_fields slot (what.Write kind offset width value) = write_fields slot kind offset width value
 what_fields slot (what.MemRead addr len) = mem_read_fields slot addr len
 what_fields slot (what.MemWrite addr bs) = mem_write_fields slot addr bs
 

@@ -1,8 +1,8 @@
 -- The table of a trace's lines: the word that each begins with, and what the fields after it say.
-use Rattle.std.specs.Prelude.{◌≡◌, ℕ, ◌^◌, ◌<◌, ◌⊎◌, Bool, List, [], ◌∷◌, codes, length, ◌%◌, All}
-use Rattle.board.specs.declared.event.DeviceKind.{DeviceKind}
+use Rattle.std.specs.Prelude.{◌≡◌, ℕ, ◌*◌, ◌^◌, ◌<◌, ◌⊎◌, Bool, List, [], ◌∷◌, codes, length, slice_index_or, ◌%◌, All}
+use Rattle.mmio_window.specs.declared.device_kind.DeviceKind.{DeviceKind}
 use Rattle.trace.specs.declared.word.Word.{Word}
-use Rattle.trace.specs.declared.word.Word.TheVariants.{Cache, Slot, Read, MemRead, MemWrite}
+use Rattle.trace.specs.declared.word.Word.TheVariants.{Cache, Slot, Read, Write, MemRead, MemWrite}
 use Rattle.trace.specs.Spelling.{digit, num, fixed, bytes, window, width_digit, mode}
 
 -- the field is a number of that many bits, without leading zeros
@@ -41,21 +41,24 @@ pub record ArePairs (field : List ℕ) : Type 0 where
   pub even : length field % 2 ≡ 0
   pub digits : All IsDigit field
 
--- the shapes of fields
+-- The shapes of fields. A value is read by the width that another field of its line says.
 pub data Shape : Type 0 where
   Num : (bits : ℕ) → Shape
   Offset : Shape
   Window : Shape
   Width : Shape
+  Value : (width_field : List ℕ) → Shape
   Mode : Shape
   Bytes : Shape
 
--- the field has a shape where some value of it is spelled so
+-- The field has a shape where some value of it is spelled so. A value has two digits for each byte of its
+-- width; where there is no such width, any field may be one.
 abbrev pub Says : Shape → List ℕ → Type 0
 Says (Num bits) field = (n : ℕ) × IsNum bits field n
 Says Offset field = (n : ℕ) × IsFixed 3 field n
 Says Window field = (kind : DeviceKind) × (field ≡ window kind)
 Says Width field = (width : ℕ) × IsWidthField field width
+Says (Value width_field) field = (width : ℕ) → IsWidthField width_field width → (n : ℕ) × IsFixed (2 * width) field n
 Says Mode field = (read_only : Bool) × (field ≡ mode read_only)
 Says Bytes field = (bs : List ℕ) × IsBytesField field bs
 
@@ -64,13 +67,15 @@ abbrev pub spelled : Word → List ℕ
 spelled Cache = codes "cache"
 spelled Slot = codes "slot"
 spelled Read = codes "r"
+spelled Write = codes "w"
 spelled MemRead = codes "mr"
 spelled MemWrite = codes "mw"
 
--- the shapes of the fields after each word
-abbrev pub shapes : Word → List Shape
-shapes Cache = Num 32 ∷ []
-shapes Slot = Num 64 ∷ Num 64 ∷ Num 64 ∷ Num 64 ∷ Mode ∷ Num 16 ∷ Num 16 ∷ []
-shapes Read = Num 8 ∷ Window ∷ Offset ∷ Width ∷ []
-shapes MemRead = Num 8 ∷ Num 64 ∷ Num 32 ∷ []
-shapes MemWrite = Num 8 ∷ Num 64 ∷ Bytes ∷ []
+-- the shapes of the fields after each word, where these are the fields
+abbrev pub shapes : Word → List (List ℕ) → List Shape
+shapes Cache fields = Num 32 ∷ []
+shapes Slot fields = Num 64 ∷ Num 64 ∷ Num 64 ∷ Num 64 ∷ Mode ∷ Num 16 ∷ Num 16 ∷ []
+shapes Read fields = Num 8 ∷ Window ∷ Offset ∷ Width ∷ []
+shapes Write fields = Num 8 ∷ Window ∷ Offset ∷ Width ∷ Value (slice_index_or fields 3 []) ∷ []
+shapes MemRead fields = Num 8 ∷ Num 64 ∷ Num 32 ∷ []
+shapes MemWrite fields = Num 8 ∷ Num 64 ∷ Bytes ∷ []

@@ -64,6 +64,19 @@ pub(crate) fn four(rest: Option<&[u8]>) -> Option<(&[u8], &[u8], &[u8], &[u8])>
     Some((a, b, c, d))
 }
 
+/// Five fields in their order.
+type Five<'a> = (&'a [u8], &'a [u8], &'a [u8], &'a [u8], &'a [u8]);
+
+/// The fields that are left of a line, where they are five.
+pub(crate) fn five(rest: Option<&[u8]>) -> Option<Five<'_>>
+    ensures some { IfSome result (λ f. fields_left (option_copied rest.entry) ≡ f.0.now ∷ f.1.now ∷ f.2.now ∷ f.3.now ∷ f.4.now ∷ []) }
+    ensures none { IfNone result (length (fields_left (option_copied rest.entry)) ≢ 5) }
+{
+    let (a, rest) = take_field(rest?);
+    let (b, c, d, e) = four(rest)?;
+    Some((a, b, c, d, e))
+}
+
 /// Seven fields in their order: the first three, and the last four.
 type Seven<'a> = (
     (&'a [u8], &'a [u8], &'a [u8]),

@@ -2,13 +2,17 @@
 //!
 //! The word decides which fields there are.
 
-ghost use Rattle.std.specs.Prelude.{◌≡◌, IfOk, IfErr};
-ghost use Rattle.trace.specs.Cuts.{fields_of};
-ghost use Rattle.trace.specs.Refusals.{RefusesLine, IsFineEntry, entry_fields};
+ghost use Rattle.std.specs.Prelude.{◌≡◌, ◌∷◌, IfOk, IfErr};
+ghost use Rattle.std.specs.Option.{option_copied};
+ghost use Rattle.trace.specs.Cuts.{fields_left, fields_of};
+ghost use Rattle.trace.specs.Printable.{SlotInRange};
+ghost use Rattle.trace.specs.Refusals.{RefusesFields, RefusesLine, IsFine, IsFineEntry, entry_fields};
+ghost use Rattle.trace.specs.Text.{event_fields, slot_fields};
+ghost use Rattle.trace.specs.Words.{spelled};
 
-use crate::cut::{four, seven, take_field, three};
+use crate::cut::{five, four, seven, take_field, three};
 use crate::fault::FaultKind;
-use crate::fields::{mem_read_of, mem_write_of, read_of, slot_of};
+use crate::fields::{mem_read_of, mem_write_of, read_of, slot_of, write_of};
 use crate::word::{Word, word_of};
 use board::{Event, SlotSpec};
 use std::alloc::Allocator;
@@ -36,44 +40,68 @@ pub(crate) fn entry_of<A: Allocator>(
     };
     match word {
         Word::Cache => Err(FaultKind::Word),
-        Word::Slot => {
-            if begun {
-                return Err(FaultKind::Order);
-            }
-            let Some(((base, len, start), (count, mode, cols, rows))) = seven(rest) else {
-                return Err(FaultKind::Fields);
-            };
-            match slot_of(base, len, start, count, mode, cols, rows) {
-                Ok(slot) => Ok(Entry::Slot(slot)),
-                Err(fault) => Err(fault),
-            }
-        }
-        Word::Read => {
-            let Some((slot, window, offset, width)) = four(rest) else {
-                return Err(FaultKind::Fields);
-            };
-            match read_of(slot, window, offset, width) {
-                Ok(event) => Ok(Entry::Event(event)),
-                Err(fault) => Err(fault),
-            }
-        }
-        Word::MemRead => {
-            let Some((slot, addr, len)) = three(rest) else {
-                return Err(FaultKind::Fields);
-            };
-            match mem_read_of(slot, addr, len) {
-                Ok(event) => Ok(Entry::Event(event)),
-                Err(fault) => Err(fault),
-            }
-        }
-        Word::MemWrite => {
-            let Some((slot, addr, bytes)) = three(rest) else {
-                return Err(FaultKind::Fields);
-            };
-            match mem_write_of(alloc, slot, addr, bytes) {
-                Ok(event) => Ok(Entry::Event(event)),
-                Err(fault) => Err(fault),
-            }
-        }
+        Word::Slot if begun => Err(FaultKind::Order),
+        Word::Slot => Ok(Entry::Slot(slot_in(rest)?)),
+        Word::Read => Ok(Entry::Event(read_in(rest)?)),
+        Word::Write => Ok(Entry::Event(write_in(rest)?)),
+        Word::MemRead => Ok(Entry::Event(mem_read_in(rest)?)),
+        Word::MemWrite => Ok(Entry::Event(mem_write_in(alloc, rest)?)),
     }
+}
+
+// The slot that the fields after its word say.
+fn slot_in(rest: Option<&[u8]>) -> Result<SlotSpec, FaultKind>
+    ensures ok { IfOk result (λ s. slot_fields s ≡ spelled Word.Slot ∷ fields_left (option_copied rest.entry)) }
+    ensures fine { IfOk result SlotInRange }
+    ensures err { IfErr result (λ fault. RefusesFields Word.Slot (fields_left (option_copied rest.entry)) fault) }
+{
+    let Some(((base, len, start), (count, mode, cols, rows))) = seven(rest) else {
+        return Err(FaultKind::Fields);
+    };
+    slot_of(base, len, start, count, mode, cols, rows)
+}
+
+// The event that the fields after its word say.
+fn read_in<A: Allocator>(rest: Option<&[u8]>) -> Result<Event<A>, FaultKind>
+    ensures ok { IfOk result (λ e. event_fields e ≡ spelled Word.Read ∷ fields_left (option_copied rest.entry)) }
+    ensures fine { IfOk result IsFine }
+    ensures err { IfErr result (λ fault. RefusesFields Word.Read (fields_left (option_copied rest.entry)) fault) }
+{
+    let Some((slot, window, offset, width)) = four(rest) else {
+        return Err(FaultKind::Fields);
+    };
+    read_of(slot, window, offset, width)
+}
+
+fn write_in<A: Allocator>(rest: Option<&[u8]>) -> Result<Event<A>, FaultKind>
+    ensures ok { IfOk result (λ e. event_fields e ≡ spelled Word.Write ∷ fields_left (option_copied rest.entry)) }
+    ensures fine { IfOk result IsFine }
+    ensures err { IfErr result (λ fault. RefusesFields Word.Write (fields_left (option_copied rest.entry)) fault) }
+{
+    let Some((slot, window, offset, width, value)) = five(rest) else {
+        return Err(FaultKind::Fields);
+    };
+    write_of(slot, window, offset, width, value)
+}
+
+fn mem_read_in<A: Allocator>(rest: Option<&[u8]>) -> Result<Event<A>, FaultKind>
+    ensures ok { IfOk result (λ e. event_fields e ≡ spelled Word.MemRead ∷ fields_left (option_copied rest.entry)) }
+    ensures fine { IfOk result IsFine }
+    ensures err { IfErr result (λ fault. RefusesFields Word.MemRead (fields_left (option_copied rest.entry)) fault) }
+{
+    let Some((slot, addr, len)) = three(rest) else {
+        return Err(FaultKind::Fields);
+    };
+    mem_read_of(slot, addr, len)
+}
+
+fn mem_write_in<A: Allocator>(alloc: A, rest: Option<&[u8]>) -> Result<Event<A>, FaultKind>
+    ensures ok { IfOk result (λ e. event_fields e ≡ spelled Word.MemWrite ∷ fields_left (option_copied rest.entry)) }
+    ensures fine { IfOk result IsFine }
+    ensures err { IfErr result (λ fault. RefusesFields Word.MemWrite (fields_left (option_copied rest.entry)) fault) }
+{
+    let Some((slot, addr, bytes)) = three(rest) else {
+        return Err(FaultKind::Fields);
+    };
+    mem_write_of(alloc, slot, addr, bytes)
 }

@@ -24,7 +24,7 @@ pub enum FaultKind {
     Order,
     /// Another number of fields than the word has.
     Fields,
-    /// A number that isn't in its spelling, or past its bits.
+    /// A number, an offset or a value that isn't in its spelling, or a number past its bits.
     Number,
     /// A window, a width or a mode that isn't in its spelling.
     Choice,

@@ -6,13 +6,14 @@
 ghost use Rattle.std.specs.Prelude.{◌≡◌, ◌∷◌, [], IfOk, IfErr};
 ghost use Rattle.trace.specs.Printable.{SlotInRange};
 ghost use Rattle.trace.specs.Text.{event_fields, slot_fields};
-ghost use Rattle.trace.specs.Words.{shapes, spelled};
+ghost use Rattle.trace.specs.Words.{spelled};
 ghost use Rattle.trace.specs.Refusals.{RefusesFields, IsFine};
 
 use crate::bytes::bytes_of;
 use crate::choice::{mode_of, width_of, window_of};
 use crate::fault::FaultKind;
 use crate::number::{number, number_u8, number_u16, number_u32, offset_of};
+use crate::value::width_and_value;
 use crate::word::Word;
 use board::{Event, EventKind, Extent, SlotSpec};
 use std::alloc::Allocator;
@@ -26,7 +27,7 @@ pub(crate) fn read_of<A: Allocator>(
 ) -> Result<Event<A>, FaultKind>
     ensures ok { IfOk result (λ e. event_fields e ≡ spelled Word.Read ∷ slot.now ∷ window.now ∷ offset.now ∷ width.now ∷ []) }
     ensures fine { IfOk result IsFine }
-    ensures err { IfErr result (λ fault. RefusesFields (shapes Word.Read) (slot.now ∷ window.now ∷ offset.now ∷ width.now ∷ []) fault) }
+    ensures err { IfErr result (λ fault. RefusesFields Word.Read (slot.now ∷ window.now ∷ offset.now ∷ width.now ∷ []) fault) }
 {
     let Some(slot) = number_u8(slot) else {
         return Err(FaultKind::Number);
@@ -48,6 +49,40 @@ pub(crate) fn read_of<A: Allocator>(
     Ok(Event { slot, what })
 }
 
+/// A write of a register: slot, window, offset, width and value.
+pub(crate) fn write_of<A: Allocator>(
+    slot: &[u8],
+    window: &[u8],
+    offset: &[u8],
+    width: &[u8],
+    value: &[u8],
+) -> Result<Event<A>, FaultKind>
+    ensures ok { IfOk result (λ e. event_fields e ≡ spelled Word.Write ∷ slot.now ∷ window.now ∷ offset.now ∷ width.now ∷ value.now ∷ []) }
+    ensures fine { IfOk result IsFine }
+    ensures err { IfErr result (λ fault. RefusesFields Word.Write (slot.now ∷ window.now ∷ offset.now ∷ width.now ∷ value.now ∷ []) fault) }
+{
+    let Some(slot) = number_u8(slot) else {
+        return Err(FaultKind::Number);
+    };
+    let Some(offset) = offset_of(offset) else {
+        return Err(FaultKind::Number);
+    };
+    let (width, value) = match width_and_value(width, value) {
+        Ok(found) => found,
+        Err(fault) => return Err(fault),
+    };
+    let Some(window) = window_of(window) else {
+        return Err(FaultKind::Choice);
+    };
+    let what = EventKind::Write {
+        window,
+        offset,
+        width,
+        value,
+    };
+    Ok(Event { slot, what })
+}
+
 /// A read of memory: slot, address and length.
 pub(crate) fn mem_read_of<A: Allocator>(
     slot: &[u8],
@@ -56,7 +91,7 @@ pub(crate) fn mem_read_of<A: Allocator>(
 ) -> Result<Event<A>, FaultKind>
     ensures ok { IfOk result (λ e. event_fields e ≡ spelled Word.MemRead ∷ slot.now ∷ addr.now ∷ len.now ∷ []) }
     ensures fine { IfOk result IsFine }
-    ensures err { IfErr result (λ fault. RefusesFields (shapes Word.MemRead) (slot.now ∷ addr.now ∷ len.now ∷ []) fault) }
+    ensures err { IfErr result (λ fault. RefusesFields Word.MemRead (slot.now ∷ addr.now ∷ len.now ∷ []) fault) }
 {
     let Some(slot) = number_u8(slot) else {
         return Err(FaultKind::Number);
@@ -80,7 +115,7 @@ pub(crate) fn mem_write_of<A: Allocator>(
 ) -> Result<Event<A>, FaultKind>
     ensures ok { IfOk result (λ e. event_fields e ≡ spelled Word.MemWrite ∷ slot.now ∷ addr.now ∷ bytes.now ∷ []) }
     ensures fine { IfOk result IsFine }
-    ensures err { IfErr result (λ fault. RefusesFields (shapes Word.MemWrite) (slot.now ∷ addr.now ∷ bytes.now ∷ []) fault) }
+    ensures err { IfErr result (λ fault. RefusesFields Word.MemWrite (slot.now ∷ addr.now ∷ bytes.now ∷ []) fault) }
 {
     let Some(slot) = number_u8(slot) else {
         return Err(FaultKind::Number);
@@ -109,7 +144,7 @@ pub(crate) fn slot_of(
 ) -> Result<SlotSpec, FaultKind>
     ensures ok { IfOk result (λ s. slot_fields s ≡ spelled Word.Slot ∷ base.now ∷ len.now ∷ start.now ∷ count.now ∷ mode.now ∷ cols.now ∷ rows.now ∷ []) }
     ensures fine { IfOk result SlotInRange }
-    ensures err { IfErr result (λ fault. RefusesFields (shapes Word.Slot) (base.now ∷ len.now ∷ start.now ∷ count.now ∷ mode.now ∷ cols.now ∷ rows.now ∷ []) fault) }
+    ensures err { IfErr result (λ fault. RefusesFields Word.Slot (base.now ∷ len.now ∷ start.now ∷ count.now ∷ mode.now ∷ cols.now ∷ rows.now ∷ []) fault) }
 {
     let Some(base) = number(base) else {
         return Err(FaultKind::Number);

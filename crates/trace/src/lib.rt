@@ -2,10 +2,11 @@
 //!
 //! A trace says which board there is and what its guests do. It is ASCII text of lines, and each trace has
 //! one text. `read` has the way from a text to its trace: `cut` takes lines and fields off, `word` says
-//! what a line is, `entry` and `fields` read one line, and `number`, `choice` and `bytes` one field. `print`
-//! has the way back, with `push` for one field. `fault` has what is answered for a text that is no trace's,
-//! and `laws` says that a text has one meaning or one fault. `records` writes the records of a run, `run`
-//! replays a trace from its text to that of its records, and `last_line` tells how a program ends after it.
+//! what a line is, `entry` and `fields` read one line, and `number`, `choice`, `value` and `bytes` one
+//! field. `print` has the way back, with `push` for one field. `fault` has what is answered for a text that
+//! is no trace's, and `laws` says that a text has one meaning or one fault. `records` writes the records of a
+//! run, `run` replays a trace from its text to that of its records, and `last_line` tells how a program ends
+//! after it.
 #![tactic(auto)]
 
 mod bytes;
@@ -26,6 +27,7 @@ mod records;
 mod replay_fault;
 mod run;
 mod trace;
+mod value;
 mod word;
 mod write;
 

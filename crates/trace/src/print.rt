@@ -1,9 +1,10 @@
 //! Writing a whole trace.
 
-ghost use Rattle.std.specs.Prelude.{◌≡◌, ◌↔◌, ◌++◌, ◌∷◌, [], All, IsTrue, IfOk, OnOk, map};
-ghost use Rattle.trace.specs.Printable.{IsAccess, IsPrintable, IsPrintableKind};
-ghost use Rattle.trace.specs.Spelling.{mode, num, window as window_name};
-ghost use Rattle.trace.specs.Text.{content, text as text_of, ended, event_line, front_text, joined, line, mem_read_fields, mem_write_fields, read_fields, slot_line};
+ghost use Rattle.std.specs.Prelude.{◌≡◌, ◌*◌, ◌^◌, ◌<◌, ◌↔◌, ◌++◌, ◌∷◌, [], All, IsTrue, IfOk, OnOk, map};
+ghost use Rattle.trace.specs.Printable.{IsAccess, IsPrintable, IsPrintableKind, IsWriteAccess};
+ghost use Rattle.trace.specs.Spelling.{fixed, mode, num, width_digit, window as window_name};
+ghost use Rattle.trace.specs.Text.{content, text as text_of, ended, event_line, front_text, joined, line, mem_read_fields, mem_write_fields, read_fields, slot_line, write_fields};
+ghost use Rattle.trace.specs.Words.{IsWidth};
 
 use crate::no_memory::NoMemory;
 use crate::push::{push_bytes, push_fixed, push_num};
@@ -11,8 +12,8 @@ use crate::trace::Trace;
 use board::{DeviceKind, Event, EventKind, SlotSpec};
 use std::alloc::{AllocError, Allocator};
 
-/// Whether the trace has a text: the offset of each register access has three digits, and its width is
-/// 1, 2 or 4. Each trace that was read has one.
+/// Whether the trace has a text: the offset of each register access has three digits, its width is 1, 2
+/// or 4, and a value that is written is within that width. Each trace that was read has one.
 pub fn is_printable<A: Allocator>(trace: &Trace<A>) -> bool
     ensures { IsTrue result ↔ IsPrintable (content trace.now) }
 {
@@ -24,11 +25,34 @@ fn has_line<A: Allocator>(what: &EventKind<A>) -> bool
     ensures { IsTrue result ↔ IsPrintableKind what.now }
 {
     match what {
-        EventKind::Read { offset, width, .. } => {
-            *offset < 0x1000 && (*width == 1 || *width == 2 || *width == 4)
-        }
+        EventKind::Read { offset, width, .. } => is_access(*offset, *width),
+        EventKind::Write {
+            offset,
+            width,
+            value,
+            ..
+        } => is_access(*offset, *width) && is_within(*value, *width),
         EventKind::MemRead { .. } => true,
         EventKind::MemWrite { .. } => true,
+    }
+}
+
+// Whether the access to a register has a spelling.
+fn is_access(offset: u16, width: u8) -> bool
+    ensures { IsTrue result ↔ IsAccess offset width }
+{
+    offset < 0x1000 && (width == 1 || width == 2 || width == 4)
+}
+
+// Whether the value is one of so many bytes.
+fn is_within(value: u32, width: u8) -> bool
+    requires { IsWidth width }
+    ensures { IsTrue result ↔ (value < 2 ^ (8 * width)) }
+{
+    match width {
+        1 => value <= 0xff,
+        2 => value <= 0xffff,
+        _ => true,
     }
 }
 
@@ -133,6 +157,12 @@ fn push_event<A: Allocator>(out: &mut Vec<u8, A>, event: &Event<A>) -> Result<()
             offset,
             width,
         } => push_read(out, event.slot, *window, *offset, *width),
+        EventKind::Write {
+            window,
+            offset,
+            width,
+            value,
+        } => push_write(out, event.slot, *window, *offset, *width, *value),
         EventKind::MemRead { addr, len } => push_mem_read(out, event.slot, *addr, *len),
         EventKind::MemWrite { addr, bytes } => {
             push_mem_write(out, event.slot, *addr, bytes.as_slice())
@@ -152,10 +182,46 @@ fn push_read<A: Allocator>(
     ensures { OnOk result (out.new.items ≡ out.old.items ++ ended (line (read_fields slot window offset width))) }
 {
     out.push(b'r')?;
+    push_access(out, slot, window, offset, width)?;
+    out.push(b'\n')?;
+    Ok(())
+}
+
+// Appends the line of a write of a register.
+fn push_write<A: Allocator>(
+    out: &mut Vec<u8, A>,
+    slot: u8,
+    window: DeviceKind,
+    offset: u16,
+    width: u8,
+    value: u32,
+) -> Result<(), AllocError>
+    requires { IsWriteAccess offset width value }
+    ensures { OnOk result (out.new.items ≡ out.old.items ++ ended (line (write_fields slot window offset width value))) }
+{
+    out.push(b'w')?;
+    push_access(out, slot, window, offset, width)?;
+    out.push(b' ')?;
+    push_fixed(out, 2 * width, value)?;
+    out.push(b'\n')?;
+    Ok(())
+}
+
+// Appends the fields of an access to a register, each after a space.
+fn push_access<A: Allocator>(
+    out: &mut Vec<u8, A>,
+    slot: u8,
+    window: DeviceKind,
+    offset: u16,
+    width: u8,
+) -> Result<(), AllocError>
+    requires { IsAccess offset width }
+    ensures { OnOk result (out.new.items ≡ out.old.items ++ 32 ∷ (num slot ++ 32 ∷ (window_name window ++ 32 ∷ (fixed 3 offset ++ 32 ∷ width_digit width)))) }
+{
     push_next(out, u64::from(slot))?;
     out.extend_from_slice(window_text(window))?;
     push_fixed(out, 3, u32::from(offset))?;
-    out.extend_from_slice(&[b' ', b'0' + width, b'\n'])?;
+    out.extend_from_slice(&[b' ', b'0' + width])?;
     Ok(())
 }
 

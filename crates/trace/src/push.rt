@@ -2,7 +2,8 @@
 //!
 //! After an error the output may end in a part of the spelling.
 
-ghost use Rattle.std.specs.Prelude.{◌≡◌, ◌++◌, ◌^◌, ◌<◌, OnOk};
+ghost use Rattle.std.specs.Prelude.{◌≡◌, ◌≤◌, ◌++◌, length, OnOk};
+ghost use Rattle.hex.specs.Hex.{encode_lower};
 ghost use Rattle.trace.specs.Spelling.{num, fixed, bytes as bytes_field};
 
 use crate::digit::digit_of;
@@ -37,6 +38,9 @@ pub(crate) fn push_fixed<A: Allocator>(
     Ok(())
 }
 
+/// How many bytes are spelled at a time.
+const BLOCK: usize = 32;
+
 /// Appends bytes by two digits each, or `-` where there are none.
 pub(crate) fn push_bytes<A: Allocator>(out: &mut Vec<u8, A>, bytes: &[u8]) -> Result<(), AllocError>
     ensures { OnOk result (out.new.items ≡ out.old.items ++ bytes_field bytes.now) }
@@ -45,9 +49,22 @@ pub(crate) fn push_bytes<A: Allocator>(out: &mut Vec<u8, A>, bytes: &[u8]) -> Re
         out.push(b'-')?;
         return Ok(());
     }
-    for b in bytes {
-        out.push(digit_of(*b / 16))?;
-        out.push(digit_of(*b % 16))?;
+    let mut rest = bytes;
+    while !rest.is_empty() {
+        let (block, after) = rest.split_at(rest.len().min(BLOCK));
+        push_block(out, block)?;
+        rest = after;
     }
     Ok(())
+}
+
+// Appends at most `BLOCK` bytes, by two digits each.
+fn push_block<A: Allocator>(out: &mut Vec<u8, A>, bytes: &[u8]) -> Result<(), AllocError>
+    requires { length bytes.now ≤ 32 }
+    ensures { OnOk result (out.new.items ≡ out.old.items ++ encode_lower bytes.now) }
+{
+    let mut digits = [0; 2 * BLOCK];
+    let text = &mut digits[..2 * bytes.len()];
+    let _ = hex::encode_to_slice(bytes, text);
+    out.extend_from_slice(text)
 }

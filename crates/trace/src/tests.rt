@@ -2,6 +2,7 @@
 
 mod faults;
 mod last_lines;
+mod one_sector;
 mod printed;
 mod refused;
 mod replayed;

@@ -10,6 +10,7 @@ pub(crate) enum Word {
     Cache,
     Slot,
     Read,
+    Write,
     MemRead,
     MemWrite,
 }
@@ -21,6 +22,7 @@ pub(crate) fn word_of(field: &[u8]) -> Option<Word>
 {
     match field {
         b"r" => Some(Word::Read),
+        b"w" => Some(Word::Write),
         b"mr" => Some(Word::MemRead),
         b"mw" => Some(Word::MemWrite),
         b"slot" => Some(Word::Slot),

@@ -42,13 +42,16 @@ fn words_and_fields(rt: HostRuntime) -> Result<(), Fail> {
     expect_fourth(&rt, b"cache 1", FaultKind::Word)?;
     expect_fourth(&rt, b" r 0 b 000 4", FaultKind::Word)?;
     expect_fourth(&rt, b"R 0 b 000 4", FaultKind::Word)?;
-    expect_fourth(&rt, b"w 0 b 070 4 00000000", FaultKind::Word)?;
+    expect_fourth(&rt, b"W 0 b 070 4 00000000", FaultKind::Word)?;
     expect_fourth(&rt, b"in 0 61", FaultKind::Word)?;
     expect_fourth(&rt, b"sz 0 1 1", FaultKind::Word)?;
     expect_fourth(&rt, b"r", FaultKind::Fields)?;
     expect_fourth(&rt, b"r  0 b 000 4", FaultKind::Fields)?;
     expect_fourth(&rt, b"r 0 b 000", FaultKind::Fields)?;
     expect_fourth(&rt, b"r 0 b 000 4 ", FaultKind::Fields)?;
+    expect_fourth(&rt, b"w", FaultKind::Fields)?;
+    expect_fourth(&rt, b"w 0 b 070 4", FaultKind::Fields)?;
+    expect_fourth(&rt, b"w 0 b 070 4 00000000 0", FaultKind::Fields)?;
     expect_fourth(&rt, b"mr 0 80000000", FaultKind::Fields)?;
     expect_fourth(&rt, b"mw 0 80000000 41 42", FaultKind::Fields)?;
     expect_fourth(&rt, b"slot 0 0 0 0 rw 0", FaultKind::Fields)
@@ -76,6 +79,30 @@ fn numbers_choices_and_bytes(rt: HostRuntime) -> Result<(), Fail> {
     expect_fourth(&rt, b"mw 0 80000000 --", FaultKind::Bytes)
 }
 
+/// A value has exactly two lower case digits for each byte of its width. Where the width is wrong, it isn't
+/// judged.
+#[test]
+fn values(rt: HostRuntime) -> Result<(), Fail> {
+    expect_fourth(&rt, b"w 100 b 070 4 00000000", FaultKind::Number)?;
+    expect_fourth(&rt, b"w 0 b 70 4 00000000", FaultKind::Number)?;
+    expect_fourth(&rt, b"w 0 b 070 4 0", FaultKind::Number)?;
+    expect_fourth(&rt, b"w 0 b 070 4 0000000", FaultKind::Number)?;
+    expect_fourth(&rt, b"w 0 b 070 4 000000000", FaultKind::Number)?;
+    expect_fourth(&rt, b"w 0 b 070 4 0000000B", FaultKind::Number)?;
+    expect_fourth(&rt, b"w 0 b 070 4 0000000g", FaultKind::Number)?;
+    expect_fourth(&rt, b"w 0 b 070 4 ", FaultKind::Number)?;
+    expect_fourth(&rt, b"w 0 b 070 2 000", FaultKind::Number)?;
+    expect_fourth(&rt, b"w 0 b 070 2 00000", FaultKind::Number)?;
+    expect_fourth(&rt, b"w 0 c 108 1 0041", FaultKind::Number)?;
+    expect_fourth(&rt, b"w 0 c 108 1 4", FaultKind::Number)?;
+    expect_fourth(&rt, b"w 0 d 070 4 zz", FaultKind::Number)?;
+    expect_fourth(&rt, b"w 0 d 070 4 00000000", FaultKind::Choice)?;
+    expect_fourth(&rt, b"w 0 b 070 3 000000", FaultKind::Choice)?;
+    expect_fourth(&rt, b"w 0 b 070 3 zz", FaultKind::Choice)?;
+    expect_fourth(&rt, b"w 0 d 070 04 00000000", FaultKind::Choice)?;
+    expect_fourth(&rt, b"w 0 b 70 3 zz", FaultKind::Number)
+}
+
 /// A slot after an event is Order, whatever its fields are.
 #[test]
 fn order(rt: HostRuntime) -> Result<(), Fail> {
@@ -91,7 +118,7 @@ fn order(rt: HostRuntime) -> Result<(), Fail> {
 fn fronts(rt: HostRuntime) -> Result<(), Fail> {
     let mut text = FRONT.to_vec(rt.alloc())?;
     text.extend_from_slice(
-        b"slot 0 2000 8 0 ro 1 1\nmw 0 80002000 000001000000\nr 0 b 060 4\nmr 1 0 c\n",
+        b"slot 0 2000 8 0 ro 1 1\nmw 0 80002000 000001000000\nw 0 b 050 4 00000000\nr 0 b 060 4\nmr 1 0 c\n",
     )?;
     let mut ended = 0u64;
     for (i, c) in text.iter().enumerate() {
@@ -106,6 +133,6 @@ fn fronts(rt: HostRuntime) -> Result<(), Fail> {
             ended = ended.saturating_add(1);
         }
     }
-    assert_eq!(rt; ended, 7);
+    assert_eq!(rt; ended, 8);
     expect_trace(&rt, &text)
 }

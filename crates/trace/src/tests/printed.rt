@@ -42,3 +42,27 @@ fn lines_of_records(rt: HostRuntime) -> Result<(), Fail> {
     assert_eq!(rt; text.as_slice(), lines);
     Ok(())
 }
+
+/// Output of any length, of which the last byte is another one.
+#[test]
+fn long_outputs(rt: HostRuntime) -> Result<(), Fail> {
+    for len in [1, 31, 32, 33, 63, 64, 65, 1000] {
+        let mut output = vec![in rt.alloc(); 0x4f; len]?;
+        output.push(0xe1)?;
+        let records = [Record {
+            slot: 0,
+            reply: Reply::Done,
+            output: Bytes::from(output),
+            block_irq: 0,
+            console_irq: 0,
+        }];
+        let mut expected = b"0 done ".to_vec(rt.alloc())?;
+        for _ in 0..len {
+            expected.extend_from_slice(b"4f")?;
+        }
+        expected.extend_from_slice(b"e1 0 0\n")?;
+        let text = print_records(rt.alloc(), &records)?;
+        assert_eq!(rt; text.as_slice(), expected.as_slice(), "{len} bytes");
+    }
+    Ok(())
+}

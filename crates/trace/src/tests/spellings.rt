@@ -13,6 +13,11 @@ slot ffffffffffffffff 0 10 f ro ffff 0\n\
 r 0 b 000 4\n\
 r ff c fff 1\n\
 r 10 b 00c 2\n\
+w 0 b 070 4 0000000b\n\
+w ff c fff 4 ffffffff\n\
+w 1 b 102 2 00ff\n\
+w a c 108 1 41\n\
+w 0 c 109 1 00\n\
 mr 0 80000fff 2\n\
 mr 1 ffffffffffffffff ffffffff\n\
 mw 0 80000ffe 4142\n\
@@ -30,6 +35,16 @@ fn read(slot: u8, window: DeviceKind, offset: u16, width: u8) -> Event {
         window,
         offset,
         width,
+    };
+    Event { slot, what }
+}
+
+fn write(slot: u8, window: DeviceKind, offset: u16, width: u8, value: u32) -> Event {
+    let what = EventKind::Write {
+        window,
+        offset,
+        width,
+        value,
     };
     Event { slot, what }
 }
@@ -70,6 +85,21 @@ fn trace(rt: &HostRuntime) -> Result<Trace, Fail> {
     trace.events.push(read(0, DeviceKind::Block, 0, 4))?;
     trace.events.push(read(255, DeviceKind::Console, 0xfff, 1))?;
     trace.events.push(read(16, DeviceKind::Block, 12, 2))?;
+    trace
+        .events
+        .push(write(0, DeviceKind::Block, 0x070, 4, 11))?;
+    trace
+        .events
+        .push(write(255, DeviceKind::Console, 0xfff, 4, 0xffff_ffff))?;
+    trace
+        .events
+        .push(write(1, DeviceKind::Block, 0x102, 2, 255))?;
+    trace
+        .events
+        .push(write(10, DeviceKind::Console, 0x108, 1, 65))?;
+    trace
+        .events
+        .push(write(0, DeviceKind::Console, 0x109, 1, 0))?;
     trace.events.push(mem_read(0, 0x8000_0fff, 2))?;
     trace.events.push(mem_read(1, u64::MAX, 0xffff_ffff))?;
     trace.events.push(mem_write(rt, 0, 0x8000_0ffe, b"AB")?)?;
@@ -105,5 +135,38 @@ fn what_has_no_text(rt: HostRuntime) -> Result<(), Fail> {
     trace.events.pop();
     trace.events.push(read(0, DeviceKind::Block, 0, 3))?;
     assert!(rt; !is_printable(&trace));
+    trace.events.pop();
+    for (offset, width, value) in [
+        (0x1000, 4, 0),
+        (0, 3, 0),
+        (0, 0, 0),
+        (0, 1, 0x100),
+        (0, 2, 0x1_0000),
+    ] {
+        trace
+            .events
+            .push(write(0, DeviceKind::Block, offset, width, value))?;
+        assert!(rt; !is_printable(&trace), "at width {width}");
+        trace.events.pop();
+    }
     Ok(())
+}
+
+/// The greatest value of each width has a text.
+#[test]
+fn the_greatest_values(rt: HostRuntime) -> Result<(), Fail> {
+    let mut trace: Trace = Trace::new(rt.alloc(), 1);
+    for (width, value) in [(1, 0xff), (2, 0xffff), (4, 0xffff_ffff)] {
+        trace
+            .events
+            .push(write(2, DeviceKind::Console, 0xabc, width, value))?;
+    }
+    let text: &[u8] =
+        b"vreplay 1\ncache 1\nw 2 c abc 1 ff\nw 2 c abc 2 ffff\nw 2 c abc 4 ffffffff\n";
+    if is_printable(&trace) {
+        assert_eq!(rt; print_trace(rt.alloc(), &trace)?.as_slice(), text);
+    } else {
+        panic!(rt; "it has a text");
+    }
+    expect_trace(&rt, text)
 }

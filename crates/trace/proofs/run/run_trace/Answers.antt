@@ -1,8 +1,12 @@
 use Rattle.std.proofs.Common.{ap, take}
-use Rattle.board.specs.Line.{events_done}
+use Rattle.std.proofs.lemmas.List.Elements.{All-nil}
+use Rattle.board.specs.Line.{HasInterruptWords, events_done}
 use Rattle.trace.proofs.RunLemmas.{first_done, runs_on, unwritten}
 use Rattle.trace.proofs.run.run_trace.Goals as goal
 use Rattle.trace.proofs.run.run_trace.Goals.{in-Ok+in-Ok-ran, in-Ok+in-Err-ran, in-Err}
+
+pub write_records-requires : goal.write_records-requires
+write_records-requires g c = rw c.deref-2.ensures.value (c.run-ran.ensures.words (rw c.new-records.ensures.items (All-nil HasInterruptWords)))
 
 pub returns : goal.returns
 returns g c =

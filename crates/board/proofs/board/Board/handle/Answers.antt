@@ -1,10 +1,12 @@
-use Rattle.std.proofs.Common.{◌≡◌, ◌≤◌, List, Option, Some, length, refl, sym, ◌∙◌, ap, subst, arith}
+use Rattle.std.proofs.Common.{◌≡◌, ◌≤◌, Option, Some, length, refl, sym, ◌∙◌, ap, subst, arith}
 use Rattle.std.specs.Prelude.{IsSomeAnd}
 use Rattle.std.specs.List.{slice_get}
 use Rattle.std.proofs.lemmas.Option.{slice_get_past, slice_get_read}
 use Rattle.board.specs.Slot.{BoardSlot}
-use Rattle.board.specs.World.{BoardState, MayLackMemory, extents_of, bytes_of, health_of}
-use Rattle.board.proofs.Seats.{set_same, extents_of-set, handles, handles_missing}
+use Rattle.board.specs.Image.{Tells, bytes_of}
+use Rattle.board.specs.World.{MayLackMemory, extents_of}
+use Rattle.board.proofs.Outside.{outside_kept}
+use Rattle.board.proofs.Seats.{set_same, extents_of-set, handles, handles_missing, noted_set, slot_within}
 use Rattle.board.proofs.board.Board.handle.Goals as goal
 
 pub returns-in_default-clause-handles : goal.returns-in_default-clause-handles
@@ -16,24 +18,47 @@ returns-in_default-clause-handles g c tells =
 there : (g : _) (c : goal.After-self-2-1 g) → slice_get c.self.inside.slots.items c.args.event.now.slot ≡ Some c.in-Some.slot.now
 there g c = slice_get_read c.self.inside.slots.items (length c.self.inside.slots.items) c.args.event.now.slot c.in-Some.slot.now refl (omega (arith, c.in-Some.ensures.variant.0 refl)) c.in-Some.ensures.value
 
+pub serve-reply-requires : goal.serve-reply-requires
+serve-reply-requires g c = record {
+  lies =
+      slot_within _ c.self.inside.slots.items c.args.event.now.slot c.in-Some.slot.now c.self.invariant.within
+      (slice_get_read c.self.inside.slots.items (length c.self.inside.slots.items) c.args.event.now.slot c.in-Some.slot.now refl (omega (arith, c.in-Some.ensures.variant.0 refl)) c.in-Some.ensures.value);
+}
+
 pub invariant_of-self-2 : goal.invariant_of-self-2
-invariant_of-self-2 g c = rw (extents_of-set c.self.inside.slots.items c.args.event.now.slot c.in-Some.slot.now c.serve-reply.new.self (there g c) c.serve-reply.ensures.extent) c.self.invariant
+invariant_of-self-2 g c =
+    rw (extents_of-set c.self.inside.slots.items c.args.event.now.slot c.in-Some.slot.now c.serve-reply.new.self (there g c) c.serve-reply.ensures.extent, c.serve-reply.ensures.outside.sectors)
+    c.self.invariant
 
 pub returns-clause-handles : goal.returns-clause-handles
 returns-clause-handles g c tells =
-    let disk = g.I.Image.disk c.self.inside.cache in
-    let bytes = bytes_of disk in
+    let old = g.I.Image.disk c.self.inside.cache in
+    let new = g.I.Image.disk c.serve-reply.new.cache in
+    let telling : Tells old = subst (λ b. Tells (g.I.Image.disk b.image)) (sym c.self.view_is) tells in
+    let kept = outside_kept c.in-Some.slot.now.extent old.told new.told telling c.serve-reply.ensures.outside.told in
     rw (← c.self.view_is)
-    (handles c.self.inside.slots.items disk disk c.args.event.now c.in-Some.slot.now c.serve-reply.new.self c.serve-reply.result c.block_irq.result c.console_irq.result c.args.out.now.items c.serve-reply.new.out.items
-    c.self.invariant.apart (there g c) c.serve-reply.ensures.extent refl (c.serve-reply.ensures.serves bytes (health_of disk)) (c.block_irq.ensures.value bytes) (c.console_irq.ensures.value bytes))
+    (handles c.self.inside.slots.items old new c.args.event.now c.in-Some.slot.now c.serve-reply.new.self c.serve-reply.result c.block_irq.result c.console_irq.result c.args.out.now.items c.serve-reply.new.out.items
+    c.self.invariant.apart (there g c) c.serve-reply.ensures.extent c.serve-reply.ensures.noted kept.outside (c.serve-reply.ensures.serves telling) (c.block_irq.ensures.value (bytes_of new)) (c.console_irq.ensures.value (bytes_of new)))
+
+pub returns-clause-told : goal.returns-clause-told
+returns-clause-told g c tells =
+    let old = g.I.Image.disk c.self.inside.cache in
+    let new = g.I.Image.disk c.serve-reply.new.cache in
+    let telling : Tells old = subst (λ b. Tells (g.I.Image.disk b.image)) (sym c.self.view_is) tells in
+    (outside_kept c.in-Some.slot.now.extent old.told new.told telling c.serve-reply.ensures.outside.told).tells
+
+pub returns-clause-noted : goal.returns-clause-noted
+returns-clause-noted g c =
+    rw (← c.self.view_is)
+    (noted_set c.self.inside.slots.items c.args.event.now.slot c.in-Some.slot.now c.serve-reply.new.self _ (there g c) c.serve-reply.ensures.noted)
 
 pub returns-clause-extents : goal.returns-clause-extents
 returns-clause-extents g c = extents_of-set c.self.inside.slots.items c.args.event.now.slot c.in-Some.slot.now c.serve-reply.new.self (there g c) c.serve-reply.ensures.extent ∙ ap (λ b. extents_of b.slots) c.self.view_is
 
 pub returns-clause-bad_range_keeps : goal.returns-clause-bad_range_keeps
 returns-clause-bad_range_keeps g c refused =
-    let board : List BoardSlot → BoardState g.row.I.Denot = λ slots. record { slots = slots; image = c.self.inside.cache } in
-    ap board (set_same c.self.inside.slots.items c.args.event.now.slot c.in-Some.slot.now c.serve-reply.new.self (there g c) (c.serve-reply.ensures.bad_range refused)) ∙ c.self.view_is
+    let same = set_same c.self.inside.slots.items c.args.event.now.slot c.in-Some.slot.now c.serve-reply.new.self (there g c) (c.serve-reply.ensures.bad_range refused) in
+    rw (same, c.serve-reply.ensures.bad_range_image refused) c.self.view_is
 
 pub returns-clause-no_memory : goal.returns-clause-no_memory
 returns-clause-no_memory g c lacking =

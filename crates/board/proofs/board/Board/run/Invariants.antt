@@ -1,7 +1,8 @@
-use Rattle.std.proofs.Common.{◌≡◌, take}
+use Rattle.std.proofs.Common.{◌≡◌, ◌≤◌, take}
 use Rattle.std.specs.Prelude.{All}
 use Rattle.board.specs.Line.{HasInterruptWords}
-use Rattle.board.specs.World.{Tells, extents_of, world_of}
+use Rattle.board.specs.Image.{Tells}
+use Rattle.board.specs.World.{extents_of, world_of}
 use Rattle.board.proofs.Runs.{Reached}
 use Rattle.board.proofs.board.Board.run.Given as goal
 
@@ -11,4 +12,5 @@ invariant-loop-done g l = record {
   told : Tells (g.I.Image.disk l.fn.self.image) → Tells (g.I.Image.disk l.self.image);
   words : All HasInterruptWords l.fn.records.items → All HasInterruptWords l.records.items;
   extents : extents_of l.self.slots ≡ extents_of l.fn.self.slots;
+  rises : (g.I.Image.disk l.fn.self.image).failures ≤ (g.I.Image.disk l.self.image).failures;
 }

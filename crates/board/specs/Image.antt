@@ -1,0 +1,33 @@
+-- The image that all slots share, as it can be seen.
+use Rattle.std.specs.Prelude.{ℕ, ◌/◌, Bool, IsSome, List, [], length, Some, unwrap_or}
+use Rattle.sector_cache.specs.Disk.{Disk}
+
+-- How the image fares: how many of its calls failed so far, and whether a write was tried since the
+-- last flush that succeeded.
+pub record Health : Type 0 where
+  pub failures : ℕ
+  pub mark : Bool
+
+-- the image tells its bytes
+abbrev pub Tells : Disk → Type 0
+Tells disk = IsSome disk.told
+
+-- the bytes that the image tells
+abbrev pub bytes_of : Disk → List ℕ
+bytes_of disk = unwrap_or disk.told []
+
+abbrev pub health_of : Disk → Health
+health_of disk = record { failures = disk.failures; mark = disk.mark }
+
+-- how many sectors these bytes fill
+abbrev pub sectors_of : List ℕ → ℕ
+sectors_of bytes = length bytes / 512
+
+-- an image that tells these bytes and fares so
+abbrev pub disk_with : List ℕ → Health → Disk
+disk_with bytes health = record {
+  told = Some bytes;
+  sector_count = sectors_of bytes;
+  failures = health.failures;
+  mark = health.mark;
+}

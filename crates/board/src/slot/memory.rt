@@ -1,0 +1,54 @@
+//! A guest's own reads and writes of its memory.
+
+ghost use Rattle.std.specs.Prelude.{◌≡◌, ◌≢◌, ◌<◌, ℕ, List};
+ghost use Rattle.guest_memory.specs.Memory.{Inside};
+ghost use Rattle.board.specs.declared.event.EventKind.{EventKind};
+ghost use Rattle.board.specs.Image.{Health};
+ghost use Rattle.board.specs.Machine.{replies};
+ghost use Rattle.board.specs.Slot.{state_of};
+ghost use Rattle.board.specs.World.{MayGive};
+
+use crate::bytes::Bytes;
+use crate::reply::Reply;
+use crate::slot::Slot;
+use std::alloc::{AllocError, Allocator};
+
+impl<A: Allocator + Copy> Slot<A> {
+    /// A copy of `len` bytes of the memory.
+    pub(super) fn read_memory(&self, alloc: A, addr: u64, len: u32) -> Reply<A>
+        ensures given { (bytes : List ℕ) (health : Health) →
+            MayGive (state_of bytes self.now) (EventKind.MemRead addr len) health health
+            (replies (state_of bytes self.now) result) }
+        ensures there { result ≢ Reply.BadSlot }
+        ensures no_memory { result ≡ Reply.NoMemory → (0 < len) × Inside self.now.memory addr len }
+    {
+        let Some(part) = self.memory.part(addr, u64::from(len)) else {
+            return Reply::BadRange;
+        };
+        let mut bytes = Vec::new(alloc);
+        match bytes.extend_from_slice(part) {
+            Ok(()) => Reply::Bytes(Bytes::from(bytes)),
+            Err(AllocError) => Reply::NoMemory,
+        }
+    }
+
+    /// Writes bytes to the memory.
+    pub(super) fn write_memory(&mut self, addr: u64, new: &[u8]) -> Reply<A>
+        ensures given { (bytes : List ℕ) (health : Health) →
+            MayGive (state_of bytes self.old) (EventKind.MemWrite addr new.now) health health
+            (replies (state_of bytes self.new) result) }
+        ensures extent { self.new.extent ≡ self.old.extent }
+        ensures disturbed { self.new.disturbed ≡ self.old.disturbed }
+        ensures there { result ≢ Reply.BadSlot }
+        ensures bad_range { result ≡ Reply.BadRange → self.new ≡ self.old }
+        ensures no_memory { result ≢ Reply.NoMemory }
+    {
+        if !self.memory.holds(addr, new.len() as u64) {
+            return Reply::BadRange;
+        }
+        self.memory
+            .part_mut(addr, new.len() as u64)
+            .copy_from_slice(new);
+        Reply::Done
+    }
+}
