@@ -96,6 +96,29 @@ fn each_kind_of_fault_in_an_event(rt: HostRuntime) -> Result<(), Fail> {
 }
 
 #[test]
+fn each_kind_of_fault_in_a_register_write(rt: HostRuntime) -> Result<(), Fail> {
+    for (line, kind) in [
+        ("w 0 b 070 4", "Fields"),
+        ("w 0 b 070 4 00000000 ", "Fields"),
+        ("w 0 b 070 4 0000000", "Number"),
+        ("w 0 b 070 4 000000000", "Number"),
+        ("w 0 b 070 4 0000000F", "Number"),
+        ("w 0 b 070 2 00", "Number"),
+        ("w 0 b 070 1 0000", "Number"),
+        ("w 0 d 0700 4 00000000", "Number"),
+        ("w 0 d 070 4 0000000g", "Number"),
+        ("w 100 b 070 3 00000000", "Number"),
+        ("w 0 d 070 4 00000000", "Choice"),
+        // a value isn't judged where its width is no width
+        ("w 0 b 070 3 zz", "Choice"),
+        ("w 0 b 070 04 0000000", "Choice"),
+    ] {
+        refuses_line(&rt, line, kind)?;
+    }
+    Ok(())
+}
+
+#[test]
 fn a_slot_after_an_event_is_out_of_order(rt: HostRuntime) -> Result<(), Fail> {
     refuses(
         &rt,
