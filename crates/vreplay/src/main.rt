@@ -1,11 +1,24 @@
 //! `vreplay`: replays a trace of guests' events over a board, and prints a record for each.
 //!
-//! Called without words it takes the trace from standard input, over an image of eight zero sectors in
-//! memory. The records go to standard output, and where something was refused one last line says what. The
-//! status says it too.
+//! `vreplay TRACE IMAGE [--save FILE]` takes the trace from one file and the image's bytes from another,
+//! and writes the image's bytes to FILE after a replay that succeeded. Called without words it takes the
+//! trace from standard input, over an image of eight zero sectors in memory. The records go to standard
+//! output, and where something was refused one last line says what. The status says it too.
+//!
+//! `words` reads what a call asks for, `image` makes the image, `replayed` replays and keeps the image,
+//! `files` does that over files, `fault` and `last_line` tell why a call came to no good end, and `program`
+//! puts them in their order. `laws` says of the words what callers may rely on.
 #![tactic(auto)]
 
+mod fault;
+mod files;
+mod gather;
+mod image;
+mod last_line;
+mod laws;
 mod program;
+mod replayed;
+mod words;
 
 use program::{program, refuse_words};
 use std::process::ExitCode;
@@ -13,14 +26,14 @@ use std::rt::Env;
 use std::{env, io};
 
 fn main(rt: HostRuntime) -> ExitCode {
-    ExitCode::from(match words(&rt) {
+    ExitCode::from(match words_of(&rt) {
         Ok(words) => program(&rt, words.as_slice()),
         Err(error) => refuse_words(&rt, &error),
     })
 }
 
 /// The words after the program's own name.
-fn words(rt: &(impl Env + AllocGlobal)) -> io::Result<Vec<String>> {
+fn words_of(rt: &(impl Env + AllocGlobal)) -> io::Result<Vec<String>> {
     Ok(env::args(rt)?.skip(1).collect(rt.alloc())?)
 }
 

@@ -1,40 +1,28 @@
 //! The program's work, over a runtime that tests can replace.
 
-ghost use Rattle.std.specs.Prelude.{◌≡◌, ◌<◌, ◌⊎◌, length};
+ghost use Rattle.std.specs.Prelude.{◌≡◌, ◌<◌, ◌⊎◌, Err, length};
+ghost use Rattle.vreplay.specs.Words.{NamesNoCall, texts_of};
 
-use sector_cache::{ImageFault, MemoryImage};
-use std::alloc::{AllocError, Global};
+use crate::fault::Fault;
+use crate::files::replay_files;
+use crate::image::zero_image;
+use crate::last_line::end;
+use crate::replayed::replayed;
+use crate::words::read_words;
 use std::io;
 use std::io::{ErrorKind, Write};
-use trace::{ReplayFault, finish, replay};
-
-/// The bytes of the image of a call without words: eight sectors.
-const IMAGE_BYTES: usize = 8 * 512;
-
-/// The status where the words are refused.
-const REFUSED_USAGE: u8 = 2;
-
-/// The status where a last line can't be written.
-const LOST_OUTPUT: u8 = 3;
+use std::rt::Files;
+use trace::{ReplayFault, finish};
 
 /// Does what the words after the program's name ask for, and answers the status.
-pub fn program<R: Input + Print + AllocGlobal>(rt: &R, words: &[String]) -> u8
-    ensures usage { 0 < length words.now → (result ≡ 2) ⊎ (result ≡ 3) }
+pub fn program<R: Input + Print + Files + AllocGlobal>(rt: &R, words: &[String]) -> u8
+    ensures usage { 0 < length words.now → NamesNoCall (texts_of words.now) → (result ≡ 2) ⊎ (result ≡ 3) }
+    ensures only_usage { result ≡ 2 → NamesNoCall (texts_of words.now) }
+    ensures some_words { result ≡ 2 → 0 < length words.now }
 {
     let mut out = io::writer(rt);
-    if !words.is_empty() {
-        return match out.write_all(b"fault usage\n") {
-            Ok(()) => REFUSED_USAGE,
-            Err(_) => LOST_OUTPUT,
-        };
-    }
-    match zero_image(rt.alloc()) {
-        Ok(image) => {
-            let (_image, result) = replay(rt.alloc(), &mut rt.reader(), &mut out, image);
-            finish(&result, &mut out)
-        }
-        Err(_) => finish(&Err(ReplayFault::NoMemory), &mut out),
-    }
+    let outcome = carry_out(rt, words, &mut out);
+    end(&outcome, &mut out)
 }
 
 /// Writes the last line for words that are no text, or for which there is no memory, and answers the status.
@@ -48,10 +36,27 @@ pub fn refuse_words<R: Print>(rt: &R, error: &io::Error) -> u8
     finish(&Err(fault), &mut io::writer(rt))
 }
 
-/// An image of eight zero sectors in memory.
-fn zero_image(alloc: Global) -> Result<MemoryImage, AllocError> {
-    match MemoryImage::new(vec![in alloc; 0; IMAGE_BYTES]?) {
-        Ok(image) => Ok(image),
-        Err(ImageFault::BadSize) => unreachable!(),
+// Does what the words ask for, all but the last line.
+fn carry_out<R: Input + Files + AllocGlobal, W: Write>(
+    rt: &R,
+    words: &[String],
+    out: &mut W,
+) -> Result<(), Fault>
+    ensures refused { 0 < length words.now → NamesNoCall (texts_of words.now) → (result ≡ Err Fault.Usage) ⊎ (result ≡ Err (Fault.Replay ReplayFault.NoMemory)) }
+    ensures usage { result ≡ Err Fault.Usage → NamesNoCall (texts_of words.now) }
+    ensures some_words { result ≡ Err Fault.Usage → 0 < length words.now }
+{
+    if words.is_empty() {
+        return Ok(replay_input(rt, out)?);
     }
+    let call = read_words(rt.alloc(), words)?;
+    replay_files(rt, &call, out)?;
+    Ok(())
+}
+
+// Replays standard input over an image of zeros.
+fn replay_input<R: Input + AllocGlobal, W: Write>(rt: &R, out: &mut W) -> Result<(), ReplayFault> {
+    let image = zero_image(rt.alloc())?;
+    replayed(rt.alloc(), &mut rt.reader(), out, image)?;
+    Ok(())
 }

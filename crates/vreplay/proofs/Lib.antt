@@ -1,0 +1,4 @@
+pub mod Gathering
+pub mod Reading
+pub mod Statuses
+pub mod AnyFiles

@@ -1,0 +1,61 @@
+-- The words of a call: what the program's command is to the parser, and what the parser makes of the words.
+use Rattle.std.specs.Prelude.{◌≡◌, ◌≢◌, ◌⊎◌, List, [], ◌∷◌, ◌++◌, Option, Some, None, option_map, codes, true, map, string_bytes, String}
+use Rattle.clap.specs.Walk.{Rule, Text, first_of}
+use Rattle.clap.specs.Simple.{App, matches_of, new_app, new_rule, on_top, with_rule}
+use Rattle.clap.specs.Faults.{fault_of}
+use Rattle.trace.specs.declared.replay_fault.ReplayFault.TheVariants.{NoMemory}
+use Rattle.vreplay.specs.declared.fault.Fault.{Fault}
+use Rattle.vreplay.specs.declared.fault.Fault.TheVariants.{Usage, Replay}
+use Rattle.vreplay.specs.declared.words.Call.{Call}
+
+-- the words as texts
+abbrev pub texts_of : {A : Type 0} → List (String A) → List Text
+texts_of = map string_bytes
+
+-- the command before it has its arguments; the program's own name isn't among the words
+abbrev pub bare : App
+bare = on_top (λ s. record s { no_binary_name = true }) (new_app (codes "vreplay"))
+
+-- the option with a value
+abbrev pub save_rule : Rule
+save_rule = record (new_rule (codes "save")) { long = Some (codes "save") }
+
+-- the program's command: two positionals that may be left out, and one option with a value
+abbrev pub vreplay : App
+vreplay = with_rule (with_rule (with_rule bare (new_rule (codes "trace"))) (new_rule (codes "image"))) save_rule
+
+-- what the words give an argument
+abbrev pub value_of : Text → List Text → Option Text
+value_of id words = first_of id (matches_of vreplay words)
+
+-- the words are taken, and name this trace, this image, and perhaps a file to save to
+pub record Names (words : List Text) (trace image : Text) (save : Option Text) : Type 0 where
+  pub taken : fault_of vreplay words ≡ []
+  pub trace_is : value_of (codes "trace") words ≡ Some trace
+  pub image_is : value_of (codes "image") words ≡ Some image
+  pub save_is : value_of (codes "save") words ≡ save
+
+-- the words name the files of this call
+abbrev pub IsCall : List Text → Call → Type 0
+IsCall words call = Names words call.trace.now call.image.now (option_map (λ file. file.now) call.save)
+
+-- the words are refused, help and version among it, or leave out a file that is wanted
+abbrev pub NamesNoCall : List Text → Type 0
+NamesNoCall words = (fault_of vreplay words ≢ []) ⊎ ((value_of (codes "trace") words ≡ None) ⊎ (value_of (codes "image") words ≡ None))
+
+-- the words `-- TRACE IMAGE`
+abbrev pub files_alone : Text → Text → List Text
+files_alone trace image = codes "--" ∷ trace ∷ image ∷ []
+
+-- the words `--save=FILE -- TRACE IMAGE`
+abbrev pub files_saved : Text → Text → Text → List Text
+files_saved save trace image = (codes "--save=" ++ save) ∷ files_alone trace image
+
+-- the words `-- TRACE IMAGE MORE` and any further ones
+abbrev pub files_and_more : Text → Text → Text → List Text → List Text
+files_and_more trace image more others = codes "--" ∷ trace ∷ image ∷ more ∷ others
+
+-- why no call was made of the words: they name none, or there was no memory to read them
+abbrev pub RefusesBy : List Text → Fault → Type 0
+RefusesBy words Usage = NamesNoCall words
+RefusesBy words (Replay fault) = fault ≡ NoMemory

@@ -1,0 +1,63 @@
+//! A replay over files.
+
+ghost use Rattle.std.specs.Prelude.{◌≡◌, IfOk, IfErr, OnOk, is_some};
+ghost use Rattle.std.specs.Io.KnownBytes.{Appends};
+
+use crate::image::read_image;
+use crate::replayed::replayed;
+use crate::words::Call;
+use sector_cache::MemoryImage;
+use std::fs;
+use std::io::Write;
+use std::rt::Files;
+use trace::ReplayFault;
+
+/// Replays the call's trace over its image, and then saves the image's bytes where the call asks for it.
+/// The answer is the file that was saved to. The image's own file is only read.
+pub fn replay_files<R: Files + AllocGlobal, W: Write>(
+    rt: &R,
+    call: &Call<'_>,
+    out: &mut W,
+) -> Result<Option<R::File>, ReplayFault>
+    ensures saved { IfOk result (λ file. is_some file ≡ is_some call.now.save) }
+{
+    let image = open_image(rt, call.image)?;
+    let Ok(mut trace) = fs::open(rt, call.trace) else {
+        return Err(ReplayFault::Read);
+    };
+    let image = replayed(rt.alloc(), &mut trace, out, image)?;
+    match call.save {
+        Some(path) => Ok(Some(save(rt, path, image.bytes())?)),
+        None => Ok(None),
+    }
+}
+
+// The image that a file holds.
+fn open_image<R: Files + AllocGlobal>(rt: &R, path: &str) -> Result<MemoryImage, ReplayFault> {
+    let Ok(mut file) = fs::open(rt, path) else {
+        return Err(ReplayFault::Read);
+    };
+    read_image(rt.alloc(), &mut file)
+}
+
+// Makes the file anew, and writes the bytes to it.
+fn save<R: Files>(rt: &R, path: &str, bytes: &[u8]) -> Result<R::File, ReplayFault>
+    ensures { IfErr result (λ fault. fault ≡ ReplayFault.Write) }
+{
+    let Ok(mut file) = fs::create(rt, path) else {
+        return Err(ReplayFault::Write);
+    };
+    send(&mut file, bytes)?;
+    Ok(file)
+}
+
+// Writes the bytes to the file, whole.
+fn send<W: Write>(file: &mut W, bytes: &[u8]) -> Result<(), ReplayFault>
+    ensures whole { OnOk result (Appends (W.contents file.old) (W.contents file.new) bytes.now) }
+    ensures fault { IfErr result (λ fault. fault ≡ ReplayFault.Write) }
+{
+    match file.write_all(bytes) {
+        Ok(()) => Ok(()),
+        Err(_) => Err(ReplayFault::Write),
+    }
+}

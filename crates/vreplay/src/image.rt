@@ -1,0 +1,49 @@
+//! The image that a trace is replayed over.
+
+ghost use Rattle.std.specs.Prelude.{◌≡◌, ◌%◌, ◌⊎◌, IfOk, IfErr, IfSome, OnOk, length, replicate};
+ghost use Rattle.std.specs.Io.KnownBytes.{IsAtEnd};
+ghost use Rattle.sector_cache.specs.Disk.{new_disk};
+ghost use Rattle.sector_cache.specs.MemoryImage.{disk_of};
+
+use crate::gather::gather;
+use sector_cache::{ImageFault, MemoryImage};
+use std::alloc::{AllocError, Global};
+use std::io::Read;
+use trace::ReplayFault;
+
+/// The bytes of the image of a call without words: eight sectors.
+const ZERO_BYTES: usize = 8 * 512;
+
+/// An image of eight zero sectors.
+pub fn zero_image(alloc: Global) -> Result<MemoryImage, ReplayFault>
+    ensures zeros { IfOk result (λ image. disk_of image ≡ new_disk (replicate 4096 0)) }
+    ensures fault { IfErr result (λ fault. fault ≡ ReplayFault.NoMemory) }
+{
+    let Ok(bytes) = zeros(alloc) else {
+        return Err(ReplayFault::NoMemory);
+    };
+    match MemoryImage::new(bytes) {
+        Ok(image) => Ok(image),
+        Err(ImageFault::BadSize) => unreachable!(),
+    }
+}
+
+// The bytes of eight zero sectors.
+fn zeros(alloc: Global) -> Result<Vec<u8>, AllocError>
+    ensures { IfOk result (λ bytes. bytes.items ≡ replicate 4096 0) }
+{
+    vec![in alloc; 0; ZERO_BYTES]
+}
+
+/// Reads an image to the reader's end. Its bytes must be whole sectors.
+pub fn read_image<T: Read>(alloc: Global, reader: &mut T) -> Result<MemoryImage, ReplayFault>
+    ensures all { IfOk result (λ image. IfSome (T.remaining reader.old) (λ bytes. disk_of image ≡ new_disk bytes)) }
+    ensures whole { OnOk result (IfSome (T.remaining reader.old) (λ bytes. length bytes % 512 ≡ 0)) }
+    ensures end { OnOk result (IsAtEnd (T.remaining reader.new)) }
+    ensures fault { IfErr result (λ fault. (fault ≡ ReplayFault.Read) ⊎ (fault ≡ ReplayFault.NoMemory)) }
+{
+    match MemoryImage::new(gather(alloc, reader)?) {
+        Ok(image) => Ok(image),
+        Err(ImageFault::BadSize) => Err(ReplayFault::Read),
+    }
+}
