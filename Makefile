@@ -2,14 +2,17 @@
 .PHONY: run test bench
 
 TRACE ?= examples/two-guests.trace
+IMAGE ?=
+SAVE ?=
 PROGRAM = crates/vreplay/out/vreplay
 
-# Proves what the program stands on, builds it, and replays a trace; TRACE=FILE names another.
+# Proves what the program stands on, builds it, and replays a trace. TRACE=FILE names another, IMAGE=FILE an
+# image to replay it over, and SAVE=FILE what the image's bytes are saved to.
 run:
 	@echo "Proving and building vreplay: some minutes the first time, seconds after that." >&2
 	@cd crates/vreplay && mkdir -p out && rt run < stdin > out/run.log || { tail -20 out/run.log >&2; exit 1; }
 	@echo "Replaying $(TRACE):" >&2
-	@$(PROGRAM) < "$(TRACE)"
+	@$(if $(IMAGE),$(PROGRAM) "$(TRACE)" "$(IMAGE)" $(if $(SAVE),--save "$(SAVE)"),$(PROGRAM) < "$(TRACE)")
 
 # The gate: every proof from nothing, the must-fail edits, the tests and the programs.
 test:
