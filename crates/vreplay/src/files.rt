@@ -7,6 +7,7 @@ use crate::image::read_image;
 use crate::replayed::replayed;
 use crate::words::Call;
 use sector_cache::MemoryImage;
+use std::alloc::Allocator;
 use std::fs;
 use std::io::Write;
 use std::rt::Files;
@@ -14,18 +15,19 @@ use trace::ReplayFault;
 
 /// Replays the call's trace over its image, and then saves the image's bytes where the call asks for it.
 /// The answer is the file that was saved to. The image's own file is only read.
-pub fn replay_files<R: Files + AllocGlobal, W: Write>(
+pub fn replay_files<A: Allocator + Copy, R: Files, W: Write>(
     rt: &R,
+    alloc: A,
     call: &Call<'_>,
     out: &mut W,
 ) -> Result<Option<R::File>, ReplayFault>
     ensures saved { IfOk result (λ file. is_some file ≡ is_some call.now.save) }
 {
-    let image = open_image(rt, call.image)?;
+    let image = open_image(rt, alloc, call.image)?;
     let Ok(mut trace) = fs::open(rt, call.trace) else {
         return Err(ReplayFault::Read);
     };
-    let image = replayed(rt.alloc(), &mut trace, out, image)?;
+    let image = replayed(alloc, &mut trace, out, image)?;
     match call.save {
         Some(path) => Ok(Some(save(rt, path, image.bytes())?)),
         None => Ok(None),
@@ -33,11 +35,15 @@ pub fn replay_files<R: Files + AllocGlobal, W: Write>(
 }
 
 // The image that a file holds.
-fn open_image<R: Files + AllocGlobal>(rt: &R, path: &str) -> Result<MemoryImage, ReplayFault> {
+fn open_image<A: Allocator, R: Files>(
+    rt: &R,
+    alloc: A,
+    path: &str,
+) -> Result<MemoryImage<A>, ReplayFault> {
     let Ok(mut file) = fs::open(rt, path) else {
         return Err(ReplayFault::Read);
     };
-    read_image(rt.alloc(), &mut file)
+    read_image(alloc, &mut file)
 }
 
 // Makes the file anew, and writes the bytes to it.

@@ -3,7 +3,7 @@
 ghost use Rattle.std.specs.Prelude.{◌≡◌, ◌⊎◌, IfOk, IfErr, IfSome, OnOk};
 ghost use Rattle.std.specs.Io.KnownBytes.{IsAtEnd};
 
-use std::alloc::Global;
+use std::alloc::Allocator;
 use std::io::{ErrorKind, Read};
 use trace::ReplayFault;
 
@@ -12,7 +12,7 @@ const CHUNK: usize = 65536;
 
 /// Gathers what is left of the reader. Unlike `read_to_end` it tells want of memory from a reader that
 /// fails.
-pub fn gather<T: Read>(alloc: Global, reader: &mut T) -> Result<Vec<u8>, ReplayFault>
+pub fn gather<A: Allocator, T: Read>(alloc: A, reader: &mut T) -> Result<Vec<u8, A>, ReplayFault>
     ensures all { IfOk result (λ input. IfSome (T.remaining reader.old) (λ bytes. input.items ≡ bytes)) }
     ensures end { OnOk result (IsAtEnd (T.remaining reader.new)) }
     ensures fault { IfErr result (λ fault. (fault ≡ ReplayFault.Read) ⊎ (fault ≡ ReplayFault.NoMemory)) }

@@ -7,7 +7,7 @@ ghost use Rattle.sector_cache.specs.MemoryImage.{disk_of};
 
 use crate::gather::gather;
 use sector_cache::{ImageFault, MemoryImage};
-use std::alloc::{AllocError, Global};
+use std::alloc::{AllocError, Allocator};
 use std::io::Read;
 use trace::ReplayFault;
 
@@ -15,7 +15,7 @@ use trace::ReplayFault;
 const ZERO_BYTES: usize = 8 * 512;
 
 /// An image of eight zero sectors.
-pub fn zero_image(alloc: Global) -> Result<MemoryImage, ReplayFault>
+pub fn zero_image<A: Allocator>(alloc: A) -> Result<MemoryImage<A>, ReplayFault>
     ensures zeros { IfOk result (λ image. disk_of image ≡ new_disk (replicate 4096 0)) }
     ensures fault { IfErr result (λ fault. fault ≡ ReplayFault.NoMemory) }
 {
@@ -29,14 +29,17 @@ pub fn zero_image(alloc: Global) -> Result<MemoryImage, ReplayFault>
 }
 
 // The bytes of eight zero sectors.
-fn zeros(alloc: Global) -> Result<Vec<u8>, AllocError>
+fn zeros<A: Allocator>(alloc: A) -> Result<Vec<u8, A>, AllocError>
     ensures { IfOk result (λ bytes. bytes.items ≡ replicate 4096 0) }
 {
     vec![in alloc; 0; ZERO_BYTES]
 }
 
 /// Reads an image to the reader's end. Its bytes must be whole sectors.
-pub fn read_image<T: Read>(alloc: Global, reader: &mut T) -> Result<MemoryImage, ReplayFault>
+pub fn read_image<A: Allocator, T: Read>(
+    alloc: A,
+    reader: &mut T,
+) -> Result<MemoryImage<A>, ReplayFault>
     ensures all { IfOk result (λ image. IfSome (T.remaining reader.old) (λ bytes. disk_of image ≡ new_disk bytes)) }
     ensures whole { OnOk result (IfSome (T.remaining reader.old) (λ bytes. length bytes % 512 ≡ 0)) }
     ensures end { OnOk result (IsAtEnd (T.remaining reader.new)) }

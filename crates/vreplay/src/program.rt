@@ -9,6 +9,7 @@ use crate::image::zero_image;
 use crate::last_line::end;
 use crate::replayed::replayed;
 use crate::words::read_words;
+use std::alloc::Allocator;
 use std::io;
 use std::io::{ErrorKind, Write};
 use std::rt::Files;
@@ -20,8 +21,21 @@ pub fn program<R: Input + Print + Files + AllocGlobal>(rt: &R, words: &[String])
     ensures only_usage { result ≡ 2 → NamesNoCall (texts_of words.now) }
     ensures some_words { result ≡ 2 → 0 < length words.now }
 {
+    program_in(rt, rt.alloc(), words)
+}
+
+/// The same, with the memory for all but the words from this allocator.
+pub(crate) fn program_in<A: Allocator + Copy, R: Input + Print + Files + AllocGlobal>(
+    rt: &R,
+    alloc: A,
+    words: &[String],
+) -> u8
+    ensures usage { 0 < length words.now → NamesNoCall (texts_of words.now) → (result ≡ 2) ⊎ (result ≡ 3) }
+    ensures only_usage { result ≡ 2 → NamesNoCall (texts_of words.now) }
+    ensures some_words { result ≡ 2 → 0 < length words.now }
+{
     let mut out = io::writer(rt);
-    let outcome = carry_out(rt, words, &mut out);
+    let outcome = carry_out(rt, alloc, words, &mut out);
     end(&outcome, &mut out)
 }
 
@@ -37,8 +51,9 @@ pub fn refuse_words<R: Print>(rt: &R, error: &io::Error) -> u8
 }
 
 // Does what the words ask for, all but the last line.
-fn carry_out<R: Input + Files + AllocGlobal, W: Write>(
+fn carry_out<A: Allocator + Copy, R: Input + Files + AllocGlobal, W: Write>(
     rt: &R,
+    alloc: A,
     words: &[String],
     out: &mut W,
 ) -> Result<(), Fault>
@@ -47,16 +62,20 @@ fn carry_out<R: Input + Files + AllocGlobal, W: Write>(
     ensures some_words { result ≡ Err Fault.Usage → 0 < length words.now }
 {
     if words.is_empty() {
-        return Ok(replay_input(rt, out)?);
+        return Ok(replay_input(rt, alloc, out)?);
     }
     let call = read_words(rt.alloc(), words)?;
-    replay_files(rt, &call, out)?;
+    replay_files(rt, alloc, &call, out)?;
     Ok(())
 }
 
 // Replays standard input over an image of zeros.
-fn replay_input<R: Input + AllocGlobal, W: Write>(rt: &R, out: &mut W) -> Result<(), ReplayFault> {
-    let image = zero_image(rt.alloc())?;
-    replayed(rt.alloc(), &mut rt.reader(), out, image)?;
+fn replay_input<A: Allocator + Copy, R: Input, W: Write>(
+    rt: &R,
+    alloc: A,
+    out: &mut W,
+) -> Result<(), ReplayFault> {
+    let image = zero_image(alloc)?;
+    replayed(alloc, &mut rt.reader(), out, image)?;
     Ok(())
 }

@@ -7,6 +7,7 @@ mod machine;
 mod one_sector;
 mod order;
 mod over_files;
+mod refused;
 mod stopped;
 mod word_lists;
 

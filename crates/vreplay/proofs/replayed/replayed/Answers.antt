@@ -1,9 +1,9 @@
-use Rattle.std.proofs.Common.{subst, Global}
+use Rattle.std.proofs.Common.{subst}
 use Rattle.trace.specs.Replay.{Replays}
 use Rattle.vreplay.proofs.replayed.replayed.Goals as goal
 
 pub returns-in_default-Err : goal.returns-in_default-Err
 returns-in_default-Err g c = (
   c.replay.result.0,
-  subst (Replays Global g.I.Image.disk _ _ _ c.args.image c.replay.result.0) c.in_default-Err.is-1 c.replay.ensures.comes_to,
+  subst (Replays _ g.I.Image.disk _ _ _ c.args.image c.replay.result.0) c.in_default-Err.is-1 c.replay.ensures.comes_to,
 )
