@@ -1,5 +1,6 @@
 -- What callers need of ranges of a memory: what a write leaves, and what it can't reach.
 use Rattle.std.proofs.Common.{◌≡◌, ◌⊎◌, inl, inr, ℕ, ◌+◌, ◌-◌, ◌≤◌, List, [], ◌++◌, length, take, drop, refl, ◌∙◌, ap, arith, length-append, length-take, length-drop, append_assoc}
+use Rattle.std.proofs.lemmas.Bool.{cases_lt}
 use Rattle.std.proofs.lemmas.List.{places, same_lists, take_all}
 use Rattle.guest_memory.specs.Memory.{Memory, Inside, SameRange, part_of, put_at, put}
 
@@ -63,3 +64,14 @@ take-plus n k xs = same_lists _ _ (simp (length-take, length-append, length-drop
 -- a part that lies inside has its length
 pub length-part_of : (m : Memory) (a n : ℕ) → Inside m a n → length (part_of m a n) ≡ n
 length-part_of m a n inside = simp (length-take, length-drop) (omega arith)
+
+-- a range lies in a memory or doesn't
+pub inside_cases : (m : Memory) (a n : ℕ) → Inside m a n ⊎ (¬ Inside m a n)
+inside_cases m a n =
+    elim (cases_lt a m.base) [
+      | inl under ↦ inr (λ h. absurd (omega (arith, h.above)))
+      | inr above ↦ elim (cases_lt (m.base + length m.bytes) (a + n)) [
+        | inl over ↦ inr (λ h. absurd (omega (arith, h.below)))
+        | inr below ↦ inl (record { above = above; below = below })
+      ]
+    ]
