@@ -8,6 +8,7 @@
 mod cache;
 mod fault;
 mod image;
+mod kept;
 mod laws;
 mod memory;
 mod scripted;
