@@ -3,10 +3,10 @@ use Rattle.std.proofs.Common.{◌≡◌, ◌≢◌, ℕ, zero, suc, ◌-◌, ◌
 use Rattle.std.specs.Box.{box_value}
 use Rattle.std.specs.Cmp.{nat_eq_equiv}
 use Rattle.std.specs.List.{IsDistinct}
-use Rattle.std.specs.Map.{keys_of, lookup, lookup_entry, remove_entry}
-use Rattle.std.specs.Option.{option_map, option_map_or}
+use Rattle.std.specs.Map.{keys_of, lookup, lookup_entry, remove_entry, set_value}
+use Rattle.std.specs.Option.{option_map, option_map_or, option_and_then}
 use Rattle.std.proofs.lemmas.Bool.{eqb-true, eq-eqb, ne_eqb, cases_eq}
-use Rattle.std.proofs.lemmas.Map.{lookup-remove_entry}
+use Rattle.std.proofs.lemmas.Map.{lookup-remove_entry, lookup-set_value}
 use Rattle.lru.specs.LruCache.{LruCache, lru_cache, promoted, put_entries}
 
 module _ {X : Type 0} where
@@ -65,22 +65,47 @@ module _ {X : Type 0} where
   lookup-put c k q v w = put_cases c k q v w (lookup_entry (nat_eq k) c.entries) refl
 
 -- a removal, seen through the values
-pub option_map-cond : {X Y : Type 0} (f : X → Y) (b : Bool) (o : Option X) → option_map f (cond b None o) ≡ cond b None (option_map f o)
-option_map-cond f true o = refl
-option_map-cond f false o = refl
+pub seen-cond : {X Y : Type 0} (f : X → Option Y) (b : Bool) (o : Option X) → option_and_then f (cond b None o) ≡ cond b None (option_and_then f o)
+seen-cond f true o = refl
+seen-cond f false o = refl
 
-some_mapped : {X Y : Type 0} (f : X → Y) (o : Option X) (y : Y) → option_map f o ≡ Some y → (x : X) × (o ≡ Some x) × (f x ≡ y)
-some_mapped f None y h = cc
-some_mapped f (Some x) y h = (x, refl, cc)
+some_seen : {X Y : Type 0} (f : X → Option Y) (o : Option X) (y : Y) → option_and_then f o ≡ Some y → (x : X) × (o ≡ Some x) × (f x ≡ Some y)
+some_seen f None y h = cc
+some_seen f (Some x) y h = (x, refl, h)
 
--- What is kept after a put of this block was kept, or is what the block has.
-pub MayKeep-put : {A : Type 0} (old : LruCache ℕ (Box (List ℕ) A)) (k q : ℕ) (block : Box (List ℕ) A) (bytes : List ℕ) → block.value ≡ bytes → (new : LruCache ℕ (Box (List ℕ) A)) → new ≡ lru_cache (put_entries nat_eq old k block) old.cap → IfSome (option_map box_value (lookup (nat_eq q) new.entries)) (λ kept. (option_map box_value (lookup (nat_eq q) old.entries) ≡ Some kept) ⊎ ((q ≡ k) × (kept ≡ bytes)))
-MayKeep-put old k q block bytes holds new is = (elim (option_map box_value (lookup (nat_eq q) new.entries)) as (λ o. option_map box_value (lookup (nat_eq q) new.entries) ≡ o → IfSome o (λ kept. (option_map box_value (lookup (nat_eq q) old.entries) ≡ Some kept) ⊎ ((q ≡ k) × (kept ≡ bytes)))) [
-  | None ↦ λ _. tt
-  | Some kept ↦ λ found.
-      let at = some_mapped box_value (lookup (nat_eq q) new.entries) kept found in
-      elim (lookup-put old k q block at.0 (sym (ap (λ cache. lookup (nat_eq q) cache.entries) is) ∙ at.1)) [
-        | inl was ↦ inl (ap (option_map box_value) was ∙ ap Some at.2)
-        | inr put ↦ inr (put.0, sym at.2 ∙ ap box_value put.1 ∙ holds)
-      ]
-]) refl
+module _ {A : Type 0} where
+  abbrev seen : Option (Option (Box (List ℕ) A)) → Option (List ℕ)
+  seen = option_and_then (option_map box_value)
+
+  emptied : (b : Bool) (o : Option (Option (Box (List ℕ) A))) (w : Option (Box (List ℕ) A)) → w ≡ None → seen (cond b (Some w) o) ≡ cond b None (seen o)
+  emptied true o w is = ap (option_map box_value) is
+  emptied false o w is = refl
+
+  -- after a look-up the same is kept
+  pub seen-promoted : (old new : LruCache ℕ (Option (Box (List ℕ) A))) (k q : ℕ) → new ≡ lru_cache (promoted (nat_eq k) old.entries) old.cap → seen (lookup (nat_eq q) new.entries) ≡ seen (lookup (nat_eq q) old.entries)
+  seen-promoted old new k q is = ap (λ c. seen (lookup (nat_eq q) c.entries)) is ∙ ap seen (lookup-promoted old.entries k q)
+
+  -- after a removal nothing of that number
+  pub seen-removed : (old new : LruCache ℕ (Option (Box (List ℕ) A))) (k q : ℕ) → IsDistinct nat_eq (keys_of old.entries) → new ≡ lru_cache (remove_entry (nat_eq k) old.entries) old.cap → seen (lookup (nat_eq q) new.entries) ≡ cond (nat_eq k q) None (seen (lookup (nat_eq q) old.entries))
+  seen-removed old new k q distinct is =
+      ap (λ c. seen (lookup (nat_eq q) c.entries)) is ∙ ap seen (lookup-removed old.entries k q distinct)
+      ∙ seen-cond (option_map box_value) (nat_eq k q) (lookup (nat_eq q) old.entries)
+
+  -- and nothing of it where its place was emptied
+  pub seen-emptied : (es : List (ℕ × Option (Box (List ℕ) A))) (k q : ℕ) (v w : Option (Box (List ℕ) A)) → Some v ≡ lookup (nat_eq k) es → w ≡ None → seen (lookup (nat_eq q) (set_value (nat_eq k) (promoted (nat_eq k) es) w)) ≡ cond (nat_eq k q) None (seen (lookup (nat_eq q) es))
+  seen-emptied es k q v w there is =
+      ap seen (lookup-set_value nat_eq_equiv (nat_eq k) (λ x y t. ap (λ n. nat_eq n y) (eqb-true k x t)) q w (promoted (nat_eq k) es) (rw (lookup-promoted es k k, ← there) refl))
+      ∙ ap (λ o. seen (cond (nat_eq k q) (Some w) o)) (lookup-promoted es k q)
+      ∙ emptied (nat_eq k q) (lookup (nat_eq q) es) w is
+
+  -- What is kept after a put of this block was kept, or is what the block has.
+  pub MayKeep-put : (old : LruCache ℕ (Option (Box (List ℕ) A))) (k q : ℕ) (block : Box (List ℕ) A) (bytes : List ℕ) → block.value ≡ bytes → (new : LruCache ℕ (Option (Box (List ℕ) A))) → new ≡ lru_cache (put_entries nat_eq old k (Some block)) old.cap → IfSome (seen (lookup (nat_eq q) new.entries)) (λ kept. (seen (lookup (nat_eq q) old.entries) ≡ Some kept) ⊎ ((q ≡ k) × (kept ≡ bytes)))
+  MayKeep-put old k q block bytes holds new is = (elim (seen (lookup (nat_eq q) new.entries)) as (λ o. seen (lookup (nat_eq q) new.entries) ≡ o → IfSome o (λ kept. (seen (lookup (nat_eq q) old.entries) ≡ Some kept) ⊎ ((q ≡ k) × (kept ≡ bytes)))) [
+    | None ↦ λ _. tt
+    | Some kept ↦ λ found.
+        let at = some_seen (option_map box_value) (lookup (nat_eq q) new.entries) kept found in
+        elim (lookup-put old k q (Some block) at.0 (sym (ap (λ cache. lookup (nat_eq q) cache.entries) is) ∙ at.1)) [
+          | inl was ↦ inl (ap seen was ∙ at.2)
+          | inr put ↦ let has : Some block.value ≡ Some kept = ap (option_map box_value) (sym put.1) ∙ at.2 in let same : kept ≡ block.value = cc in inr (put.0, same ∙ holds)
+        ]
+  ]) refl

@@ -78,8 +78,11 @@ impl<I: Image, A: Allocator + Copy> SectorCache<I, A> {
         ensures ok { OnOk result (I.disk self.new ≡ written sector from.now (I.disk self.old)) }
         ensures err { OnErr result (IsTorn sector (I.disk self.old) (I.disk self.new)) }
     {
-        self.kept.forget(sector);
-        self.image.write_sector(sector, from)?;
+        self.kept.empty(sector);
+        if let Err(error) = self.image.write_sector(sector, from) {
+            self.kept.forget(sector);
+            return Err(error);
+        }
         self.kept.put(sector, from);
         Ok(())
     }

@@ -1,16 +1,14 @@
-use Rattle.std.proofs.Common.{nat_eq, ◌∙◌, ap}
-use Rattle.std.specs.Box.{box_value}
-use Rattle.std.specs.Map.{lookup}
-use Rattle.std.specs.Option.{option_map}
-use Rattle.sector_cache.proofs.Keeping.{lookup-promoted}
+use Rattle.sector_cache.proofs.Keeping.{seen-promoted}
 use Rattle.sector_cache.proofs.kept.Kept.get.Goals as goal
 
-pub returns-in-Some-clause-stays : goal.returns-in-Some-clause-stays
-returns-in-Some-clause-stays g c =
-    λ other. ap (λ cache. option_map box_value (lookup (nat_eq other) cache.entries)) c.get.follows.holds-at-none
-    ∙ ap (option_map box_value) (lookup-promoted c.args.self.now.sectors.entries c.args.sector other)
+pub returns-in-Some-Some-clause-stays : goal.returns-in-Some-Some-clause-stays
+returns-in-Some-Some-clause-stays g c =
+    λ other. seen-promoted c.args.self.now.sectors c.get.follows.lender-at-none c.args.sector other c.get.follows.holds-at-none
 
-pub returns-in-None-clause-stays : goal.returns-in-None-clause-stays
-returns-in-None-clause-stays g c =
-    λ other. ap (λ cache. option_map box_value (lookup (nat_eq other) cache.entries)) c.get.follows.holds-at-none
-    ∙ ap (option_map box_value) (lookup-promoted c.args.self.now.sectors.entries c.args.sector other)
+pub returns-clause-stays : goal.returns-clause-stays
+returns-clause-stays g c =
+    λ other. seen-promoted c.args.self.now.sectors c.get.follows.lender-at-none c.args.sector other c.get.follows.holds-at-none
+
+pub returns-2-clause-stays : goal.returns-2-clause-stays
+returns-2-clause-stays g c =
+    λ other. seen-promoted c.args.self.now.sectors c.get.follows.lender-at-none c.args.sector other c.get.follows.holds-at-none
