@@ -1,2 +1,4 @@
+pub mod Coherence
 pub mod Gathered
+pub mod Keeping
 pub mod Sectors

@@ -1,13 +1,15 @@
 //! A cache of sectors over an image.
 
-ghost use Rattle.std.specs.Prelude.{◌≡◌, ◌<◌, IfOk, IfErr, OnOk, OnErr, replicate};
+ghost use Rattle.std.specs.Prelude.{◌≡◌, ◌<◌, ◌↔◌, IfOk, IfErr, OnOk, OnErr, IsSome, replicate};
 ghost use Rattle.sector_cache.specs.Disk.{IsAsTold, IsTorn, failed, written, flushed};
 ghost use Rattle.sector_cache.specs.Fault.{IsCapacity, RefusesCapacity};
 
 use crate::fault::{CacheFault, Refused};
 use crate::image::{Image, ImageError};
+use crate::kept::Kept;
 use std::alloc::{Allocator, Global};
 use std::marker::Model;
+use std::num::NonZeroUsize;
 
 /// How many sectors a cache may keep at most.
 const MOST_SECTORS: u32 = 65536;
@@ -18,14 +20,18 @@ const MOST_SECTORS: u32 = 65536;
 #[derive(Drop)]
 pub struct SectorCache<I: Image, A: Allocator = Global> {
     image: I,
-    // For the sectors that are kept; none are yet.
-    alloc: A,
+    kept: Kept<A>,
 }
 
 impl<I: Image, A: Allocator> Model for SectorCache<I, A> {
+    ghost use Rattle.sector_cache.specs.Kept.{kept_of, IsCoherent};
+
     ghost Value = { I };
 
     ghost view = { λ cache. cache.image };
+
+    // what is kept is what the image tells
+    ghost invariant = { λ cache. IsCoherent (I.disk cache.image) (kept_of cache.kept) };
 }
 
 impl<I: Image, A: Allocator + Copy> SectorCache<I, A> {
@@ -36,13 +42,19 @@ impl<I: Image, A: Allocator + Copy> SectorCache<I, A> {
         ensures fault { IfErr result (λ refused. RefusesCapacity capacity refused.why) }
         ensures returned { IfErr result (λ refused. refused.image ≡ image) }
     {
-        if capacity == 0 || capacity > MOST_SECTORS {
+        let Some(capacity) = admitted(capacity) else {
             return Err(Refused {
                 image,
                 why: CacheFault::BadCapacity,
             });
-        }
-        Ok(SectorCache { image, alloc })
+        };
+        let Ok(kept) = Kept::new(alloc, capacity) else {
+            return Err(Refused {
+                image,
+                why: CacheFault::NoMemory,
+            });
+        };
+        Ok(SectorCache { image, kept })
     }
 
     /// Reads a sector. After an `Err` `into` may hold any bytes.
@@ -52,7 +64,12 @@ impl<I: Image, A: Allocator + Copy> SectorCache<I, A> {
         ensures ok { OnOk result (I.disk self.new ≡ I.disk self.old) }
         ensures err { OnErr result (I.disk self.new ≡ failed (I.disk self.old)) }
     {
-        self.image.read_sector(sector, into)
+        if self.kept.get(sector, into) {
+            return Ok(());
+        }
+        self.image.read_sector(sector, into)?;
+        self.kept.put(sector, into);
+        Ok(())
     }
 
     /// Writes a sector. After an `Err` that sector may hold any 512 bytes.
@@ -61,7 +78,13 @@ impl<I: Image, A: Allocator + Copy> SectorCache<I, A> {
         ensures ok { OnOk result (I.disk self.new ≡ written sector from.now (I.disk self.old)) }
         ensures err { OnErr result (IsTorn sector (I.disk self.old) (I.disk self.new)) }
     {
-        self.image.write_sector(sector, from)
+        self.kept.empty(sector);
+        if let Err(error) = self.image.write_sector(sector, from) {
+            self.kept.forget(sector);
+            return Err(error);
+        }
+        self.kept.put(sector, from);
+        Ok(())
     }
 
     /// Writes 512 zeros.
@@ -95,7 +118,17 @@ impl<I: Image, A: Allocator> SectorCache<I, A> {
     pub fn into_image(self) -> I
         ensures { result ≡ self }
     {
-        let SectorCache { image, alloc: _ } = self;
+        let SectorCache { image, kept: _ } = self;
         image
     }
+}
+
+/// How many sectors may be kept, where that many are admitted.
+fn admitted(capacity: u32) -> Option<NonZeroUsize>
+    ensures { IsSome result ↔ IsCapacity capacity }
+{
+    if capacity > MOST_SECTORS {
+        return None;
+    }
+    NonZeroUsize::new(capacity as usize)
 }

@@ -3,20 +3,12 @@
 ghost use Rattle.std.specs.Prelude.{◌≡◌, ◌^◌, ◌<◌, OnOk, OnErr};
 ghost use Rattle.sector_cache.specs.Disk.{Disk, IsWhole, IsAsTold, IsTorn, failed, written, flushed};
 
-use std::error::Error;
-use std::fmt;
+use thiserror::Error;
 
 /// A call of an image failed. What stands in `into` after a failed read is left open.
-#[derive(Clone, Copy, Debug, PartialEq, Eq, Hash)]
+#[derive(Clone, Copy, Debug, PartialEq, Eq, Hash, Error)]
+#[error("the image failed")]
 pub struct ImageError;
-
-impl fmt::Display for ImageError {
-    fn fmt<W: fmt::Write>(&self, f: &mut fmt::Formatter<W>) -> fmt::Result {
-        f.write_str("the image failed")
-    }
-}
-
-impl Error for ImageError {}
 
 /// A disk of `sectors()` sectors of 512 bytes, numbered from 0.
 ///

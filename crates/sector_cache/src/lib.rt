@@ -1,12 +1,15 @@
 //! Disk images by sectors of 512 bytes, and a cache of sectors over one of them.
 //!
 //! `image` says what an image is, `memory` and `scripted` have the two that live in memory,
-//! `cache` the cache, and `fault` what their constructors answer where they refuse.
+//! `cache` the cache, `fault` what their constructors answer where they refuse, and `laws` what holds
+//! of every value.
 #![tactic(auto)]
 
 mod cache;
 mod fault;
 mod image;
+mod kept;
+mod laws;
 mod memory;
 mod scripted;
 mod sector;
@@ -14,6 +17,7 @@ mod sector;
 pub use cache::SectorCache;
 pub use fault::{CacheFault, ImageFault, Refused};
 pub use image::{Image, ImageError};
+pub use laws::memory_images_tell;
 pub use memory::MemoryImage;
 pub use scripted::ScriptedImage;
 

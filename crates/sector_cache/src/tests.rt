@@ -3,11 +3,18 @@
 ghost use Rattle.std.specs.Prelude.{◌≡◌};
 
 mod blind;
+mod both;
 mod gather;
+mod image_calls;
+mod plain;
+mod refused;
+mod sectors;
+mod switched;
 
 use crate::{CacheFault, Image, ImageError, ImageFault, MemoryImage, ScriptedImage, SectorCache};
 use blind::BlindImage;
 use gather::gather;
+use sectors::filled;
 use std::alloc::{AllocError, Global};
 use std::test::Fail;
 
@@ -18,11 +25,6 @@ fn halves(alloc: Global, each: &[u8]) -> Result<Vec<u8>, AllocError> {
         bytes.extend_from_slice(&[*byte; 256])?;
     }
     Ok(bytes)
-}
-
-/// A sector of one byte again and again.
-fn filled(byte: u8) -> [u8; 512] {
-    [byte; 512]
 }
 
 #[test]
