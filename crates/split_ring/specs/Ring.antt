@@ -1,7 +1,7 @@
 -- A split virtqueue as its device sees it (2.7), and what stands where in its three areas.
-use Rattle.std.specs.Prelude.{◌≡◌, ℕ, ◌+◌, ◌-◌, ◌*◌, ◌%◌, ◌≤◌, Bool, IsTrue, ◌&&◌, ◌==◌, nat_le, length}
+use Rattle.std.specs.Prelude.{◌≡◌, ℕ, ◌+◌, ◌-◌, ◌*◌, ◌%◌, ◌≤◌, Bool, IsTrue, ◌&&◌, ◌==◌, nat_le}
 use Rattle.std.specs.Int.{is_power_of_two}
-use Rattle.guest_memory.specs.Memory.{Memory, Inside, num, put_num}
+use Rattle.guest_memory.specs.Memory.{Memory, Inside, is_inside, num, put_num}
 use Rattle.indirect.specs.declared.descriptor.Descriptor.{Descriptor}
 use Rattle.indirect.specs.Descriptors.{split_table}
 use Rattle.suppression.specs.Places.{idx_modulus, place_ahead}
@@ -57,10 +57,6 @@ pub record IsUsable (m : Memory) (setup : SplitSetup) : Type 0 where
   pub number : IsQueueSize setup.size
   pub aligned : IsAligned setup
   pub lies : LiesIn m setup
-
--- the test whether a range lies in the memory
-abbrev pub is_inside : Memory → ℕ → ℕ → Bool
-is_inside m a n = nat_le m.base a && nat_le (a + n) (m.base + length m.bytes)
 
 -- the test whether a ring may be set up so
 abbrev pub can_set_up : Memory → SplitSetup → Bool
