@@ -1,6 +1,6 @@
 //! Each call of the image refused in turn, between two guests: which of them is told to be disturbed.
 
-use board::Board;
+use board::{Board, Event};
 use sector_cache::ScriptedImage;
 use std::process::Abort;
 use std::test::Fail;
@@ -58,21 +58,35 @@ mw 1 80002000 00000100
 w 1 b 050 4 00000000
 ";
 
-/// Which of the slots 0, 1 and 2 are told to be disturbed, after the trace over an image of whose calls these fail.
-fn disturbed(rt: &(impl Abort + AllocGlobal), failing: &[u64]) -> Result<[Option<bool>; 3], Fail> {
-    let trace = read_trace(rt.alloc(), TRACE.as_bytes())?;
-    let image = ScriptedImage::new(
-        vec![in rt.alloc(); 0x10; 4096]?,
-        failing.to_vec(rt.alloc())?,
-    )?;
-    let mut board = Board::new(rt.alloc(), &trace.slots, image, trace.cache).map_err(
-        |refused| refused.why,
-    )?;
-    let before = [board.disturbed(0), board.disturbed(1), board.disturbed(2)];
-    assert_eq!(rt; before, [Some(false), Some(false), None]);
+/// What is told of the slots 0, 1 and 2.
+fn told(board: &Board<ScriptedImage>) -> [Option<bool>; 3] {
+    [board.disturbed(0), board.disturbed(1), board.disturbed(2)]
+}
+
+/// What is told once the board has run these events. Neither slot is disturbed before.
+fn told_after(
+    rt: &(impl Abort + AllocGlobal),
+    mut board: Board<ScriptedImage>,
+    events: &[Event],
+) -> [Option<bool>; 3] {
+    assert!(rt; told(&board) == [Some(false), Some(false), None]);
     let mut records = Vec::new(rt.alloc());
-    assert_eq!(rt; board.run(&trace.events, &mut records), Ok(()));
-    Ok([board.disturbed(0), board.disturbed(1), board.disturbed(2)])
+    assert!(rt; board.run(events, &mut records).is_ok());
+    told(&board)
+}
+
+/// What is told after the trace over an image of whose calls these fail.
+fn disturbed(
+    rt: &(impl Abort + AllocGlobal),
+    failing: &[u64],
+) -> Result<[Option<bool>; 3], Fail> {
+    let trace = read_trace(rt.alloc(), TRACE.as_bytes())?;
+    let bytes = vec![in rt.alloc(); 0x10; 4096]?;
+    let image = ScriptedImage::new(bytes, failing.to_vec(rt.alloc())?)?;
+    match Board::new(rt.alloc(), &trace.slots, image, trace.cache) {
+        Ok(board) => Ok(told_after(rt, board, &trace.events)),
+        Err(_) => Ok([None; 3]),
+    }
 }
 
 #[test]
@@ -88,7 +102,7 @@ fn the_guest_that_met_it_was_disturbed(rt: HostRuntime) -> Result<(), Fail> {
         (&[0, 2], true, true),
     ] {
         let told = disturbed(&rt, failing)?;
-        assert_eq!(rt; told, [Some(first), Some(second), None], "{failing:?}");
+        assert!(rt; told == [Some(first), Some(second), None], "{failing:?}");
     }
     Ok(())
 }
