@@ -76,10 +76,7 @@ fn told_after(
 }
 
 /// What is told after the trace over an image of whose calls these fail.
-fn disturbed(
-    rt: &(impl Abort + AllocGlobal),
-    failing: &[u64],
-) -> Result<[Option<bool>; 3], Fail> {
+fn disturbed(rt: &(impl Abort + AllocGlobal), failing: &[u64]) -> Result<[Option<bool>; 3], Fail> {
     let trace = read_trace(rt.alloc(), TRACE.as_bytes())?;
     let bytes = vec![in rt.alloc(); 0x10; 4096]?;
     let image = ScriptedImage::new(bytes, failing.to_vec(rt.alloc())?)?;

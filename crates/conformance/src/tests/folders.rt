@@ -1,22 +1,9 @@
-//! Folders of scenarios: what is told where all is well, and of each thing that can be wrong.
+//! A folder of scenarios in which each thing is wrong once, and what is told of it.
 
 use crate::check::check_folder;
 use std::env::temp_dir;
-use std::process::Abort;
-use std::rt::{Env, Files};
+use std::fs;
 use std::test::Fail;
-use std::{fs, io};
-
-/// A folder: what its page lists, what the files of its subject `s` hold, and what is told. A name that ends in a
-/// slash is a folder's.
-type Case = (
-    &'static str,
-    &'static [(&'static str, &'static [u8])],
-    &'static str,
-);
-
-/// The list of the one scenario `s/a`.
-const A: &str = "- `s/a`: a register is read.\n";
 
 /// A guest without a disk reads DeviceID.
 const TRACE: &[u8] = b"vreplay 1\ncache 1\nslot 80000000 1000 0 0 rw 50 19\nr 0 b 008 4\n";
@@ -24,222 +11,113 @@ const TRACE: &[u8] = b"vreplay 1\ncache 1\nslot 80000000 1000 0 0 rw 50 19\nr 0 
 /// What it must read.
 const RECORDS: &[u8] = b"0 v:00000002 - 0 0\nstatus 0\n";
 
-/// Folders in which all is well.
-const WELL: [Case; 4] = [
-    (A, &[("a.trace", TRACE), ("a.records", RECORDS)], "s/a ok\n"),
-    // lines that list nothing
-    ("Nothing:\n`s/a`\n- s/a\n -`s/a`\n- `s/a\n", &[], ""),
-    // an image without sectors
-    (
-        A,
-        &[
-            ("a.trace", TRACE),
-            ("a.records", RECORDS),
-            ("a.before", b""),
-        ],
-        "s/a ok\n",
-    ),
-    // calls that would fail
-    (
-        A,
-        &[
-            ("a.trace", TRACE),
-            ("a.records", RECORDS),
-            ("a.fails", b"0\n12\n"),
-        ],
-        "s/a ok\n",
-    ),
-];
+/// The folder's list, with lines of prose among it.
+const LIST: &[u8] = b"- s/prose\n\
+    - `s/good`: a register is read.\n\
+    - `s/no_records`\n\
+    `s/prose`\n\
+    - `s/no_trace`\n\
+    - `s/folder`\n\
+    - `s/no_text`\n\
+    - `s/good`: again.\n\
+    - `s/record`\n\
+    - `s/status`\n\
+    - `s/line_too_few`\n\
+    - `s/line_too_many`\n\
+    - `s/line_without_end`\n\
+    - `s/flush`\n\
+    - `s/sector`\n\
+    - `s/half_a_byte`\n\
+    - `s/half_a_sector`\n\
+    - `s/two_calls_in_a_line`\n\
+    - `s/prose\n";
 
-/// Folders in which something is wrong.
-const WRONG: [Case; 17] = [
+/// The files of the folder, beside the folder `s/folder.trace`.
+const FILES: [(&str, &[u8]); 35] = [
+    ("README.md", LIST),
+    ("s/good.trace", TRACE),
+    ("s/good.records", RECORDS),
     // a pair that lacks its half
-    (A, &[("a.trace", TRACE)], "s/a.records is missing\n"),
-    (A, &[("a.records", RECORDS)], "s/a.trace is missing\n"),
-    // files that can't be read
-    (
-        A,
-        &[("a.trace/", b""), ("a.records", RECORDS)],
-        "s/a.trace can't be read\n",
-    ),
-    (
-        A,
-        &[("a.trace", TRACE), ("a.records", b"0 v:\xff")],
-        "s/a.records can't be read\n",
-    ),
-    // a name twice
-    (
-        "- `s/a`: once.\n- `s/b`: between.\n- `s/a`: again.\n",
-        &[
-            ("a.trace", TRACE),
-            ("a.records", RECORDS),
-            ("b.trace", TRACE),
-            ("b.records", RECORDS),
-        ],
-        "s/a ok\ns/b ok\ns/a is named twice\n",
-    ),
-    // files of no scenario, in the order of their names
-    (
-        A,
-        &[
-            ("b.trace", TRACE),
-            ("a.trace", TRACE),
-            ("a.records", RECORDS),
-            ("a.trace2", TRACE),
-            ("a", b""),
-        ],
-        "s/a ok\n\
-         s/a belongs to no scenario\n\
-         s/a.trace2 belongs to no scenario\n\
-         s/b.trace belongs to no scenario\n",
-    ),
+    ("s/no_records.trace", TRACE),
+    ("s/no_trace.records", RECORDS),
+    // a part that can't be read, and one that is no text
+    ("s/folder.records", RECORDS),
+    ("s/no_text.trace", TRACE),
+    ("s/no_text.records", b"0 v:\xff"),
     // another record, another status, a line too few, a line too many, a line without its end
+    ("s/record.trace", TRACE),
+    ("s/record.records", b"0 v:00000003 - 0 0\nstatus 0\n"),
+    ("s/status.trace", TRACE),
+    ("s/status.records", b"0 v:00000002 - 0 0\nstatus 1\n"),
+    ("s/line_too_few.trace", TRACE),
+    ("s/line_too_few.records", b"0 v:00000002 - 0 0\n"),
+    ("s/line_too_many.trace", TRACE),
     (
-        A,
-        &[
-            ("a.trace", TRACE),
-            ("a.records", b"0 v:00000003 - 0 0\nstatus 0\n"),
-        ],
-        "s/a.records differs, line 1: \
-         expected \"0 v:00000003 - 0 0\\n\", found \"0 v:00000002 - 0 0\\n\"\n",
+        "s/line_too_many.records",
+        b"0 v:00000002 - 0 0\nstatus 0\nstatus 0\n",
     ),
+    ("s/line_without_end.trace", TRACE),
     (
-        A,
-        &[
-            ("a.trace", TRACE),
-            ("a.records", b"0 v:00000002 - 0 0\nstatus 1\n"),
-        ],
-        "s/a.records differs, line 2: expected \"status 1\\n\", found \"status 0\\n\"\n",
+        "s/line_without_end.records",
+        b"0 v:00000002 - 0 0\nstatus 0",
     ),
-    (
-        A,
-        &[("a.trace", TRACE), ("a.records", b"0 v:00000002 - 0 0\n")],
-        "s/a.records differs, line 2: expected no line, found \"status 0\\n\"\n",
-    ),
-    (
-        A,
-        &[
-            ("a.trace", TRACE),
-            ("a.records", b"0 v:00000002 - 0 0\nstatus 0\nstatus 0\n"),
-        ],
-        "s/a.records differs, line 3: expected \"status 0\\n\", found no line\n",
-    ),
-    (
-        A,
-        &[
-            ("a.trace", TRACE),
-            ("a.records", b"0 v:00000002 - 0 0\nstatus 0"),
-        ],
-        "s/a.records differs, line 2: expected \"status 0\", found \"status 0\\n\"\n",
-    ),
-    // what has become of the image
-    (
-        A,
-        &[
-            ("a.trace", TRACE),
-            ("a.records", RECORDS),
-            ("a.after", b"flushes 1\n"),
-        ],
-        "s/a.after differs, line 1: expected \"flushes 1\\n\", found \"flushes 0\\n\"\n",
-    ),
-    (
-        A,
-        &[
-            ("a.trace", TRACE),
-            ("a.records", RECORDS),
-            ("a.after", b"flushes 0\nsector 1 00\n"),
-        ],
-        "s/a.after differs, line 2: expected \"sector 1 00\\n\", found no line\n",
-    ),
-    // images of no whole byte, of no whole sector, and of other letters
-    (
-        A,
-        &[
-            ("a.trace", TRACE),
-            ("a.records", RECORDS),
-            ("a.before", b"1\n"),
-        ],
-        "s/a.before isn't in its form\n",
-    ),
-    (
-        A,
-        &[
-            ("a.trace", TRACE),
-            ("a.records", RECORDS),
-            ("a.before", b"10\n"),
-        ],
-        "s/a.before isn't in its form\n",
-    ),
-    (
-        A,
-        &[
-            ("a.trace", TRACE),
-            ("a.records", RECORDS),
-            ("a.before", b"zz\n"),
-        ],
-        "s/a.before isn't in its form\n",
-    ),
-    // two calls in a line
-    (
-        A,
-        &[
-            ("a.trace", TRACE),
-            ("a.records", RECORDS),
-            ("a.fails", b"0 12\n"),
-        ],
-        "s/a.fails isn't in its form\n",
-    ),
+    // a flush that wasn't, and a sector that didn't change
+    ("s/flush.trace", TRACE),
+    ("s/flush.records", RECORDS),
+    ("s/flush.after", b"flushes 1\n"),
+    ("s/sector.trace", TRACE),
+    ("s/sector.records", RECORDS),
+    ("s/sector.after", b"flushes 0\nsector 1 00\n"),
+    // images of no whole byte and of no whole sector, and a list of calls that is none
+    ("s/half_a_byte.trace", TRACE),
+    ("s/half_a_byte.records", RECORDS),
+    ("s/half_a_byte.before", b"1\n"),
+    ("s/half_a_sector.trace", TRACE),
+    ("s/half_a_sector.records", RECORDS),
+    ("s/half_a_sector.before", b"10\n"),
+    ("s/two_calls_in_a_line.trace", TRACE),
+    ("s/two_calls_in_a_line.records", RECORDS),
+    ("s/two_calls_in_a_line.fails", b"0 12\n"),
+    // files of no scenario
+    ("s/prose.trace", TRACE),
+    ("notes", b""),
 ];
 
-/// Makes the case's folder at this path.
-fn make(rt: &(impl AllocGlobal + Files), path: &str, case: Case) -> io::Result<()> {
-    let (list, files, _) = case;
-    fs::create_dir_all(rt, &format!(in rt.alloc(); "{path}/s")?)?;
-    fs::write(rt, &format!(in rt.alloc(); "{path}/README.md")?, list)?;
-    for (name, bytes) in files {
-        let file = format!(in rt.alloc(); "{path}/s/{name}")?;
-        if name.ends_with('/') {
-            fs::create_dir(rt, &file)?;
-        } else {
-            fs::write(rt, &file, *bytes)?;
-        }
-    }
-    Ok(())
-}
+/// What is told of it.
+const TOLD: &str = "\
+s/good ok
+s/no_records.records is missing
+s/no_trace.trace is missing
+s/folder.trace can't be read
+s/no_text.records can't be read
+s/good is named twice
+s/record.records differs, line 1: expected \"0 v:00000003 - 0 0\\n\", found \"0 v:00000002 - 0 0\\n\"
+s/status.records differs, line 2: expected \"status 1\\n\", found \"status 0\\n\"
+s/line_too_few.records differs, line 2: expected no line, found \"status 0\\n\"
+s/line_too_many.records differs, line 3: expected \"status 0\\n\", found no line
+s/line_without_end.records differs, line 2: expected \"status 0\", found \"status 0\\n\"
+s/flush.after differs, line 1: expected \"flushes 1\\n\", found \"flushes 0\\n\"
+s/sector.after differs, line 2: expected \"sector 1 00\\n\", found no line
+s/half_a_byte.before isn't in its form
+s/half_a_sector.before isn't in its form
+s/two_calls_in_a_line.fails isn't in its form
+notes belongs to no scenario
+s/prose.trace belongs to no scenario
+README.md can't be read
+";
 
-/// The case's folder is told so, and the answer is whether all is well.
-fn check(
-    rt: &(impl Abort + AllocGlobal + Clone + Drop + Env + Files),
-    case: Case,
-    is_well: bool,
-) -> Result<(), Fail> {
-    let path = format!(in rt.alloc(); "{}/folder", temp_dir(rt)?.display())?;
-    make(rt, path.as_str(), case)?;
+#[test]
+fn each_thing_that_is_wrong_is_one_line(rt: HostRuntime) -> Result<(), Fail> {
+    let folder = format!(in rt.alloc(); "{}/wrong", temp_dir(&rt)?.display())?;
+    fs::create_dir_all(&rt, &format!(in rt.alloc(); "{folder}/s/folder.trace")?)?;
+    for (file, bytes) in FILES {
+        fs::write(&rt, &format!(in rt.alloc(); "{folder}/{file}")?, bytes)?;
+    }
     let mut told = Vec::new(rt.alloc());
-    let answer = check_folder(rt, path.as_str(), &mut told)?;
+    assert!(rt; !check_folder(&rt, folder.as_str(), &mut told)?);
+    // a folder without its page
+    assert!(rt; !check_folder(&rt, "/nowhere", &mut told)?);
     let told = String::from_utf8_lossy(rt.alloc(), &told)?;
-    let (_, _, wanted) = case;
-    assert_eq!(rt; told.as_str(), wanted);
-    assert_eq!(rt; answer, is_well, "{wanted:?}");
-    Ok(fs::remove_dir_all(rt, &path)?)
-}
-
-#[test]
-fn folders_in_which_all_is_well_or_something_is_wrong(rt: HostRuntime) -> Result<(), Fail> {
-    for case in WELL {
-        check(&rt, case, true)?;
-    }
-    for case in WRONG {
-        check(&rt, case, false)?;
-    }
-    Ok(())
-}
-
-#[test]
-fn a_folder_without_its_page(rt: HostRuntime) -> Result<(), Fail> {
-    let mut told = Vec::new(rt.alloc());
-    let answer = check_folder(&rt, "nowhere", &mut told)?;
-    assert_eq!(rt; told.as_slice(), b"README.md can't be read\n".as_slice());
-    assert!(rt; !answer);
-    Ok(())
+    assert_eq!(rt; told.as_str(), TOLD);
+    Ok(fs::remove_dir_all(&rt, &folder)?)
 }
