@@ -1,172 +1,130 @@
-//! Scenarios: what guests do, event by event, each beside the record that it must give.
+//! A scenario as its files have it.
 
-use crate::replayed::{gives, gives_over};
-use sector_cache::ScriptedImage;
+use crate::finding::Finding;
 use std::alloc::{AllocError, Global};
-use std::process::Abort;
-use std::test::Fail;
+use std::fs;
+use std::io::ErrorKind;
+use std::rt::Files;
 
-/// A board of one guest with 64 KiB of memory, whose disk is the whole image.
-pub(crate) const ONE_GUEST: &str = "cache 8\nslot 80000000 10000 0 8 rw 50 19\n";
+/// The file of the trace.
+const TRACE: &str = "trace";
 
-/// A board of two guests with memories of equal addresses, each with one half of the image for its disk.
-pub(crate) const TWO_GUESTS: &str =
-    "cache 4\nslot 80000000 10000 0 4 rw 50 19\nslot 80000000 10000 4 4 rw 50 19\n";
+/// The file of what must stand on the output, with the status behind it.
+pub(crate) const RECORDS: &str = "records";
 
-/// Lines of a trace, beside the records that they must give. All are of one slot.
-#[derive(Drop)]
-struct Exchange {
-    events: String,
-    records: String,
-}
+/// The file of the image before, where it isn't the usual one.
+pub(crate) const BEFORE: &str = "before";
 
-/// A trace that grows event by event, each beside its record. Where there is no memory for one, it is marked
-/// as not whole, and no check of it passes.
+/// The file of the image's calls that fail.
+const FAILS: &str = "fails";
+
+/// The file of what has become of the image, where it was changed or flushed.
+pub(crate) const AFTER: &str = "after";
+
+/// The parts that a scenario may have.
+pub(crate) const PARTS: [&str; 5] = [TRACE, RECORDS, BEFORE, FAILS, AFTER];
+
+/// What stands for an image that is neither changed nor flushed.
+const LEFT_ALONE: &str = "flushes 0\n";
+
+/// A worked scenario.
 #[derive(Drop)]
 pub(crate) struct Scenario {
-    alloc: Global,
-    board: String,
-    exchanges: Vec<Exchange>,
-    is_whole: bool,
+    pub trace: Vec<u8>,
+    pub records: String,
+    pub before: Vec<u8>,
+    pub fails: Vec<u64>,
+    pub after: String,
 }
 
 impl Scenario {
-    /// No events yet, of the board that these lines describe.
-    pub(crate) fn new(alloc: Global, board: &str) -> Result<Scenario, AllocError> {
+    /// Reads the files whose names begin so.
+    pub(crate) fn read<R: Files + AllocGlobal>(rt: &R, path: &str) -> Result<Scenario, Finding> {
+        let trace = bytes_of(rt, path, TRACE)?.ok_or(Finding::Missing(TRACE))?;
+        let records = text_of(rt, path, RECORDS)?.ok_or(Finding::Missing(RECORDS))?;
+        let before = match text_of(rt, path, BEFORE)? {
+            Some(text) => image_of(rt.alloc(), text.as_str())?,
+            None => eight_sectors(rt.alloc())?,
+        };
+        let fails = match text_of(rt, path, FAILS)? {
+            Some(text) => calls_of(rt.alloc(), text.as_str())?,
+            None => Vec::new(rt.alloc()),
+        };
+        let after = match text_of(rt, path, AFTER)? {
+            Some(text) => text,
+            None => String::from_str(rt.alloc(), LEFT_ALONE)?,
+        };
         Ok(Scenario {
-            alloc,
-            board: String::from_str(alloc, board)?,
-            exchanges: Vec::new(alloc),
-            is_whole: true,
+            trace,
+            records,
+            before,
+            fails,
+            after,
         })
     }
+}
 
-    /// Where what it is made of lies.
-    pub(crate) fn alloc(&self) -> Global {
-        self.alloc
-    }
-
-    /// Adds events, each with its record.
-    pub(crate) fn then(&mut self, exchanges: &[(&str, &str)]) {
-        for (event, entry) in exchanges {
-            let event = format!(in self.alloc; "{event}\n");
-            let entry = format!(in self.alloc; "{entry}\n");
-            self.add(event, entry);
-        }
-    }
-
-    /// Adds an event that is done, while no interrupt stands.
-    pub(crate) fn done(&mut self, slot: u8, event: Result<String, AllocError>) {
-        let entry = format!(in self.alloc; "{slot:x} done - 0 0\n");
-        self.add(event, entry);
-    }
-
-    /// Adds a look at a slot's memory, which finds these bytes, each so many times over. `words` are the
-    /// interrupt words that stand meanwhile.
-    pub(crate) fn finds(&mut self, slot: u8, addr: u64, runs: &[(u8, u32)], words: &str) {
-        let mut total = 0u32;
-        for (_, times) in runs {
-            total = total.saturating_add(*times);
-        }
-        let event = format!(in self.alloc; "mr {slot:x} {addr:x} {total:x}\n");
-        let found = found(self.alloc, slot, runs, words);
-        self.add(event, found);
-    }
-
-    /// Adds lines and their records, which end in line ends.
-    pub(crate) fn add(
-        &mut self,
-        events: Result<String, AllocError>,
-        records: Result<String, AllocError>,
-    ) {
-        if self.push(events, records).is_err() {
-            self.is_whole = false;
-        }
-    }
-
-    /// Adds them, or says that there was no memory.
-    fn push(
-        &mut self,
-        events: Result<String, AllocError>,
-        records: Result<String, AllocError>,
-    ) -> Result<(), AllocError> {
-        let events = events?;
-        let records = records?;
-        self.exchanges.push(Exchange { events, records })?;
-        Ok(())
-    }
-
-    /// The exchanges of one slot, on another board.
-    pub(crate) fn alone(&self, slot: u8, board: &str) -> Result<Scenario, AllocError> {
-        let mut alone = Scenario::new(self.alloc, board)?;
-        alone.is_whole = self.is_whole;
-        let own = format!(in self.alloc; "{slot:x} ")?;
-        for exchange in &self.exchanges {
-            if exchange.records.as_str().starts_with(own.as_str()) {
-                alone.exchanges.push(Exchange {
-                    events: exchange.events.clone()?,
-                    records: exchange.records.clone()?,
-                })?;
-            }
-        }
-        Ok(alone)
-    }
-
-    /// The trace.
-    pub(crate) fn trace(&self) -> Result<String, AllocError> {
-        if !self.is_whole {
-            return Err(AllocError);
-        }
-        let mut trace = format!(in self.alloc; "vreplay 1\n{}", self.board)?;
-        for exchange in &self.exchanges {
-            trace.push_str(exchange.events.as_str())?;
-        }
-        Ok(trace)
-    }
-
-    /// The text of the records that it must give.
-    pub(crate) fn records(&self) -> Result<String, AllocError> {
-        let mut records = String::new(self.alloc);
-        for exchange in &self.exchanges {
-            records.push_str(exchange.records.as_str())?;
-        }
-        Ok(records)
-    }
-
-    /// Replays the trace over the image of eight sectors, and wants these records.
-    pub(crate) fn check(&self, rt: &(impl Abort + AllocGlobal)) -> Result<(), Fail> {
-        gives(rt, self.trace()?.as_str(), self.records()?.as_str(), 0)
-    }
-
-    /// The same over an image of whose calls these fail, which is handed back.
-    pub(crate) fn check_over(
-        &self,
-        rt: &(impl Abort + AllocGlobal),
-        failing: &[u64],
-    ) -> Result<ScriptedImage, Fail> {
-        gives_over(
-            rt,
-            failing,
-            self.trace()?.as_str(),
-            self.records()?.as_str(),
-        )
+// The bytes of a part, where its file is there.
+fn bytes_of<R: Files + AllocGlobal>(
+    rt: &R,
+    path: &str,
+    part: &'static str,
+) -> Result<Option<Vec<u8>>, Finding> {
+    let file = format!(in rt.alloc(); "{path}.{part}")?;
+    match fs::read(rt, &file) {
+        Ok(bytes) => Ok(Some(bytes)),
+        Err(e) => match e.kind() {
+            ErrorKind::NotFound => Ok(None),
+            ErrorKind::OutOfMemory => Err(Finding::NoMemory),
+            _ => Err(Finding::Unreadable(part)),
+        },
     }
 }
 
-/// The record of a look at memory that finds these bytes.
-fn found(alloc: Global, slot: u8, runs: &[(u8, u32)], words: &str) -> Result<String, AllocError> {
-    let mut text = format!(in alloc; "{slot:x} b:")?;
-    for (byte, times) in runs {
-        push_repeated(&mut text, *byte, *times)?;
+// The same of a part that is a text.
+fn text_of<R: Files + AllocGlobal>(
+    rt: &R,
+    path: &str,
+    part: &'static str,
+) -> Result<Option<String>, Finding> {
+    match bytes_of(rt, path, part)? {
+        Some(bytes) => match String::from_utf8(bytes) {
+            Ok(text) => Ok(Some(text)),
+            Err(_) => Err(Finding::Unreadable(part)),
+        },
+        None => Ok(None),
     }
-    writeln!(text, " - {words}")?;
-    Ok(text)
 }
 
-/// Appends a byte in two digits, so many times.
-pub(crate) fn push_repeated(text: &mut String, byte: u8, times: u32) -> Result<(), AllocError> {
-    for _ in 0..times {
-        write!(text, "{byte:02x}")?;
+// The bytes of the usual image: eight sectors, in which each byte of sector k is 0x10 + k.
+fn eight_sectors(alloc: Global) -> Result<Vec<u8>, AllocError> {
+    let mut bytes = Vec::new(alloc);
+    for sector in 0..8u8 {
+        bytes.extend_from_slice(&[0x10 + sector; 512])?;
     }
-    Ok(())
+    Ok(bytes)
+}
+
+// The bytes of an image that is written as hexadecimal digits.
+fn image_of(alloc: Global, text: &str) -> Result<Vec<u8>, Finding> {
+    let mut bytes = Vec::new(alloc);
+    for line in text.lines() {
+        let Ok(sector) = hex::decode(alloc, line) else {
+            return Err(Finding::Malformed(BEFORE));
+        };
+        bytes.extend_from_slice(&sector)?;
+    }
+    Ok(bytes)
+}
+
+// The numbers of calls, one a line.
+fn calls_of(alloc: Global, text: &str) -> Result<Vec<u64>, Finding> {
+    let mut calls = Vec::new(alloc);
+    for line in text.lines() {
+        let Ok(call) = line.parse::<u64>() else {
+            return Err(Finding::Malformed(FAILS));
+        };
+        calls.push(call)?;
+    }
+    Ok(calls)
 }
