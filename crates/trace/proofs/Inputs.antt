@@ -1,5 +1,5 @@
 -- What is known of the input, once it was read.
-use Rattle.std.proofs.Common.{◌≡◌, ◌≢◌, ℕ, List, Option, Some, None, IfSome, subst, ◌∙◌}
+use Rattle.std.proofs.Common.{◌≡◌, ◌≢◌, ℕ, ◌≤◌, List, Option, Some, None, IfSome, subst, ◌∙◌}
 use Rattle.trace.specs.declared.fault.FaultKind.TheVariants as kind
 use Rattle.trace.specs.declared.fault.TraceFault.{TraceFault}
 use Rattle.trace.specs.Faults.{IsCleanBefore, IsFault}
@@ -11,7 +11,7 @@ use Rattle.trace.specs.Text.{Content, text}
 pub refused_input : {A : Type 0} (told : Option (List ℕ)) (gathered bytes : List ℕ) (fault : TraceFault) → IfSome told (λ xs. gathered ≡ xs) → bytes ≡ gathered →
     (fault.kind ≢ kind.NoMemory → IsFault bytes fault.line fault.kind) →
     (fault.kind ≢ kind.NoMemory → (other : Content A) → InRange other → IsPrintable other → bytes ≢ text other) →
-    IsCleanBefore bytes fault.line → IfSome told (λ xs. IsTraceFault A xs fault)
-refused_input {A} None gathered bytes fault whole same named none clean = tt
-refused_input {A} (Some xs) gathered bytes fault whole same named none clean =
-    subst (λ (input : List ℕ). IsTraceFault A input fault) (same ∙ whole) (record { named = named; none = none; clean = clean })
+    1 ≤ fault.line → IsCleanBefore bytes fault.line → IfSome told (λ xs. IsTraceFault A xs fault)
+refused_input {A} None gathered bytes fault whole same named none numbered clean = tt
+refused_input {A} (Some xs) gathered bytes fault whole same named none numbered clean =
+    subst (λ (input : List ℕ). IsTraceFault A input fault) (same ∙ whole) (record { named = named; none = none; numbered = numbered; clean = clean })

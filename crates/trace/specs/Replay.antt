@@ -1,6 +1,6 @@
 -- What a replay comes to: the trace that it read, the run on that trace's board, and what it wrote.
-use Rattle.std.specs.Prelude.{◌≡◌, ◌≢◌, ℕ, ◌<◌, ⊤, List, [], ◌∷◌, length, map, take, Option, IfSome, Result, Ok, Err}
-use Rattle.std.specs.Io.KnownBytes.{Appends, Keeps}
+use Rattle.std.specs.Prelude.{◌≡◌, ◌≢◌, ℕ, ◌<◌, ◌≤◌, ⊤, List, [], ◌∷◌, length, map, take, Option, IfSome, Result, Ok, Err}
+use Rattle.std.specs.Io.KnownBytes.{Appends, IsAtEnd, Keeps}
 use Rattle.sector_cache.specs.Disk.{Disk}
 use Rattle.board.specs.declared.event.Event.{Event}
 use Rattle.board.specs.declared.fault.BoardFault.{BoardFault}
@@ -34,6 +34,7 @@ pub record IsTraceOf {A : Type 0} (input : List ℕ) (trace : Content A) : Type 
 pub record IsTraceFault (A : Type 0) (input : List ℕ) (fault : TraceFault) : Type 0 where
   pub named : fault.kind ≢ kind.NoMemory → IsFault input fault.line fault.kind
   pub none : fault.kind ≢ kind.NoMemory → (other : Content A) → InRange other → IsPrintable other → input ≢ text other
+  pub numbered : 1 ≤ fault.line
   pub clean : IsCleanBefore input fault.line
 
 -- A run over these events on a new board of these slots, which found the image so and left it so. A
@@ -102,6 +103,13 @@ Replays A disk input old new before after (Err Read) = IsUntouched old new befor
 Replays A disk input old new before after (Err (Trace fault)) = RefusesTrace A input old new before after fault
 Replays A disk input old new before after (Err (Board fault)) = RefusesBoard A disk input old new before after fault
 Replays A disk input old new before after (Err fault) = Plays A disk input old new before after (Err fault)
+
+-- what is left of the input: nothing, but where the reader failed or there was no memory to gather it
+abbrev pub EndsReading : {T : Type 0} → Result T ReplayFault → Option (List ℕ) → Type 0
+EndsReading (Ok _) left = IsAtEnd left
+EndsReading (Err Read) left = ⊤
+EndsReading (Err (Trace fault)) left = fault.kind ≢ kind.NoMemory → IsAtEnd left
+EndsReading (Err _) left = IsAtEnd left
 
 -- why the input gave no trace: it couldn't be read, or it was refused
 abbrev pub RefusesInput : Type 0 → Option (List ℕ) → ReplayFault → Type 0

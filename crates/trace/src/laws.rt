@@ -1,4 +1,4 @@
-//! Two laws of the format, by which a text has one meaning or one fault.
+//! Laws of the format, by which a text has one meaning or one fault, and not both.
 
 ghost use Rattle.std.specs.Prelude.{◌≡◌, ℕ, List};
 ghost use Rattle.trace.specs.declared.fault.FaultKind.{FaultKind};
@@ -16,4 +16,9 @@ pub fn one_trace<A: Allocator>()
 /// A text has one fault.
 pub fn one_fault()
     ensures { (text : List ℕ) (k l : ℕ) (c d : FaultKind) → IsFault text k c → IsFault text l d → (k ≡ l) × (c ≡ d) }
+{}
+
+/// The text of a trace has no fault.
+pub fn a_trace_has_no_fault<A: Allocator>()
+    ensures { (t : Content A) (line : ℕ) (fault : FaultKind) → InRange t → IsPrintable t → ¬ IsFault (text t) line fault }
 {}

@@ -3,10 +3,11 @@
 //! A trace says which board there is and what its guests do. It is ASCII text of lines, and each trace has
 //! one text. `read` has the way from a text to its trace: `cut` takes lines and fields off, `word` says
 //! what a line is, `entry` and `fields` read one line, and `number`, `choice`, `value` and `bytes` one
-//! field. `print` has the way back, with `push` for one field. `fault` has what is answered for a text that
-//! is no trace's, and `laws` says that a text has one meaning or one fault. `records` writes the records of a
-//! run, `run` replays a trace from its text to that of its records, and `last_line` tells how a program ends
-//! after it.
+//! field. `print` has the way back, with `push` for one field and `range` for the bounds of its numbers, and
+//! `round_trip` goes both ways. `fault` has what is answered for a text that is no trace's, and `laws` says that
+//! a text has one meaning or one fault. `records` writes the records of a run, `input` gathers what a reader
+//! gives and `write` writes whole texts, `run` replays a trace from its text to that of its records, and
+//! `last_line` tells how a program ends after it.
 #![tactic(auto)]
 
 mod bytes;
@@ -16,15 +17,18 @@ mod digit;
 mod entry;
 mod fault;
 mod fields;
+mod input;
 mod last_line;
 mod laws;
 mod no_memory;
 mod number;
 mod print;
 mod push;
+mod range;
 mod read;
 mod records;
 mod replay_fault;
+mod round_trip;
 mod run;
 mod trace;
 mod value;
@@ -32,15 +36,18 @@ mod word;
 mod write;
 
 pub use fault::{FaultKind, TraceFault};
+pub use input::gather;
 pub use last_line::finish;
-pub use laws::{one_fault, one_trace};
+pub use laws::{a_trace_has_no_fault, one_fault, one_trace};
 pub use no_memory::NoMemory;
 pub use print::{is_printable, print_trace};
 pub use read::read_trace;
 pub use records::print_records;
 pub use replay_fault::ReplayFault;
+pub use round_trip::read_back;
 pub use run::replay;
 pub use trace::Trace;
+pub use write::write_whole;
 
 #[cfg(test)]
 mod tests;

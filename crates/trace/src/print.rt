@@ -1,13 +1,14 @@
 //! Writing a whole trace.
 
 ghost use Rattle.std.specs.Prelude.{◌≡◌, ◌*◌, ◌^◌, ◌<◌, ◌↔◌, ◌++◌, ◌∷◌, [], All, IsTrue, IfOk, OnOk, map};
-ghost use Rattle.trace.specs.Printable.{IsAccess, IsPrintable, IsPrintableKind, IsWriteAccess};
+ghost use Rattle.trace.specs.Printable.{InRange, IsAccess, IsPrintable, IsPrintableKind, IsWriteAccess};
 ghost use Rattle.trace.specs.Spelling.{fixed, mode, num, width_digit, window as window_name};
 ghost use Rattle.trace.specs.Text.{content, text as text_of, ended, event_line, front_text, joined, line, mem_read_fields, mem_write_fields, read_fields, slot_line, write_fields};
 ghost use Rattle.trace.specs.Words.{IsWidth};
 
 use crate::no_memory::NoMemory;
 use crate::push::{push_bytes, push_fixed, push_num};
+use crate::range::in_range;
 use crate::trace::Trace;
 use board::{DeviceKind, Event, EventKind, SlotSpec};
 use std::alloc::{AllocError, Allocator};
@@ -56,11 +57,14 @@ fn is_within(value: u32, width: u8) -> bool
     }
 }
 
-/// The text of a trace. `is_printable` is the test.
+/// The text of a trace. `is_printable` is the test. Its numbers are those of their types, so that
+/// `read_trace` reads the text back.
 pub fn print_trace<A: Allocator>(alloc: A, trace: &Trace<A>) -> Result<Vec<u8, A>, NoMemory>
     requires { IsPrintable (content trace.now) }
-    ensures { IfOk result (λ text. text.items ≡ text_of (content trace.now)) }
+    ensures text { IfOk result (λ text. text.items ≡ text_of (content trace.now)) }
+    ensures range { InRange (content trace.now) }
 {
+    in_range(trace);
     let mut out = Vec::new(alloc);
     push_front(&mut out, trace.cache)?;
     push_slots(&mut out, &trace.slots)?;

@@ -1,6 +1,6 @@
 //! Reading a whole trace.
 
-ghost use Rattle.std.specs.Prelude.{◌≡◌, ◌≢◌, ◌++◌, ◌∷◌, ◌↔◌, IsTrue, IfOk, IfErr, OnOk};
+ghost use Rattle.std.specs.Prelude.{◌≡◌, ◌≢◌, ◌≤◌, ◌++◌, ◌∷◌, ◌↔◌, IsTrue, IfOk, IfErr, OnOk};
 ghost use Rattle.trace.specs.Faults.{IsFault, IsCleanBefore};
 ghost use Rattle.trace.specs.Text.{Content, content, text as text_of, header};
 ghost use Rattle.trace.specs.Printable.{InRange, IsPrintable};
@@ -72,6 +72,7 @@ pub fn read_trace<A: Allocator + Copy>(alloc: A, text: &[u8]) -> Result<Trace<A>
         (λ e. e.kind ≢ FaultKind.NoMemory → (u : Content A) → InRange u → IsPrintable u → text.now ≢ text_of u) }
 
     // No line before it has a fault, also where memory was wanting.
+    ensures numbered { IfErr result (λ e. 1 ≤ e.line) }
     ensures clean { IfErr result (λ e. IsCleanBefore text.now e.line) }
 {
     read(alloc, text)
@@ -83,6 +84,7 @@ fn read<A: Allocator + Copy>(alloc: A, text: &[u8]) -> Result<Trace<A>, TraceFau
     ensures printable { IfOk result (λ t. IsPrintable (content t)) }
     ensures range { IfOk result (λ t. InRange (content t)) }
     ensures fault { IfErr result (λ e. e.kind ≢ FaultKind.NoMemory → IsFault text.now e.line e.kind) }
+    ensures numbered { IfErr result (λ e. 1 ≤ e.line) }
     ensures clean { IfErr result (λ e. IsCleanBefore text.now e.line) }
 {
     let rest = match after_header(text) {

@@ -2,38 +2,28 @@
 
 use crate::fault::TraceFault;
 use board::BoardFault;
-use std::error::Error;
-use std::fmt;
+use thiserror::Error;
 
 /// Why a replay did not come to its end.
-#[derive(Clone, Copy, Debug, PartialEq, Eq)]
+#[derive(Clone, Copy, Debug, PartialEq, Eq, Error)]
 pub enum ReplayFault {
     /// The reader failed. Nothing was written.
+    #[error("the trace can't be read")]
     Read,
     /// The input is no trace, or there was no memory for it. Nothing was written.
+    #[error("the trace: {0}")]
     Trace(TraceFault),
     /// The trace's board can't be made. Nothing was written.
+    #[error("the board: {0}")]
     Board(BoardFault),
     /// There was no memory for the record of the next event: so many events are done, and the text of
     /// their records was written.
+    #[error("no memory after {0} events")]
     Run(usize),
     /// The writer failed.
+    #[error("the records can't be written")]
     Write,
     /// There was no memory for the text of the records. Nothing was written.
+    #[error("no memory for the records' text")]
     NoMemory,
 }
-
-impl fmt::Display for ReplayFault {
-    fn fmt<W: fmt::Write>(&self, f: &mut fmt::Formatter<W>) -> fmt::Result {
-        match self {
-            ReplayFault::Read => write!(f, "the trace can't be read"),
-            ReplayFault::Trace(fault) => write!(f, "the trace: {fault}"),
-            ReplayFault::Board(fault) => write!(f, "the board: {fault}"),
-            ReplayFault::Run(done) => write!(f, "no memory after {done} events"),
-            ReplayFault::Write => write!(f, "the records can't be written"),
-            ReplayFault::NoMemory => write!(f, "no memory for the records' text"),
-        }
-    }
-}
-
-impl Error for ReplayFault {}

@@ -1,14 +1,15 @@
 //! Replaying a trace: from its text to the text of its records.
 
-ghost use Rattle.std.specs.Prelude.{◌≡◌, ◌⊎◌, All, IfOk, IfErr, IfSome, OnOk, map};
-ghost use Rattle.std.specs.Io.KnownBytes.{Appends, IsAtEnd};
+ghost use Rattle.std.specs.Prelude.{◌≡◌, All, IfOk, IfErr, IfSome, OnOk, map};
+ghost use Rattle.std.specs.Io.KnownBytes.{Appends};
 ghost use Rattle.board.specs.Line.{HasInterruptWords};
 ghost use Rattle.board.specs.Slot.{opened};
 ghost use Rattle.trace.specs.Records.{records_text};
-ghost use Rattle.trace.specs.Replay.{AfterRun, IsTraceOf, RefusesInput, Replays, Unwritten};
+ghost use Rattle.trace.specs.Replay.{AfterRun, EndsReading, IsTraceOf, RefusesInput, Replays, Unwritten};
 ghost use Rattle.trace.specs.Text.{content};
 
 use crate::fault::{FaultKind, TraceFault};
+use crate::input::gather;
 use crate::read::read_trace;
 use crate::records::print_records;
 use crate::replay_fault::ReplayFault;
@@ -17,10 +18,7 @@ use crate::write::write_whole;
 use board::{Board, Record, RunStop};
 use sector_cache::{Image, Refused};
 use std::alloc::Allocator;
-use std::io::{ErrorKind, Read, Write};
-
-/// How many bytes are read at a time.
-const CHUNK: usize = 16384;
+use std::io::{Read, Write};
 
 /// The fault where there is no memory for the input.
 const NO_ROOM: TraceFault = TraceFault {
@@ -37,7 +35,7 @@ pub fn replay<R: Read, W: Write, I: Image, A: Allocator + Copy>(
     image: I,
 ) -> (I, Result<(), ReplayFault>)
     ensures comes_to { Replays A I.disk (R.remaining reader.old) (W.contents writer.old) (W.contents writer.new) image result.0 result.1 }
-    ensures end { OnOk result.1 (IsAtEnd (R.remaining reader.new)) }
+    ensures end { EndsReading result.1 (R.remaining reader.new) }
 {
     let trace = match read_input(alloc, reader) {
         Ok(trace) => trace,
@@ -55,41 +53,18 @@ fn read_input<R: Read, A: Allocator + Copy>(
     reader: &mut R,
 ) -> Result<Trace<A>, ReplayFault>
     ensures read { IfOk result (λ trace. IfSome (R.remaining reader.old) (λ bytes. IsTraceOf bytes (content trace))) }
-    ensures end { OnOk result (IsAtEnd (R.remaining reader.new)) }
+    ensures end { EndsReading result (R.remaining reader.new) }
     ensures err { IfErr result (RefusesInput A (R.remaining reader.old)) }
 {
-    let input = gather(alloc, reader)?;
+    let input = match gather(alloc, reader) {
+        Ok(input) => input,
+        Err(ReplayFault::NoMemory) => return Err(ReplayFault::Trace(NO_ROOM)),
+        Err(_) => return Err(ReplayFault::Read),
+    };
     match read_trace(alloc, &input) {
         Ok(trace) => Ok(trace),
         Err(fault) => Err(ReplayFault::Trace(fault)),
     }
-}
-
-// Gathers what is left of the reader. Unlike `read_to_end` it tells want of memory from a reader that
-// fails.
-fn gather<R: Read, A: Allocator>(alloc: A, reader: &mut R) -> Result<Vec<u8, A>, ReplayFault>
-    ensures all { IfOk result (λ input. IfSome (R.remaining reader.old) (λ bytes. input.items ≡ bytes)) }
-    ensures end { OnOk result (IsAtEnd (R.remaining reader.new)) }
-    ensures err { IfErr result (λ fault. (fault ≡ ReplayFault.Read) ⊎ (fault ≡ ReplayFault.Trace NO_ROOM)) }
-{
-    let mut input = Vec::new(alloc);
-    let mut chunk = [0; CHUNK];
-    for _ in 0..u64::MAX {
-        match reader.read(&mut chunk) {
-            Ok(0) => return Ok(input),
-            Ok(n) => {
-                let Ok(()) = input.extend_from_slice(&chunk[..n]) else {
-                    return Err(ReplayFault::Trace(NO_ROOM));
-                };
-            }
-            Err(e) => {
-                if e.kind() != ErrorKind::Interrupted {
-                    return Err(ReplayFault::Read);
-                }
-            }
-        }
-    }
-    Err(ReplayFault::Read)
 }
 
 // Runs the trace's events on its board, which is new, and writes the text of their records.

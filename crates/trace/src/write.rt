@@ -9,7 +9,7 @@ use std::io::{ErrorKind, Write};
 
 /// Writes the bytes, in few calls, and answers whether all of them went out. Where they did not, the
 /// first of them did.
-pub(crate) fn write_whole<W: Write>(out: &mut W, bytes: &[u8]) -> bool
+pub fn write_whole<W: Write>(out: &mut W, bytes: &[u8]) -> bool
     ensures whole { OnTrue result (Appends (W.contents out.old) (W.contents out.new) bytes.now) }
     ensures front { AppendsFront (W.contents out.old) (W.contents out.new) bytes.now }
 {

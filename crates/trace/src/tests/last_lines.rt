@@ -1,106 +1,103 @@
 //! The last line and the status for each outcome, and what goes out where the writer fails.
 
 use super::replayed::SmallWriter;
-use super::text_fault;
-use crate::{FaultKind, ReplayFault, finish};
+use crate::{FaultKind, ReplayFault, TraceFault, finish};
 use board::{BoardFault, CacheFault, MemoryFault};
 use std::process::Abort;
 use std::test::Fail;
 
-/// The outcome ends a program with this line and this status, or with a front of the line and status 3.
+/// The outcome ends a program with this line and this status, or with a front of the line and status 3
+/// where the writer has no room for all of it.
 fn expect_end(
     rt: &(impl Abort + AllocGlobal),
     outcome: Result<(), ReplayFault>,
     line: &[u8],
     status: u8,
-) -> Result<(), Fail> {
-    let mut written = Vec::new(rt.alloc());
-    assert_eq!(rt; finish(&outcome, &mut written), status);
-    assert_eq!(rt; written.as_slice(), line);
-    for room in 0..line.len() {
-        let mut writer = SmallWriter {
-            held: Vec::new(rt.alloc()),
-            room,
-            is_ready: true,
-        };
-        assert_eq!(rt;
-            finish(&outcome, &mut writer),
-            3,
-            "with room for {room} bytes"
-        );
+) {
+    for room in 0..=line.len() {
+        let mut writer = SmallWriter::new(rt.alloc(), room);
+        let wanted = if room < line.len() { 3 } else { status };
+        assert_eq!(rt; finish(&outcome, &mut writer), wanted, "in {room} bytes");
         assert_eq!(rt; writer.held.as_slice(), &line[..room]);
     }
-    Ok(())
 }
 
-fn expect_trace_end(
-    rt: &(impl Abort + AllocGlobal),
-    number: u64,
-    kind: FaultKind,
-    line: &[u8],
-) -> Result<(), Fail> {
-    expect_end(rt, Err(text_fault(number, kind)), line, 1)
-}
+/// Faults of a trace, each with its last line.
+const TRACES: [(u64, FaultKind, &[u8]); 8] = [
+    (1, FaultKind::Cut, b"fault trace 1 Cut\n"),
+    (1, FaultKind::Header, b"fault trace 1 Header\n"),
+    (2, FaultKind::Word, b"fault trace 2 Word\n"),
+    (10, FaultKind::Order, b"fault trace 10 Order\n"),
+    (11, FaultKind::Fields, b"fault trace 11 Fields\n"),
+    (100, FaultKind::Number, b"fault trace 100 Number\n"),
+    (4, FaultKind::Choice, b"fault trace 4 Choice\n"),
+    (
+        u64::MAX,
+        FaultKind::Bytes,
+        b"fault trace 18446744073709551615 Bytes\n",
+    ),
+];
 
-fn expect_board_end(
-    rt: &(impl Abort + AllocGlobal),
-    fault: BoardFault,
-    line: &[u8],
-) -> Result<(), Fail> {
-    expect_end(rt, Err(ReplayFault::Board(fault)), line, 1)
-}
+/// Faults of a board, each with its last line.
+const BOARDS: [(BoardFault, &[u8]); 7] = [
+    (BoardFault::NoSlots, b"fault board NoSlots\n"),
+    (BoardFault::TooManySlots, b"fault board TooManySlots\n"),
+    (
+        BoardFault::Memory(MemoryFault::BadSize),
+        b"fault board BadSize\n",
+    ),
+    (
+        BoardFault::Memory(MemoryFault::BadBase),
+        b"fault board BadBase\n",
+    ),
+    (BoardFault::ExtentOutside, b"fault board ExtentOutside\n"),
+    (BoardFault::ExtentsOverlap, b"fault board ExtentsOverlap\n"),
+    (
+        BoardFault::Cache(CacheFault::BadCapacity),
+        b"fault board BadCapacity\n",
+    ),
+];
 
-#[test]
-fn refused_traces(rt: HostRuntime) -> Result<(), Fail> {
-    expect_trace_end(&rt, 1, FaultKind::Cut, b"fault trace 1 Cut\n")?;
-    expect_trace_end(&rt, 1, FaultKind::Header, b"fault trace 1 Header\n")?;
-    expect_trace_end(&rt, 2, FaultKind::Word, b"fault trace 2 Word\n")?;
-    expect_trace_end(&rt, 10, FaultKind::Order, b"fault trace 10 Order\n")?;
-    expect_trace_end(&rt, 11, FaultKind::Fields, b"fault trace 11 Fields\n")?;
-    expect_trace_end(&rt, 100, FaultKind::Number, b"fault trace 100 Number\n")?;
-    expect_trace_end(&rt, 4, FaultKind::Choice, b"fault trace 4 Choice\n")?;
-    let most = b"fault trace 18446744073709551615 Bytes\n";
-    expect_trace_end(&rt, u64::MAX, FaultKind::Bytes, most)
-}
-
-#[test]
-fn refused_boards(rt: HostRuntime) -> Result<(), Fail> {
-    expect_board_end(&rt, BoardFault::NoSlots, b"fault board NoSlots\n")?;
-    expect_board_end(&rt, BoardFault::TooManySlots, b"fault board TooManySlots\n")?;
-    let size = BoardFault::Memory(MemoryFault::BadSize);
-    expect_board_end(&rt, size, b"fault board BadSize\n")?;
-    let base = BoardFault::Memory(MemoryFault::BadBase);
-    expect_board_end(&rt, base, b"fault board BadBase\n")?;
-    expect_board_end(
-        &rt,
-        BoardFault::ExtentOutside,
-        b"fault board ExtentOutside\n",
-    )?;
-    expect_board_end(
-        &rt,
-        BoardFault::ExtentsOverlap,
-        b"fault board ExtentsOverlap\n",
-    )?;
-    let capacity = BoardFault::Cache(CacheFault::BadCapacity);
-    expect_board_end(&rt, capacity, b"fault board BadCapacity\n")
-}
-
-#[test]
-fn other_ends(rt: HostRuntime) -> Result<(), Fail> {
-    expect_end(&rt, Ok(()), b"", 0)?;
-    expect_end(&rt, Err(ReplayFault::Read), b"fault input\n", 3)?;
-    expect_end(&rt, Err(ReplayFault::Write), b"fault output\n", 3)?;
-    let wanting = [
-        text_fault(1, FaultKind::NoMemory),
-        ReplayFault::Board(BoardFault::NoMemory),
+/// Outcomes in which memory, the input or the output failed, each with its last line.
+const FAILURES: [(ReplayFault, &[u8]); 9] = [
+    (ReplayFault::Read, b"fault input\n"),
+    (ReplayFault::Write, b"fault output\n"),
+    (
+        ReplayFault::Trace(TraceFault {
+            line: 1,
+            kind: FaultKind::NoMemory,
+        }),
+        b"fault memory\n",
+    ),
+    (ReplayFault::Board(BoardFault::NoMemory), b"fault memory\n"),
+    (
         ReplayFault::Board(BoardFault::Memory(MemoryFault::NoMemory)),
+        b"fault memory\n",
+    ),
+    (
         ReplayFault::Board(BoardFault::Cache(CacheFault::NoMemory)),
-        ReplayFault::Run(0),
-        ReplayFault::Run(7),
-        ReplayFault::NoMemory,
-    ];
-    for fault in wanting {
-        expect_end(&rt, Err(fault), b"fault memory\n", 3)?;
+        b"fault memory\n",
+    ),
+    (ReplayFault::Run(0), b"fault memory\n"),
+    (ReplayFault::Run(7), b"fault memory\n"),
+    (ReplayFault::NoMemory, b"fault memory\n"),
+];
+
+#[test]
+fn each_end_has_its_line_and_its_status(rt: HostRuntime) {
+    expect_end(&rt, Ok(()), b"", 0);
+    for (line, kind, last) in TRACES {
+        expect_end(
+            &rt,
+            Err(ReplayFault::Trace(TraceFault { line, kind })),
+            last,
+            1,
+        );
     }
-    Ok(())
+    for (fault, last) in BOARDS {
+        expect_end(&rt, Err(ReplayFault::Board(fault)), last, 1);
+    }
+    for (fault, last) in FAILURES {
+        expect_end(&rt, Err(fault), last, 3);
+    }
 }

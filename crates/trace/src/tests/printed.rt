@@ -2,44 +2,77 @@
 
 use crate::print_records;
 use board::{Bytes, Record, Reply};
+use std::alloc::{AllocError, Global};
+use std::process::Abort;
 use std::test::Fail;
+
+/// A reply as a plain value.
+#[derive(Clone, Copy)]
+enum Answer<'a> {
+    Value(u32),
+    Done,
+    Bytes(&'a [u8]),
+    BadSlot,
+    BadRange,
+    NoMemory,
+}
+
+/// A record as a plain value: slot, reply, console output, and both interrupt words.
+type Row<'a> = (u8, Answer<'a>, &'a [u8], u8, u8);
+
+fn reply_of(alloc: Global, answer: Answer<'_>) -> Result<Reply, AllocError> {
+    match answer {
+        Answer::Value(value) => Ok(Reply::Value(value)),
+        Answer::Done => Ok(Reply::Done),
+        Answer::Bytes(bytes) => Ok(Reply::Bytes(bytes.to_vec(alloc)?.into())),
+        Answer::BadSlot => Ok(Reply::BadSlot),
+        Answer::BadRange => Ok(Reply::BadRange),
+        Answer::NoMemory => Ok(Reply::NoMemory),
+    }
+}
+
+/// The line of a record.
+fn line_of(rt: &(impl Abort + AllocGlobal), row: Row<'_>) -> Result<Vec<u8>, Fail> {
+    let (slot, answer, output, block_irq, console_irq) = row;
+    let reply = reply_of(rt.alloc(), answer)?;
+    let output = Bytes::from(output.to_vec(rt.alloc())?);
+    assert!(rt; block_irq <= 3);
+    assert!(rt; console_irq <= 3);
+    let record = Record {
+        slot,
+        reply,
+        output,
+        block_irq,
+        console_irq,
+    };
+    Ok(print_records(rt.alloc(), &[record])?)
+}
+
+/// Records of each reply, each with its line.
+const ROWS: [(Row<'static>, &[u8]); 7] = [
+    (
+        (0, Answer::Bytes(&[0, 0, 1, 2, 0]), b"", 1, 0),
+        b"0 b:0000010200 - 1 0\n",
+    ),
+    (
+        (16, Answer::Value(0x1e_0064), b"", 0, 2),
+        b"10 v:001e0064 - 0 2\n",
+    ),
+    (
+        (255, Answer::NoMemory, b"A\x0f", 3, 1),
+        b"ff nomem 410f 3 1\n",
+    ),
+    ((5, Answer::Bytes(b""), b"\xf0", 2, 3), b"5 b:- f0 2 3\n"),
+    ((0, Answer::Done, b"", 0, 0), b"0 done - 0 0\n"),
+    ((17, Answer::BadSlot, b"", 0, 0), b"11 badslot - 0 0\n"),
+    ((1, Answer::BadRange, b"", 0, 1), b"1 badrange - 0 1\n"),
+];
 
 #[test]
 fn lines_of_records(rt: HostRuntime) -> Result<(), Fail> {
-    let records = [
-        Record {
-            slot: 0,
-            reply: Reply::Bytes(Bytes::from([0, 0, 1, 2, 0].to_vec(rt.alloc())?)),
-            output: Bytes::new(rt.alloc()),
-            block_irq: 1,
-            console_irq: 0,
-        },
-        Record {
-            slot: 16,
-            reply: Reply::Value(0x1e_0064),
-            output: Bytes::new(rt.alloc()),
-            block_irq: 0,
-            console_irq: 2,
-        },
-        Record {
-            slot: 255,
-            reply: Reply::NoMemory,
-            output: Bytes::from(b"A\x0f".to_vec(rt.alloc())?),
-            block_irq: 3,
-            console_irq: 1,
-        },
-        Record {
-            slot: 5,
-            reply: Reply::Bytes(Bytes::new(rt.alloc())),
-            output: Bytes::from(b"\xf0".to_vec(rt.alloc())?),
-            block_irq: 2,
-            console_irq: 3,
-        },
-    ];
-    let text = print_records(rt.alloc(), &records)?;
-    let lines: &[u8] =
-        b"0 b:0000010200 - 1 0\n10 v:001e0064 - 0 2\nff nomem 410f 3 1\n5 b:- f0 2 3\n";
-    assert_eq!(rt; text.as_slice(), lines);
+    for (row, line) in ROWS {
+        assert_eq!(rt; line_of(&rt, row)?.as_slice(), line);
+    }
     Ok(())
 }
 
@@ -49,20 +82,13 @@ fn long_outputs(rt: HostRuntime) -> Result<(), Fail> {
     for len in [1, 31, 32, 33, 63, 64, 65, 1000] {
         let mut output = vec![in rt.alloc(); 0x4f; len]?;
         output.push(0xe1)?;
-        let records = [Record {
-            slot: 0,
-            reply: Reply::Done,
-            output: Bytes::from(output),
-            block_irq: 0,
-            console_irq: 0,
-        }];
-        let mut expected = b"0 done ".to_vec(rt.alloc())?;
+        let text = line_of(&rt, (0, Answer::Done, &output, 0, 0))?;
+        let mut line = b"0 done ".to_vec(rt.alloc())?;
         for _ in 0..len {
-            expected.extend_from_slice(b"4f")?;
+            line.extend_from_slice(b"4f")?;
         }
-        expected.extend_from_slice(b"e1 0 0\n")?;
-        let text = print_records(rt.alloc(), &records)?;
-        assert_eq!(rt; text.as_slice(), expected.as_slice(), "{len} bytes");
+        line.extend_from_slice(b"e1 0 0\n")?;
+        assert_eq!(rt; text.as_slice(), line.as_slice(), "{len} bytes");
     }
     Ok(())
 }

@@ -1,8 +1,7 @@
-//! Whole replays, and what stands where the reader, the writer or memory fails.
+//! Whole replays where the reader, the writer or memory fails.
 
-use super::text_fault;
 use crate::{FaultKind, ReplayFault, TraceFault, replay};
-use board::{BoardFault, CacheFault, MemoryImage};
+use board::{BoardFault, MemoryImage};
 use refusing::RefusingHeap;
 use std::alloc::{Allocator, Global};
 use std::io;
@@ -31,84 +30,18 @@ const RECORDS: &[u8] = b"0 v:74726976 - 0 0\n\
 0 badrange - 0 0\n\
 2 badslot - 0 0\n";
 
-/// Eight sectors of zeros.
-fn image(alloc: Global) -> Result<MemoryImage, Fail> {
-    Ok(MemoryImage::new(vec![in alloc; 0; 4096]?)?)
-}
-
-/// What a replay of a text comes to, and what it wrote. The image is handed back as it was.
+/// What a replay over eight sectors of zeros comes to. The image is handed back as it was.
 fn replayed<A: Allocator + Copy>(
     rt: &(impl Abort + AllocGlobal),
     heap: A,
     reader: &mut impl Read,
     writer: &mut impl Write,
 ) -> Result<Result<(), ReplayFault>, Fail> {
-    let (image_after, outcome) = replay(heap, reader, writer, image(rt.alloc())?);
-    assert_eq!(rt; image_after.bytes(), image(rt.alloc())?.bytes());
+    let zeros = vec![in rt.alloc(); 0; 4096]?;
+    let image = MemoryImage::new(vec![in rt.alloc(); 0; 4096]?)?;
+    let (image_after, outcome) = replay(heap, reader, writer, image);
+    assert_eq!(rt; image_after.bytes(), zeros.as_slice());
     Ok(outcome)
-}
-
-/// A replay of the text writes these records.
-fn expect_records(
-    rt: &(impl Abort + AllocGlobal),
-    mut text: &[u8],
-    records: &[u8],
-) -> Result<(), Fail> {
-    let mut written = Vec::new(rt.alloc());
-    let outcome = replayed(rt, rt.alloc(), &mut text, &mut written)?;
-    assert_eq!(rt; outcome, Ok(()));
-    assert_eq!(rt; written.as_slice(), records);
-    assert!(rt; text.is_empty());
-    Ok(())
-}
-
-/// A replay of the text has this fault, and writes nothing.
-fn expect_fault(
-    rt: &(impl Abort + AllocGlobal),
-    mut text: &[u8],
-    fault: ReplayFault,
-) -> Result<(), Fail> {
-    let mut written = Vec::new(rt.alloc());
-    let outcome = replayed(rt, rt.alloc(), &mut text, &mut written)?;
-    assert_eq!(rt; outcome, Err(fault));
-    assert!(rt; written.is_empty());
-    Ok(())
-}
-
-#[test]
-fn worked_traces(rt: HostRuntime) -> Result<(), Fail> {
-    expect_records(&rt, TRACE, RECORDS)?;
-    expect_records(
-        &rt,
-        b"vreplay 1\ncache 1\nslot 80000000 1000 0 1 rw 50 19\n",
-        b"",
-    )?;
-    expect_records(
-        &rt,
-        b"vreplay 1\ncache 8\nslot 80000000 1000 0 8 rw 50 19\n\
-        mr 0 80000fff 2\nmr 0 80001000 0\nmr 0 80001001 0\nmw 0 80001000 -\nr 5 b 000 4\n",
-        b"0 badrange - 0 0\n0 b:- - 0 0\n0 badrange - 0 0\n0 done - 0 0\n5 badslot - 0 0\n",
-    )
-}
-
-#[test]
-fn refused_traces_and_boards(rt: HostRuntime) -> Result<(), Fail> {
-    expect_fault(&rt, b"", text_fault(1, FaultKind::Cut))?;
-    expect_fault(
-        &rt,
-        b"vreplay 1\ncache 1\nr 0 d 000 4\n",
-        text_fault(3, FaultKind::Choice),
-    )?;
-    expect_fault(
-        &rt,
-        b"vreplay 1\ncache 1\nr 0 b 000 4\n",
-        ReplayFault::Board(BoardFault::NoSlots),
-    )?;
-    expect_fault(
-        &rt,
-        b"vreplay 1\ncache 0\nslot 80000000 1000 0 1 rw 50 19\n",
-        ReplayFault::Board(BoardFault::Cache(CacheFault::BadCapacity)),
-    )
 }
 
 /// Gives its bytes one by one, each after an interruption, and then fails.
@@ -156,8 +89,19 @@ fn a_reader_that_fails(rt: HostRuntime) -> Result<(), Fail> {
 #[derive(Drop)]
 pub struct SmallWriter {
     pub held: Vec<u8>,
-    pub room: usize,
-    pub is_ready: bool,
+    room: usize,
+    is_ready: bool,
+}
+
+impl SmallWriter {
+    /// One with room for so many bytes.
+    pub fn new(heap: Global, room: usize) -> SmallWriter {
+        SmallWriter {
+            held: Vec::new(heap),
+            room,
+            is_ready: true,
+        }
+    }
 }
 
 impl Write for SmallWriter {
@@ -177,36 +121,53 @@ impl Write for SmallWriter {
     }
 }
 
+/// With room for all records the replay comes to its end, and the reader to its own.
 #[test]
 fn a_writer_that_fails(rt: HostRuntime) -> Result<(), Fail> {
     for room in 0..=RECORDS.len() {
-        let mut writer = SmallWriter {
-            held: Vec::new(rt.alloc()),
-            room,
-            is_ready: true,
-        };
+        let mut writer = SmallWriter::new(rt.alloc(), room);
         let mut text = TRACE;
         let outcome = replayed(&rt, rt.alloc(), &mut text, &mut writer)?;
         assert_eq!(rt; writer.held.as_slice(), &RECORDS[..room]);
-        if room < RECORDS.len() {
-            assert_eq!(rt;
-                outcome,
-                Err(ReplayFault::Write),
-                "with room for {room} bytes"
-            );
+        let end = if room < RECORDS.len() {
+            Err(ReplayFault::Write)
         } else {
-            assert_eq!(rt; outcome, Ok(()));
-        }
+            Ok(())
+        };
+        assert_eq!(rt; outcome, end, "with room for {room} bytes");
+        assert!(rt; text.is_empty());
     }
     Ok(())
 }
 
-/// Where a request for memory is refused, so are the later ones: the text of the records too.
+/// The lines at which the input itself, the slots, the events, the bytes of a write and more events take
+/// memory.
+const LINES: [u64; 5] = [1, 3, 5, 7, 9];
+
+/// The place of what is answered, as memory is refused later and later: for one of these lines, for the
+/// board, for the records, and for their text. A refusal stays, so it comes to the text also where a
+/// record's bytes were refused.
+fn place_of(outcome: Result<(), ReplayFault>) -> Option<usize> {
+    match outcome {
+        Err(
+            ReplayFault::Trace(
+                TraceFault {
+                    line,
+                    kind: FaultKind::NoMemory,
+                },
+            ),
+        ) => LINES.iter().position(|it| *it == line),
+        Err(ReplayFault::Board(BoardFault::NoMemory)) => Some(5),
+        Err(ReplayFault::Run(0)) => Some(6),
+        Err(ReplayFault::NoMemory) => Some(7),
+        _ => None,
+    }
+}
+
 #[test]
 fn each_request_refused_in_turn(rt: HostRuntime) -> Result<(), Fail> {
     let heap = RefusingHeap::new(rt.alloc());
-    let mut lines = Vec::new(rt.alloc());
-    let (mut boards, mut runs, mut texts) = (0u32, 0u32, 0u32);
+    let mut times = [0u32; 8];
     for n in 1..100 {
         let mut written = Vec::new(rt.alloc());
         let mut text = TRACE;
@@ -215,25 +176,18 @@ fn each_request_refused_in_turn(rt: HostRuntime) -> Result<(), Fail> {
         if !heap.has_refused() {
             assert_eq!(rt; outcome, Ok(()));
             assert_eq!(rt; written.as_slice(), RECORDS);
-            assert_eq!(rt; lines.as_slice(), [1, 3, 5, 7, 9].as_slice());
+            let [input, slots, events, bytes, more, boards, runs, texts] = times;
+            assert_eq!(rt;
+                [input, slots, events, bytes, more, runs, texts],
+                [1, 1, 1, 1, 1, 1, 4]
+            );
             assert!(rt; boards > 2, "the slots and two memories take memory");
-            assert_eq!(rt; (runs, texts), (1, 4));
             return Ok(());
         }
         assert!(rt; written.is_empty());
-        match outcome {
-            Err(
-                ReplayFault::Trace(
-                    TraceFault {
-                        line,
-                        kind: FaultKind::NoMemory,
-                    },
-                ),
-            ) => lines.push(line)?,
-            Err(ReplayFault::Board(BoardFault::NoMemory)) => boards = boards.saturating_add(1),
-            Err(ReplayFault::Run(0)) => runs = runs.saturating_add(1),
-            Err(ReplayFault::NoMemory) => texts = texts.saturating_add(1),
-            other => panic!(rt; "{other:?} at request {n}"),
+        match place_of(outcome) {
+            Some(i) if i < times.len() => times[i] = times[i].saturating_add(1),
+            _ => panic!(rt; "{outcome:?} at request {n}"),
         }
     }
     panic!(rt; "memory was never ample")

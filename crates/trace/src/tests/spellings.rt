@@ -1,8 +1,9 @@
 //! Texts of traces, and the values that stand in them.
 
 use super::expect_trace;
-use crate::{Trace, is_printable, print_trace, read_trace};
+use crate::{Trace, is_printable, read_trace};
 use board::{DeviceKind, Event, EventKind, Extent, SlotSpec};
+use std::alloc::{AllocError, Global};
 use std::test::Fail;
 
 /// Each spelling once, with the least and the greatest values.
@@ -18,60 +19,60 @@ w ff c fff 4 ffffffff\n\
 w 1 b 102 2 00ff\n\
 w a c 108 1 41\n\
 w 0 c 109 1 00\n\
+w 2 c abc 1 ff\n\
+w 2 c abc 2 ffff\n\
+w 2 c abc 4 ffffffff\n\
 mr 0 80000fff 2\n\
 mr 1 ffffffffffffffff ffffffff\n\
 mw 0 80000ffe 4142\n\
 mw a 0 -\n\
 mw 1 1 00ff0a\n";
 
-#[test]
-fn each_spelling(rt: HostRuntime) -> Result<(), Fail> {
-    expect_trace(&rt, TEXT)?;
-    expect_trace(&rt, b"vreplay 1\ncache 0\n")
+/// What a slot does, as a plain value.
+#[derive(Clone, Copy)]
+enum What<'a> {
+    Read(DeviceKind, u16, u8),
+    Write(DeviceKind, u16, u8, u32),
+    MemRead(u64, u32),
+    MemWrite(u64, &'a [u8]),
 }
 
-fn read(slot: u8, window: DeviceKind, offset: u16, width: u8) -> Event {
-    let what = EventKind::Read {
-        window,
-        offset,
-        width,
+use DeviceKind::{Block, Console};
+use What::{MemRead, MemWrite, Read, Write};
+
+fn event_of(alloc: Global, slot: u8, what: What<'_>) -> Result<Event, AllocError> {
+    let what = match what {
+        Read(window, offset, width) => EventKind::Read {
+            window,
+            offset,
+            width,
+        },
+        Write(window, offset, width, value) => EventKind::Write {
+            window,
+            offset,
+            width,
+            value,
+        },
+        MemRead(addr, len) => EventKind::MemRead { addr, len },
+        MemWrite(addr, bytes) => {
+            let bytes = bytes.to_vec(alloc)?.into();
+            EventKind::MemWrite { addr, bytes }
+        }
     };
-    Event { slot, what }
-}
-
-fn write(slot: u8, window: DeviceKind, offset: u16, width: u8, value: u32) -> Event {
-    let what = EventKind::Write {
-        window,
-        offset,
-        width,
-        value,
-    };
-    Event { slot, what }
-}
-
-fn mem_read(slot: u8, addr: u64, len: u32) -> Event {
-    let what = EventKind::MemRead { addr, len };
-    Event { slot, what }
-}
-
-fn mem_write(rt: &HostRuntime, slot: u8, addr: u64, bytes: &[u8]) -> Result<Event, Fail> {
-    let bytes = bytes.to_vec(rt.alloc())?.into();
-    let what = EventKind::MemWrite { addr, bytes };
     Ok(Event { slot, what })
 }
 
-/// What the text says.
-fn trace(rt: &HostRuntime) -> Result<Trace, Fail> {
-    let mut trace = Trace::new(rt.alloc(), 0xffff_ffff);
-    trace.slots.push(SlotSpec {
+/// The slots that the text says.
+const SLOTS: [SlotSpec; 2] = [
+    SlotSpec {
         base: 0x8000_0000,
         len: 4096,
         extent: Extent { start: 0, count: 1 },
         read_only: false,
         cols: 80,
         rows: 25,
-    })?;
-    trace.slots.push(SlotSpec {
+    },
+    SlotSpec {
         base: u64::MAX,
         len: 0,
         extent: Extent {
@@ -81,92 +82,61 @@ fn trace(rt: &HostRuntime) -> Result<Trace, Fail> {
         read_only: true,
         cols: 65535,
         rows: 0,
-    })?;
-    trace.events.push(read(0, DeviceKind::Block, 0, 4))?;
-    trace.events.push(read(255, DeviceKind::Console, 0xfff, 1))?;
-    trace.events.push(read(16, DeviceKind::Block, 12, 2))?;
-    trace
-        .events
-        .push(write(0, DeviceKind::Block, 0x070, 4, 11))?;
-    trace
-        .events
-        .push(write(255, DeviceKind::Console, 0xfff, 4, 0xffff_ffff))?;
-    trace
-        .events
-        .push(write(1, DeviceKind::Block, 0x102, 2, 255))?;
-    trace
-        .events
-        .push(write(10, DeviceKind::Console, 0x108, 1, 65))?;
-    trace
-        .events
-        .push(write(0, DeviceKind::Console, 0x109, 1, 0))?;
-    trace.events.push(mem_read(0, 0x8000_0fff, 2))?;
-    trace.events.push(mem_read(1, u64::MAX, 0xffff_ffff))?;
-    trace.events.push(mem_write(rt, 0, 0x8000_0ffe, b"AB")?)?;
-    trace.events.push(mem_write(rt, 10, 0, b"")?)?;
-    trace.events.push(mem_write(rt, 1, 1, &[0, 255, 10])?)?;
-    Ok(trace)
-}
+    },
+];
+
+/// The events that it says.
+const EVENTS: [(u8, What<'static>); 16] = [
+    (0, Read(Block, 0, 4)),
+    (255, Read(Console, 0xfff, 1)),
+    (16, Read(Block, 12, 2)),
+    (0, Write(Block, 0x070, 4, 11)),
+    (255, Write(Console, 0xfff, 4, 0xffff_ffff)),
+    (1, Write(Block, 0x102, 2, 255)),
+    (10, Write(Console, 0x108, 1, 65)),
+    (0, Write(Console, 0x109, 1, 0)),
+    (2, Write(Console, 0xabc, 1, 0xff)),
+    (2, Write(Console, 0xabc, 2, 0xffff)),
+    (2, Write(Console, 0xabc, 4, 0xffff_ffff)),
+    (0, MemRead(0x8000_0fff, 2)),
+    (1, MemRead(u64::MAX, 0xffff_ffff)),
+    (0, MemWrite(0x8000_0ffe, b"AB")),
+    (10, MemWrite(0, b"")),
+    (1, MemWrite(1, &[0, 255, 10])),
+];
 
 #[test]
-fn the_values_of_each(rt: HostRuntime) -> Result<(), Fail> {
-    let expected = trace(&rt)?;
-    match read_trace(rt.alloc(), TEXT) {
-        Ok(found) => {
-            assert_eq!(rt; found.cache, expected.cache);
-            assert_eq!(rt; found.slots.as_slice(), expected.slots.as_slice());
-            assert_eq!(rt; found.events.as_slice(), expected.events.as_slice());
-        }
-        Err(fault) => panic!(rt; "{fault}"),
+fn the_values_of_each_spelling(rt: HostRuntime) -> Result<(), Fail> {
+    let trace = read_trace(rt.alloc(), TEXT)?;
+    assert_eq!(rt; trace.cache, 0xffff_ffff);
+    assert_eq!(rt; trace.slots.as_slice(), SLOTS.as_slice());
+    assert_eq!(rt; trace.events.len(), EVENTS.len());
+    for (event, (slot, what)) in trace.events.iter().zip(EVENTS) {
+        let said = event_of(rt.alloc(), slot, what)?;
+        assert_eq!(rt; event, &said);
     }
-    Ok(())
+    expect_trace(&rt, TEXT)?;
+    expect_trace(&rt, b"vreplay 1\ncache 0\n")
 }
+
+/// Accesses that no line spells: an offset of four digits, a width that is none, a value beyond its width.
+const UNSPELLED: [What<'static>; 7] = [
+    Read(Block, 0x1000, 4),
+    Read(Block, 0, 3),
+    Write(Block, 0x1000, 4, 0),
+    Write(Block, 0, 3, 0),
+    Write(Block, 0, 0, 0),
+    Write(Block, 0, 1, 0x100),
+    Write(Block, 0, 2, 0x1_0000),
+];
 
 #[test]
 fn what_has_no_text(rt: HostRuntime) -> Result<(), Fail> {
-    let mut trace = trace(&rt)?;
-    if is_printable(&trace) {
-        assert_eq!(rt; print_trace(rt.alloc(), &trace)?.as_slice(), TEXT);
-    } else {
-        panic!(rt; "it has a text");
-    }
-    trace.events.push(read(0, DeviceKind::Block, 0x1000, 4))?;
-    assert!(rt; !is_printable(&trace));
-    trace.events.pop();
-    trace.events.push(read(0, DeviceKind::Block, 0, 3))?;
-    assert!(rt; !is_printable(&trace));
-    trace.events.pop();
-    for (offset, width, value) in [
-        (0x1000, 4, 0),
-        (0, 3, 0),
-        (0, 0, 0),
-        (0, 1, 0x100),
-        (0, 2, 0x1_0000),
-    ] {
-        trace
-            .events
-            .push(write(0, DeviceKind::Block, offset, width, value))?;
-        assert!(rt; !is_printable(&trace), "at width {width}");
-        trace.events.pop();
+    for what in UNSPELLED {
+        let mut trace = Trace::new(rt.alloc(), 1);
+        assert!(rt; is_printable(&trace));
+        trace.events.push(event_of(rt.alloc(), 0, what)?)?;
+        assert!(rt; !is_printable(&trace));
     }
     Ok(())
-}
-
-/// The greatest value of each width has a text.
-#[test]
-fn the_greatest_values(rt: HostRuntime) -> Result<(), Fail> {
-    let mut trace: Trace = Trace::new(rt.alloc(), 1);
-    for (width, value) in [(1, 0xff), (2, 0xffff), (4, 0xffff_ffff)] {
-        trace
-            .events
-            .push(write(2, DeviceKind::Console, 0xabc, width, value))?;
-    }
-    let text: &[u8] =
-        b"vreplay 1\ncache 1\nw 2 c abc 1 ff\nw 2 c abc 2 ffff\nw 2 c abc 4 ffffffff\n";
-    if is_printable(&trace) {
-        assert_eq!(rt; print_trace(rt.alloc(), &trace)?.as_slice(), text);
-    } else {
-        panic!(rt; "it has a text");
-    }
-    expect_trace(&rt, text)
 }

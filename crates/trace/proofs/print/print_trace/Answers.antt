@@ -3,8 +3,8 @@ use Rattle.trace.specs.Text.{content, event_line, front_text, joined, slot_line}
 use Rattle.trace.proofs.Printed.{text_is}
 use Rattle.trace.proofs.print.print_trace.Goals as goal
 
-pub returns : goal.returns
-returns g c =
+pub returns-clause-text : goal.returns-clause-text
+returns-clause-text g c =
     let t = c.args.trace.now in
     c.in_ok-push_events.ensures
     ∙ ap (λ es. c.push_slots.new.out.items ++ joined (map event_line es)) c.deref-2.ensures.value

@@ -26,6 +26,9 @@ returns-in_default-clause-fault g c known =
     is_cut c.args.text.now (content c.loop-rest.trace) c.loop-rest.line c.loop-rest.rest.now c.loop-rest.invariant c.in_default.ensures.none
     (λ e. eqb-false (length c.loop-rest.rest.now) 0 (sym c.loop-rest-test.ensures) (ap length e))
 
+pub returns-in_default-clause-numbered : goal.returns-in_default-clause-numbered
+returns-in_default-clause-numbered g c = let n = c.loop-rest.invariant.count in omega arith
+
 pub returns-in_default-clause-clean : goal.returns-in_default-clause-clean
 returns-in_default-clause-clean g c = clean c.args.text.now (content c.loop-rest.trace) c.loop-rest.line c.loop-rest.rest.now c.loop-rest.invariant
 
@@ -33,6 +36,9 @@ pub returns-in-Err-add_line-clause-fault : goal.returns-in-Err-add_line-clause-f
 returns-in-Err-add_line-clause-fault g c known =
     is_refused c.args.text.now (content c.loop-rest.trace) c.loop-rest.line c.loop-rest.rest.now c.loop-rest.invariant (has_begun (content c.loop-rest.trace)) c.in-Some.this.now c.in-Some.after.now c.in-Err-add_line.kind c.in-Some.ensures.lines
     (ltb-true 0 (length c.loop-rest.trace.events.items)) (λ e. let none = ltb-false 0 (length c.loop-rest.trace.events.items) e in omega arith) c.in-Err-add_line.ensures.err known
+
+pub returns-in-Err-add_line-clause-numbered : goal.returns-in-Err-add_line-clause-numbered
+returns-in-Err-add_line-clause-numbered g c = let n = c.loop-rest.invariant.count in omega arith
 
 pub returns-in-Err-add_line-clause-clean : goal.returns-in-Err-add_line-clause-clean
 returns-in-Err-add_line-clause-clean g c = clean c.args.text.now (content c.loop-rest.trace) c.loop-rest.line c.loop-rest.rest.now c.loop-rest.invariant

@@ -2,8 +2,8 @@ use Rattle.std.proofs.Common.{rules}
 use Rattle.std.proofs.KnownBytes.{Consumes-kept}
 use Rattle.std.specs.Io.KnownBytes.{IsAtEnd}
 use Rattle.trace.proofs.Gathering.{gathered_more, gathered_all}
-use Rattle.trace.proofs.run.gather.Goals as goal
-use Rattle.trace.proofs.run.gather.Goals.{in-Ok+in-Ok-extend_from_slice, in-Err+else-ne}
+use Rattle.trace.proofs.input.gather.Goals as goal
+use Rattle.trace.proofs.input.gather.Goals.{in-Ok+in-Ok-extend_from_slice, in-Err+else-ne}
 
 pub returns-in-Ok-eq0-clause-all : goal.returns-in-Ok-eq0-clause-all
 returns-in-Ok-eq0-clause-all g c =

@@ -1,5 +1,5 @@
 use Rattle.std.specs.Io.KnownBytes.{Consumes}
-use Rattle.trace.proofs.run.gather.Given as goal
+use Rattle.trace.proofs.input.gather.Given as goal
 
 -- what was read so far was gathered
 abbrev pub invariant-loop : goal.invariant-loop

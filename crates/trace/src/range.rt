@@ -1,0 +1,79 @@
+//! What the integers of a trace give by themselves.
+//!
+//! In a clause a number has no upper bound; these functions say the bounds that its type gives. They do
+//! nothing when they run.
+
+ghost use Rattle.std.specs.Prelude.{All, ◌^◌, ◌<◌};
+ghost use Rattle.trace.specs.Printable.{EventInRange, InRange, KindInRange, SlotInRange};
+ghost use Rattle.trace.specs.Text.{content};
+
+use crate::trace::Trace;
+use board::{Event, EventKind, SlotSpec};
+use std::alloc::Allocator;
+
+/// Every number of a trace is one of its type.
+pub(crate) fn in_range<A: Allocator>(trace: &Trace<A>)
+    ensures { InRange (content trace.now) }
+{
+    let _cache = trace.cache;
+    slots_in_range(&trace.slots);
+    events_in_range(&trace.events);
+}
+
+fn slots_in_range(slots: &[SlotSpec])
+    ensures { All SlotInRange slots.now }
+{
+    for slot in slots {
+        slot_in_range(slot);
+    }
+}
+
+fn slot_in_range(slot: &SlotSpec)
+    ensures { SlotInRange slot.now }
+{
+    let _base = slot.base;
+    let _len = slot.len;
+    let _start = slot.extent.start;
+    let _count = slot.extent.count;
+    let _cols = slot.cols;
+    let _rows = slot.rows;
+}
+
+fn events_in_range<A: Allocator>(events: &[Event<A>])
+    ensures { All EventInRange events.now }
+{
+    for event in events {
+        event_in_range(event);
+    }
+}
+
+fn event_in_range<A: Allocator>(event: &Event<A>)
+    ensures { EventInRange event.now }
+{
+    let _slot = event.slot;
+    kind_in_range(&event.what);
+}
+
+fn kind_in_range<A: Allocator>(what: &EventKind<A>)
+    ensures { KindInRange what.now }
+{
+    match what {
+        EventKind::MemRead { addr, len } => {
+            let _addr = *addr;
+            let _len = *len;
+        }
+        EventKind::MemWrite { addr, bytes } => {
+            let _addr = *addr;
+            bytes_in_range(bytes.as_slice());
+        }
+        _ => {}
+    }
+}
+
+fn bytes_in_range(bytes: &[u8])
+    ensures { All (λ b. b < 2 ^ 8) bytes.now }
+{
+    for byte in bytes {
+        let _byte = *byte;
+    }
+}
