@@ -9,7 +9,7 @@ use Rattle.board.specs.declared.reply.Reply.{Reply}
 use Rattle.board.specs.declared.reply.Reply.TheVariants.{NoMemory}
 use Rattle.board.specs.declared.reply.Record.{Record}
 use Rattle.board.specs.Slot.{SlotState}
-use Rattle.board.specs.World.{World, SlotStep, MissingStep, Step, Handles}
+use Rattle.board.specs.World.{World, SlotStep, MissingStep, Step, Handles, Answers}
 use Rattle.board.specs.Line.{Move, IsLine, IsQuiet, HadMemory, HasInterruptWords, IsRun, events_of, records_of}
 use Rattle.board.proofs.Alone.{alone, recorded_slot}
 use Rattle.board.proofs.Failures.{given_failures}
@@ -39,6 +39,10 @@ outside_at old event written new (Some s) step = step.outside
 pub step_outside : {A : Type 0} (old : World) (event : Event A) (written : Record A) (new : World) → Step old event written new → new.outside ≡ old.outside
 step_outside old event written new step = outside_at old event written new (slice_get old.slots event.slot) step
 
+-- where the board handled an event
+pub handled_outside : {A : Type 0} {old : World} {event : Event A} {reply : Reply A} {block console : ℕ} {before after : List ℕ} {new : World} → Handles old event reply block console before after new → new.outside ≡ old.outside
+handled_outside {A} {old} {event} {reply} {block} {console} {before} {after} {new} h = step_outside old event _ new h.step
+
 -- and in a line
 pub line_outside : {A : Type 0} (old : World) (moves : List (Move A)) (new : World) → IsLine old moves new → new.outside ≡ old.outside
 line_outside old [] new line = ap (λ (w : World). w.outside) line
@@ -57,6 +61,10 @@ quiet {A} g old (move ∷ moves) new line stood had =
       },
       quiet g move.after moves new line.1 (omega arith) (All-tail P move.written (records_of moves) had),
     )
+
+-- where the board handled an event it answered it
+pub answered : {A : Type 0} {old : World} {event : Event A} {reply : Reply A} {block console : ℕ} {before after : List ℕ} {new : World} → Handles old event reply block console before after new → Answers old event reply before after new
+answered h = record { written = _; step = h.step; replied = refl; appended = h.appended }
 
 -- a line goes on by one step
 line_more : {A : Type 0} (old mid new : World) (moves : List (Move A)) (move : Move A) → IsLine old moves mid → Step mid move.event move.written move.after → move.after ≡ new → IsLine old (moves ++ move ∷ []) new
