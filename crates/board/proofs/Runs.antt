@@ -119,6 +119,33 @@ run_of old new events before after reached = record {
   quiet = λ stood g had. quiet g old reached.moves new reached.line stood had;
 }
 
+-- two lines, the second from where the first ends, are one
+lines_join : {A : Type 0} (old mid new : World) (moves more : List (Move A)) → IsLine old moves mid → IsLine mid more new → IsLine old (moves ++ more) new
+lines_join old mid new [] more line rest = subst (λ (w : World). IsLine w more new) line rest
+lines_join old mid new (move ∷ moves) more line rest = (line.0, lines_join move.after mid new moves more line.1 rest)
+
+-- and so are two runs
+pub runs_join : {A : Type 0} (old mid new : World) (events more : List (Event A)) (before between after : List (Record A)) → IsRun old mid events before between → IsRun mid new more between after → IsRun old new (events ++ more) before after
+runs_join {A} old mid new events more before between after one other =
+    run_of old new (events ++ more) before after (record {
+      moves = one.moves ++ other.moves;
+      line = lines_join old mid new one.moves other.moves one.line other.line;
+      events_are =
+          map-append (λ (m : Move A). m.event) one.moves other.moves
+          ∙ (ap (λ es. es ++ events_of other.moves) one.events_are ∙ ap (λ es. events ++ es) other.events_are);
+      records_are =
+          other.records_are
+          ∙ (ap (λ rs. rs ++ records_of other.moves) one.records_are
+          ∙ (append_assoc before (records_of one.moves) (records_of other.moves)
+          ∙ ap (λ rs. before ++ rs) (sym (map-append (λ (m : Move A). m.written) one.moves other.moves))));
+    })
+
+-- a step is a run of one event
+pub step_run : {A : Type 0} (old new : World) (event : Event A) (written : Record A) (before : List (Record A)) → Step old event written new → IsRun old new (event ∷ []) before (before ++ written ∷ [])
+step_run {A} old new event written before step =
+    let move : Move A = record { event = event; written = written; after = new } in
+    run_of old new (event ∷ []) before (before ++ written ∷ []) (record { moves = move ∷ []; line = (step, refl); events_are = refl; records_are = refl })
+
 -- what holds where a call succeeded, of one that did
 pub where_ok : {T E : Type 0} (r : Result T E) (P : Type 0) → is_err r ≡ false → OnOk r P → P
 where_ok (Ok x) P succeeded holds = holds
