@@ -5,18 +5,17 @@ use Rattle.std.proofs.lemmas.Bool.Decides.{nat_tests}
 use Rattle.guest_memory.specs.Memory.{Memory, SameRange}
 use Rattle.chain.specs.declared.segment.Buffer.{Buffer}
 use Rattle.chain.specs.declared.fault.Fault.{Fault}
-use Rattle.chain.specs.Service.{Entry, Does, Spent, Faulted, Runs, Reached}
-use Rattle.chain.proofs.Scattering.{same_trans}
-use Rattle.chain.proofs.Servicing.{reached_start, reached_more, runs_from_reached}
+use Rattle.chain.specs.Service.{Entry, Does, Course, Runs}
+use Rattle.guest_memory.proofs.Ranges.{same_trans}
+use Rattle.chain.proofs.Servicing.{course_begins, course_goes_on, runs_into, runs_out}
 use Rattle.sector_cache.specs.Disk.{Disk}
 use Rattle.mmio_window.specs.declared.queue.Queue.{Queue}
-use Rattle.mmio_window.specs.declared.queue.Queue.TheVariants.{Split}
-use Rattle.mmio_window.specs.Queue.{LiesIn as QueueLiesIn, made_as, queue_kind}
+use Rattle.mmio_window.specs.Queue.{LiesIn, made_as, queue_kind}
+use Rattle.mmio_window.specs.Serving.{ending_of}
 use Rattle.block_device.specs.declared.device.BlockDevice.{BlockDevice}
 use Rattle.block_device.specs.declared.extent.Extent.{Extent}
 use Rattle.block_device.specs.Device.{block_device}
-use Rattle.block_device.specs.Extent.{LiesIn, extent_disk, ToldOutside, KeepsOutside}
-use Rattle.block_device.specs.Serving.{ending_of}
+use Rattle.block_device.specs.Extent.{IsWithin, extent_disk, ToldOutside, KeepsOutside}
 use Rattle.block_device.proofs.Extents.{KeepsOutside-same}
 
 told_trans : (extent : Extent) (a b c : Option (List ℕ)) → ToldOutside extent a b → ToldOutside extent b c → ToldOutside extent a c
@@ -32,21 +31,17 @@ pub outside_trans : (extent : Extent) (a b c : Disk) → KeepsOutside extent a b
 outside_trans extent a b c p q = record { sectors = q.sectors ∙ p.sectors; told = told_trans extent a.told b.told c.told p.told q.told }
 
 -- the extent still lies in the disk
-pub lies_still : (extent : Extent) (a b : Disk) → KeepsOutside extent a b → LiesIn a extent → LiesIn b extent
+pub lies_still : (extent : Extent) (a b : Disk) → KeepsOutside extent a b → IsWithin a.sector_count extent → IsWithin b.sector_count extent
 lies_still extent a b keeps lies = omega (arith, keeps.sectors, lies)
-
--- whether a chain is on offer doesn't turn on what its device wrote
-pub offers_still : (m new : Memory) (queue : Queue) → queue_kind.offers m queue ≡ true → queue_kind.offers new queue ≡ true
-offers_still m new (Split ring) h = h
 
 -- these chains were served since the service was opened
 pub record IsInCourse (device : BlockDevice) (start now : Memory) (first queue : Queue) (disk disk' : Disk) (failed : Bool) : Type 0 where
-  pub reached : Reached queue_kind (block_device device)
+  pub course : Course queue_kind (block_device device)
       (record { memory = start; ring = first; state = extent_disk device.extent disk })
       (record { memory = now; ring = queue; state = extent_disk device.extent disk' })
   pub outside : KeepsOutside device.extent disk disk'
   pub range : SameRange start now
-  pub lies : QueueLiesIn now queue
+  pub lies : LiesIn now queue
   pub made : made_as queue ≡ made_as first
   pub counted : failed ≡ nat_lt disk.failures disk'.failures
   pub rises : disk.failures ≤ disk'.failures
@@ -54,9 +49,9 @@ pub record IsInCourse (device : BlockDevice) (start now : Memory) (first queue :
 not_less : (n : ℕ) → false ≡ nat_lt n n
 not_less n = grind (arith, nat_tests)
 
-pub course_start : (device : BlockDevice) (m : Memory) (queue : Queue) (disk : Disk) → QueueLiesIn m queue → IsInCourse device m m queue queue disk disk false
+pub course_start : (device : BlockDevice) (m : Memory) (queue : Queue) (disk : Disk) → LiesIn m queue → IsInCourse device m m queue queue disk disk false
 course_start device m queue disk lies = record {
-  reached = reached_start queue_kind (block_device device) (record { memory = m; ring = queue; state = extent_disk device.extent disk });
+  course = course_begins queue_kind (block_device device) (record { memory = m; ring = queue; state = extent_disk device.extent disk });
   outside = KeepsOutside-same device.extent disk disk refl refl;
   range = record { base = refl; size = refl };
   lies = lies;
@@ -92,14 +87,14 @@ pub course_more : (device : BlockDevice) (start m answered m' : Memory) (first q
     → Does (block_device device) m answered buffers (extent_disk device.extent d) (extent_disk device.extent d') len any
     → m' ≡ queue_kind.used answered taken entry len any → queue' ≡ queue_kind.past taken entry
     → d'.failures ≡ d.failures + (if more then 1 else 0) → KeepsOutside device.extent d d'
-    → SameRange m answered → SameRange answered m' → QueueLiesIn m' queue' → made_as queue' ≡ made_as taken
+    → SameRange m answered → SameRange answered m' → LiesIn m' queue' → made_as queue' ≡ made_as taken
     → both ≡ (failed || more)
     → IsInCourse device start m' first queue' disk d' both
 course_more device start m answered m' first queue taken queue' disk d d' failed more both buffers entry len any h offers offered same does used past counts outside range range' lies made flag =
     record {
-      reached = reached_more queue_kind (block_device device) (record { memory = start; ring = first; state = extent_disk device.extent disk })
+      course = course_goes_on queue_kind (block_device device) (record { memory = start; ring = first; state = extent_disk device.extent disk })
           m answered m' queue queue' (extent_disk device.extent d) (extent_disk device.extent d') buffers entry len any
-          h.reached refl offers offered does
+          h.course refl offers offered does
           (used ∙ ap (λ q. queue_kind.used answered q entry len any) same) (past ∙ ap (λ q. queue_kind.past q entry) same);
       outside = outside_trans device.extent disk d d' h.outside outside;
       range = same_trans start m m' h.range (same_trans m answered m' range range');
@@ -110,24 +105,24 @@ course_more device start m answered m' first queue taken queue' disk d d' failed
     }
 
 -- none is on offer
-pub runs_out : (device : BlockDevice) (start m : Memory) (first queue last : Queue) (disk d : Disk) (failed : Bool)
+pub runs_until_spent : (device : BlockDevice) (start m : Memory) (first queue last : Queue) (disk d : Disk) (failed : Bool)
     → IsInCourse device start m first queue disk d failed → queue_kind.offers m queue ≡ false → last ≡ queue
     → Runs queue_kind (block_device device)
     (record { memory = start; ring = first; state = extent_disk device.extent disk }) (ending_of None)
     (record { memory = m; ring = last; state = extent_disk device.extent d })
-runs_out device start m first queue last disk d failed h none same =
-    rw same (runs_from_reached queue_kind (block_device device) (record { memory = start; ring = first; state = extent_disk device.extent disk })
-    (record { memory = m; ring = queue; state = extent_disk device.extent d }) Spent h.reached none)
+runs_until_spent device start m first queue last disk d failed h none same =
+    runs_out queue_kind (block_device device) (record { memory = start; ring = first; state = extent_disk device.extent disk })
+    m queue last (extent_disk device.extent d) h.course none same
 
 -- the chain on offer has a fault
-pub runs_into : (device : BlockDevice) (start m : Memory) (first queue last : Queue) (disk d : Disk) (failed : Bool) (fault : Fault)
-    → IsInCourse device start m first queue disk d failed → queue_kind.offers m queue ≡ true → queue_kind.Fails m queue fault → last ≡ queue_kind.stopped queue
+pub runs_until_fault : (device : BlockDevice) (start m : Memory) (first queue last : Queue) (disk d : Disk) (failed : Bool) (fault : Fault)
+    → IsInCourse device start m first queue disk d failed → queue_kind.offers m queue ≡ true → queue_kind.HasFault m queue fault → last ≡ queue_kind.stopped queue
     → Runs queue_kind (block_device device)
     (record { memory = start; ring = first; state = extent_disk device.extent disk }) (ending_of (Some fault))
     (record { memory = m; ring = last; state = extent_disk device.extent d })
-runs_into device start m first queue last disk d failed fault h offers fails same =
-    rw same (runs_from_reached queue_kind (block_device device) (record { memory = start; ring = first; state = extent_disk device.extent disk })
-    (record { memory = m; ring = queue; state = extent_disk device.extent d }) (Faulted fault) h.reached (offers, fails))
+runs_until_fault device start m first queue last disk d failed fault h offers has same =
+    runs_into queue_kind (block_device device) (record { memory = start; ring = first; state = extent_disk device.extent disk })
+    m queue last (extent_disk device.extent d) fault h.course offers has same
 
 -- a test by cases on its first part
 pub or_with_true : (a b : Bool) → a ≡ true → a ≡ (a || b)

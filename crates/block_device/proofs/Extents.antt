@@ -8,7 +8,7 @@ use Rattle.sector_cache.specs.Sector.{extent_of, sector_of, with_sector}
 use Rattle.sector_cache.specs.Disk.{Disk, IsWhole, written}
 use Rattle.sector_cache.proofs.Sectors.{extent_of-more, extent_of-extent_of}
 use Rattle.block_device.specs.declared.extent.Extent.{Extent}
-use Rattle.block_device.specs.Extent.{LiesIn, extent_disk, ToldOutside, KeepsOutside}
+use Rattle.block_device.specs.Extent.{IsWithin, extent_disk, ToldOutside, KeepsOutside}
 use Rattle.block_device.specs.Outcome.{with_sectors, marked, filled, AreAsTold}
 
 pub length-with_sectors : (bytes : List ℕ) (sector : ℕ) (new : List ℕ) → 512 * sector + length new ≤ length bytes → length (with_sectors bytes sector new) ≡ length bytes
@@ -72,7 +72,7 @@ written-filled disk sector done front chunk is_whole long whole inside =
     same_told (Some bytes) h = ap Some (with_sector-with_sectors bytes sector done front chunk long whole (omega arith))
 
 -- the extent of a disk that was written within it
-pub extent_disk-filled : (extent : Extent) (disk : Disk) (sector : ℕ) (new : List ℕ) → IsWhole disk → LiesIn disk extent → 512 * sector + length new ≤ 512 * extent.count
+pub extent_disk-filled : (extent : Extent) (disk : Disk) (sector : ℕ) (new : List ℕ) → IsWhole disk → IsWithin disk.sector_count extent → 512 * sector + length new ≤ 512 * extent.count
     → extent_disk extent (filled (extent.start + sector) new disk) ≡ filled sector new (extent_disk extent disk)
 extent_disk-filled extent disk sector new is_whole lies within =
     same_disk extent.count disk.failures _ _ (marked new disk.mark) (marked new disk.mark) (same_told disk.told is_whole) refl
@@ -84,7 +84,7 @@ extent_disk-filled extent disk sector new is_whole lies within =
     same_told (Some bytes) h = ap Some (extent_of-with_sectors bytes extent.start extent.count sector new (omega arith) within)
 
 -- nothing outside of it changes
-pub KeepsOutside-filled : (extent : Extent) (disk new : Disk) (sector : ℕ) (bytes : List ℕ) → IsWhole disk → LiesIn disk extent → 512 * sector + length bytes ≤ 512 * extent.count
+pub KeepsOutside-filled : (extent : Extent) (disk new : Disk) (sector : ℕ) (bytes : List ℕ) → IsWhole disk → IsWithin disk.sector_count extent → 512 * sector + length bytes ≤ 512 * extent.count
     → new.told ≡ (filled (extent.start + sector) bytes disk).told → new.sector_count ≡ disk.sector_count → KeepsOutside extent disk new
 KeepsOutside-filled extent disk new sector bytes is_whole lies within told sectors =
     record { sectors = sectors; told = rw told (same_told disk.told is_whole) }

@@ -1,7 +1,9 @@
 pub mod Answering
 pub mod Courses
+pub mod Exact
 pub mod Extents
+pub mod Guests
 pub mod OneService
 pub mod Requests
-pub mod Services
+pub mod SomeAnswer
 pub mod Transfers

@@ -13,7 +13,7 @@ use Rattle.sector_cache.specs.Disk.{Disk, IsWhole, IsTorn, failed, flushed, writ
 use Rattle.block_device.specs.declared.extent.Extent.{Extent}
 use Rattle.block_device.specs.declared.request.RequestStatus.TheVariants.{Success, IoError}
 use Rattle.block_device.specs.declared.request.Request.TheVariants.{Read, Write}
-use Rattle.block_device.specs.Extent.{LiesIn, extent_disk, KeepsOutside}
+use Rattle.block_device.specs.Extent.{IsWithin, extent_disk, KeepsOutside}
 use Rattle.block_device.specs.Request.{payload_of}
 use Rattle.block_device.specs.Outcome.{AreAsTold, filled}
 use Rattle.block_device.specs.Progress.{IsDone}
@@ -102,7 +102,7 @@ writing_more disk d d' sector count done readable chunk is_whole w sooner size i
     }
 
 -- the image fails at a sector
-pub writing_fails : (extent : Extent) (buffers : List Buffer) (m : Memory) (disk d disk' : Disk) (sector count done : ℕ) → IsWhole disk → LiesIn disk extent
+pub writing_fails : (extent : Extent) (buffers : List Buffer) (m : Memory) (disk d disk' : Disk) (sector count done : ℕ) → IsWhole disk → IsWithin disk.sector_count extent
     → IsWriting disk d (extent.start + sector) (payload_of (readable_of m buffers)) done → done < count → sector + count ≤ extent.count
     → length (payload_of (readable_of m buffers)) ≡ 512 * count → IsTorn (extent.start + sector + done) d disk'
     → IsDone (Write sector count) buffers m m (extent_disk extent disk) (extent_disk extent disk') 0 IoError × KeepsOutside extent disk disk'
@@ -133,7 +133,7 @@ written_all extent buffers m disk d sector count done w all size =
     w.is ∙ ap (λ bytes. filled (extent.start + sector) bytes disk) (take_all (512 * done) (payload_of (readable_of m buffers)) (omega (arith, size, all)))
 
 -- and flushed
-pub writing_done : (extent : Extent) (buffers : List Buffer) (m : Memory) (disk d disk' : Disk) (sector count done : ℕ) → IsWhole disk → LiesIn disk extent
+pub writing_done : (extent : Extent) (buffers : List Buffer) (m : Memory) (disk d disk' : Disk) (sector count done : ℕ) → IsWhole disk → IsWithin disk.sector_count extent
     → IsWriting disk d (extent.start + sector) (payload_of (readable_of m buffers)) done → done ≡ count → sector + count ≤ extent.count
     → length (payload_of (readable_of m buffers)) ≡ 512 * count → disk' ≡ flushed d
     → IsDone (Write sector count) buffers m m (extent_disk extent disk) (extent_disk extent disk') 0 Success × KeepsOutside extent disk disk'
@@ -154,7 +154,7 @@ writing_done extent buffers m disk d disk' sector count done is_whole lies w all
     )
 
 -- or the flush fails
-pub writing_unflushed : (extent : Extent) (buffers : List Buffer) (m : Memory) (disk d disk' : Disk) (sector count done : ℕ) → IsWhole disk → LiesIn disk extent
+pub writing_unflushed : (extent : Extent) (buffers : List Buffer) (m : Memory) (disk d disk' : Disk) (sector count done : ℕ) → IsWhole disk → IsWithin disk.sector_count extent
     → IsWriting disk d (extent.start + sector) (payload_of (readable_of m buffers)) done → done ≡ count → sector + count ≤ extent.count
     → length (payload_of (readable_of m buffers)) ≡ 512 * count → disk' ≡ failed d
     → IsDone (Write sector count) buffers m m (extent_disk extent disk) (extent_disk extent disk') 0 IoError × KeepsOutside extent disk disk'

@@ -28,18 +28,24 @@ GivesBy Way device disk readable zero given = given ≡ record { state = disk; w
 GivesBy Way device disk readable (suc room) given =
     Answers (λ outcome. Way (request_of device readable room) (payload_of readable) disk outcome) room given
 
--- The device: it takes every chain, whether or not the image fails.
-abbrev pub block_device : BlockDevice → Device Disk
-block_device device = record {
-  wants = λ disk. true;
-  Gives = λ disk readable w given. GivesBy Ends device disk readable w given;
-  Refuses = λ disk readable w. ⊥;
+-- a device that takes every chain, each of which ends in one of these ways, and never lacks memory
+abbrev pub device_by : (Request → List ℕ → Disk → Outcome → Type 0) → BlockDevice → Device Disk
+device_by Way device = record {
+  takes = λ disk. true;
+  Gives = λ disk readable w given. GivesBy Way device disk readable w given;
+  LacksMemory = λ disk readable w. ⊥;
 }
 
--- The same device over an image that never fails.
+-- the device, whether or not the image fails
+abbrev pub block_device : BlockDevice → Device Disk
+block_device device = device_by Ends device
+
+-- the same device over an image that never fails
 abbrev pub exact_device : BlockDevice → Device Disk
-exact_device device = record {
-  wants = λ disk. true;
-  Gives = λ disk readable w given. GivesBy Completes device disk readable w given;
-  Refuses = λ disk readable w. ⊥;
-}
+exact_device device = device_by Completes device
+
+-- The exact device has an answer to this chain, which says of each writable place what is written there.
+pub record HasAnswer (device : BlockDevice) (disk : Disk) (readable : List ℕ) (w : ℕ) : Type 0 where
+  pub given : Given Disk
+  pub gives : GivesBy Completes device disk readable w given
+  pub each : length given.written ≡ w

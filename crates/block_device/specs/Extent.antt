@@ -5,9 +5,9 @@ use Rattle.sector_cache.specs.Sector.{extent_of}
 use Rattle.sector_cache.specs.Disk.{Disk}
 use Rattle.block_device.specs.declared.extent.Extent.{Extent}
 
--- all sectors of the extent are sectors of the disk
-abbrev pub LiesIn : Disk → Extent → Type 0
-LiesIn disk extent = extent.start + extent.count ≤ disk.sector_count
+-- the extent lies in an image of that many sectors
+abbrev pub IsWithin : ℕ → Extent → Type 0
+IsWithin sectors extent = extent.start + extent.count ≤ sectors
 
 -- The extent as a disk of its own, which is all that its driver sees: the extent's bytes, as far as
 -- bytes are told, and as many sectors. Failures and mark are those of the disk.

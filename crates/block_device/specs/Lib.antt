@@ -4,4 +4,3 @@ pub mod Extent
 pub mod Outcome
 pub mod Progress
 pub mod Request
-pub mod Serving

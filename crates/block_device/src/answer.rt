@@ -6,7 +6,7 @@ ghost use Rattle.chain.specs.Buffers.{Good};
 ghost use Rattle.chain.specs.Bytes.{readable_of, writable_of};
 ghost use Rattle.chain.specs.Service.{Does};
 ghost use Rattle.block_device.specs.Device.{block_device};
-ghost use Rattle.block_device.specs.Extent.{LiesIn, KeepsOutside, extent_disk};
+ghost use Rattle.block_device.specs.Extent.{IsWithin, KeepsOutside, extent_disk};
 ghost use Rattle.block_device.specs.Request.{code_of, payload_of};
 ghost use Rattle.block_device.specs.Progress.{IsServable, IsDone};
 
@@ -54,7 +54,7 @@ impl BlockDevice {
         cache: &mut SectorCache<I, C>,
     ) -> Answer
         requires good { Good mem.old chain.now }
-        requires lies { LiesIn (I.disk cache.old) self.now.extent }
+        requires lies { IsWithin (I.disk cache.old).sector_count self.now.extent }
         ensures does { Does (block_device self.now) mem.old mem.new chain.now
             (extent_disk self.now.extent (I.disk cache.old))
             (extent_disk self.now.extent (I.disk cache.new)) result.len result.wrote }
@@ -93,7 +93,7 @@ impl BlockDevice {
         room: u64,
     ) -> Done
         requires good { Good mem.old chain.now }
-        requires lies { LiesIn (I.disk cache.old) self.now.extent }
+        requires lies { IsWithin (I.disk cache.old).sector_count self.now.extent }
         requires servable { IsServable self.now.extent.count request
             (length (payload_of (readable_of mem.old chain.now))) room }
         requires room { room + 1 ≡ length (writable_of chain.now) }

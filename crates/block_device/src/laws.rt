@@ -1,12 +1,12 @@
 //! Laws of the definitions. The bodies are empty: each contract is a theorem.
 
-ghost use Rattle.std.specs.Prelude.{◌≡◌, ◌⊎◌, ℕ, ◌+◌, Bool, List, Some};
-ghost use Rattle.chain.specs.Service.{Ending, Given, IsService, Site};
-ghost use Rattle.sector_cache.specs.Disk.{Disk};
+ghost use Rattle.std.specs.Prelude.{◌≡◌, ◌≢◌, ◌⊎◌, ℕ, ◌+◌, ◌≤◌, Bool, List, Some};
+ghost use Rattle.chain.specs.Service.{Ending, Given, IsService, Refused, Site};
+ghost use Rattle.sector_cache.specs.Disk.{Disk, IsWhole};
 ghost use Rattle.mmio_window.specs.declared.queue.Queue.{Queue};
 ghost use Rattle.mmio_window.specs.Queue.{queue_kind};
 ghost use Rattle.block_device.specs.declared.device.BlockDevice.{BlockDevice};
-ghost use Rattle.block_device.specs.Device.{GivesBy, block_device, exact_device};
+ghost use Rattle.block_device.specs.Device.{GivesBy, HasAnswer, block_device, exact_device};
 ghost use Rattle.block_device.specs.Outcome.{Completes, Ends};
 
 /// A chain is served exactly as over an image that never fails, or one failure more is counted.
@@ -19,12 +19,21 @@ pub fn one_failure_at_most()
         → GivesBy Completes device disk readable w given }
 {}
 
-/// Over an image that tells its bytes and doesn't fail there is one answer to a chain.
+/// Over an image that tells all of its bytes and doesn't fail there is one answer to a chain.
 pub fn one_answer()
-    ensures { (device : BlockDevice) (disk : Disk) (bytes readable : List ℕ) (w : ℕ) (one other : Given Disk)
+    ensures at_most_one { (device : BlockDevice) (disk : Disk) (bytes readable : List ℕ) (w : ℕ) (one other : Given Disk)
         → disk.told ≡ Some bytes
         → GivesBy Completes device disk readable w one → GivesBy Completes device disk readable w other
         → one ≡ other }
+    ensures some { (device : BlockDevice) (disk : Disk) (bytes readable : List ℕ) (w : ℕ)
+        → disk.told ≡ Some bytes → IsWhole disk → device.extent.count ≤ disk.sector_count
+        → HasAnswer device disk readable w }
+{}
+
+/// A service of the device never ends for want of memory.
+pub fn no_service_is_refused()
+    ensures { (device : BlockDevice) (old new : Site Queue Disk) (ending : Ending) (wanted : Bool)
+        → IsService queue_kind (block_device device) old new ending wanted → ending ≢ Refused }
 {}
 
 /// A service in which the number of failures stayed is one of the device that never fails.
@@ -35,8 +44,8 @@ pub fn a_service_without_failure_is_exact()
         → IsService queue_kind (exact_device device) old new ending wanted }
 {}
 
-/// Over an image that tells its bytes and doesn't fail there is one service of a queue.
-pub fn one_exact_service()
+/// Over an image that tells its bytes and doesn't fail there is at most one service of a queue.
+pub fn at_most_one_exact_service()
     ensures { (device : BlockDevice) (bytes : List ℕ) (old one other : Site Queue Disk)
         (ending end : Ending) (wanted wants : Bool) → old.state.told ≡ Some bytes
         → IsService queue_kind (exact_device device) old one ending wanted

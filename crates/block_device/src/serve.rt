@@ -4,12 +4,12 @@
 ghost use Rattle.std.specs.Prelude.{◌≡◌, ◌<◌, ◌≤◌, ◌↔◌, Option, IsTrue, nat_lt};
 ghost use Rattle.guest_memory.specs.Memory.{SameRange};
 ghost use Rattle.chain.specs.Service.{IsService, Runs};
-ghost use Rattle.mmio_window.specs.Queue.{LiesIn as QueueLiesIn, made_as, queue_kind};
+ghost use Rattle.mmio_window.specs.Queue.{LiesIn, made_as, queue_kind};
+ghost use Rattle.mmio_window.specs.Serving.{IsNotified, ending_of};
 ghost use Rattle.mmio_window.specs.Soundness.{IsSound};
 ghost use Rattle.mmio_window.specs.Window.{queue_at};
 ghost use Rattle.block_device.specs.Device.{block_device, exact_device};
-ghost use Rattle.block_device.specs.Extent.{LiesIn, KeepsOutside, extent_disk};
-ghost use Rattle.block_device.specs.Serving.{Notified, ending_of};
+ghost use Rattle.block_device.specs.Extent.{IsWithin, KeepsOutside, extent_disk};
 
 use crate::device::BlockDevice;
 use chain::{Chain, Fault};
@@ -46,9 +46,9 @@ impl BlockDevice {
         cache: &mut SectorCache<I, C>,
     ) -> bool
         requires sound { IsSound mem.old window.old }
-        requires lies { LiesIn (I.disk cache.old) self.now.extent }
+        requires lies { IsWithin (I.disk cache.old).sector_count self.now.extent }
 
-        ensures served { Notified (block_device self.now) (queue_at 0 window.old) mem.old mem.new
+        ensures served { IsNotified (block_device self.now) 0 (queue_at 0 window.old) mem.old mem.new
             window.old window.new (extent_disk self.now.extent (I.disk cache.old))
             (extent_disk self.now.extent (I.disk cache.new)) }
         ensures failed { IsTrue result ↔ ((I.disk cache.old).failures < (I.disk cache.new).failures) }
@@ -56,7 +56,7 @@ impl BlockDevice {
 
         // Where no image call failed the requests are determined.
         ensures exact { (I.disk cache.new).failures ≡ (I.disk cache.old).failures →
-            Notified (exact_device self.now) (queue_at 0 window.old) mem.old mem.new
+            IsNotified (exact_device self.now) 0 (queue_at 0 window.old) mem.old mem.new
             window.old window.new (extent_disk self.now.extent (I.disk cache.old))
             (extent_disk self.now.extent (I.disk cache.new)) }
 
@@ -84,8 +84,8 @@ impl BlockDevice {
         queue: &mut Queue,
         cache: &mut SectorCache<I, C>,
     ) -> Service
-        requires queue { QueueLiesIn mem.old queue.old }
-        requires lies { LiesIn (I.disk cache.old) self.now.extent }
+        requires queue { LiesIn mem.old queue.old }
+        requires lies { IsWithin (I.disk cache.old).sector_count self.now.extent }
         ensures service { IsService queue_kind (block_device self.now)
             (record { memory = mem.old; ring = queue.old; state = extent_disk self.now.extent (I.disk cache.old) })
             (record { memory = mem.new; ring = queue.new; state = extent_disk self.now.extent (I.disk cache.new) })
@@ -117,8 +117,8 @@ impl BlockDevice {
         queue: &mut Queue,
         cache: &mut SectorCache<I, C>,
     ) -> Work
-        requires queue { QueueLiesIn mem.old queue.old }
-        requires lies { LiesIn (I.disk cache.old) self.now.extent }
+        requires queue { LiesIn mem.old queue.old }
+        requires lies { IsWithin (I.disk cache.old).sector_count self.now.extent }
         ensures runs { Runs queue_kind (block_device self.now)
             (record { memory = mem.old; ring = queue.old; state = extent_disk self.now.extent (I.disk cache.old) })
             (ending_of result.fault)
@@ -128,7 +128,7 @@ impl BlockDevice {
         ensures rises { (I.disk cache.old).failures ≤ (I.disk cache.new).failures }
         ensures outside { KeepsOutside self.now.extent (I.disk cache.old) (I.disk cache.new) }
         ensures range { SameRange mem.old mem.new }
-        ensures queue { QueueLiesIn mem.new queue.new }
+        ensures queue { LiesIn mem.new queue.new }
         ensures made { made_as queue.new ≡ made_as queue.old }
     {
         let mut chain = Chain::new();

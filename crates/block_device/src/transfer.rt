@@ -6,7 +6,7 @@ ghost use Rattle.guest_memory.specs.Memory.{SameRange};
 ghost use Rattle.chain.specs.Buffers.{Within};
 ghost use Rattle.chain.specs.Bytes.{readable_of, writable_of};
 ghost use Rattle.block_device.specs.declared.request.Request.TheVariants.{Read, Write};
-ghost use Rattle.block_device.specs.Extent.{LiesIn, KeepsOutside, extent_disk};
+ghost use Rattle.block_device.specs.Extent.{IsWithin, KeepsOutside, extent_disk};
 ghost use Rattle.block_device.specs.Request.{payload_of};
 ghost use Rattle.block_device.specs.Progress.{IsDone};
 
@@ -54,7 +54,7 @@ impl BlockDevice {
         count: u64,
     ) -> Done
         requires inside { All (Within mem.old) chain.now }
-        requires lies { LiesIn (I.disk cache.old) self.now.extent }
+        requires lies { IsWithin (I.disk cache.old).sector_count self.now.extent }
         requires sectors { sector + count ≤ self.now.extent.count }
         requires room { 512 * count ≤ length (writable_of chain.now) }
         requires fits { 512 * count < 2 ^ 64 }
@@ -97,7 +97,7 @@ impl BlockDevice {
         count: u64,
     ) -> Done
         requires inside { All (Within mem.now) chain.now }
-        requires lies { LiesIn (I.disk cache.old) self.now.extent }
+        requires lies { IsWithin (I.disk cache.old).sector_count self.now.extent }
         requires sectors { sector + count ≤ self.now.extent.count }
         requires payload { length (payload_of (readable_of mem.now chain.now)) ≡ 512 * count }
         requires fits { 512 * count + 16 < 2 ^ 64 }

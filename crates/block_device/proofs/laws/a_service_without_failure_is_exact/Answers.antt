@@ -1,4 +1,4 @@
-use Rattle.block_device.proofs.Services.{service_exact}
+use Rattle.block_device.proofs.Exact.{service_exact}
 use Rattle.block_device.proofs.laws.a_service_without_failure_is_exact.Goals as goal
 
 pub returns : goal.returns

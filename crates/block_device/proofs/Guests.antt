@@ -1,0 +1,128 @@
+-- The device as its guest knows it: where its extent lies, and how the image fares, are never seen.
+use Rattle.std.proofs.Common.{◌≡◌, ℕ, zero, suc, Option, List, refl, sym, ap, subst, ◌∙◌}
+use Rattle.std.specs.Prelude.{IfSome}
+use Rattle.std.specs.Option.{option_map}
+use Rattle.guest_memory.specs.Memory.{Memory}
+use Rattle.chain.specs.Service.{Given}
+use Rattle.chain.proofs.Simulating.{DoesAs, Matches}
+use Rattle.sector_cache.specs.Sector.{extent_of}
+use Rattle.sector_cache.specs.Disk.{Disk}
+use Rattle.mmio_window.specs.declared.queue.Queue.{Queue}
+use Rattle.mmio_window.specs.Serving.{IsNotified, Notified}
+use Rattle.mmio_window.specs.Window.{WindowState}
+use Rattle.mmio_window.proofs.Services.{NotifiedAs, notified_as}
+use Rattle.block_device.specs.declared.device.BlockDevice.{BlockDevice}
+use Rattle.block_device.specs.declared.request.Request.{Request}
+use Rattle.block_device.specs.declared.request.Request.TheVariants.{Rejected, Read, Write, Flush, GetId}
+use Rattle.block_device.specs.Request.{request_of, payload_of}
+use Rattle.block_device.specs.Outcome.{Outcome, Finds, with_sectors, completed, Completes, Ends}
+use Rattle.block_device.specs.Device.{given_of, GivesBy, block_device, device_by, exact_device}
+
+-- the device as one whose sectors are all that there are
+abbrev pub guest_device : BlockDevice → BlockDevice
+guest_device device = record { extent = record { start = 0; count = device.extent.count }; read_only = device.read_only }
+
+-- ---- where the extent lies is never seen
+
+gives_anywhere : (Way : Request → List ℕ → Disk → Outcome → Type 0) (device : BlockDevice) (disk : Disk) (readable : List ℕ) (w : ℕ) (given : Given Disk) → GivesBy Way device disk readable w given → GivesBy Way (guest_device device) disk readable w given
+gives_anywhere Way device disk readable zero given h = h
+gives_anywhere Way device disk readable (suc room) given h = h
+
+-- a device in the same state
+abbrev Same : Disk → Disk → Type 0
+Same s t = t ≡ s
+
+does_anywhere : (Way : Request → List ℕ → Disk → Outcome → Type 0) (device : BlockDevice) → DoesAs (device_by Way device) (device_by Way (guest_device device)) Same
+does_anywhere Way device = record {
+  takes = λ s t same. refl;
+  gives = λ s t readable w given same h. record {
+    state = given.state;
+    alike = refl;
+    gives = subst (λ (d : Disk). GivesBy Way (guest_device device) d readable w given) (sym same) (gives_anywhere Way device s readable w given h);
+  };
+  lacks_memory = λ s t readable w same h. h;
+}
+
+notified_anywhere : (Way : Request → List ℕ → Disk → Outcome → Type 0) (device : BlockDevice) (queue : Option Queue) (old new : Memory) (before after : WindowState) (s t : Disk) → IsNotified (device_by Way device) 0 queue old new before after s t → IsNotified (device_by Way (guest_device device)) 0 queue old new before after s t
+notified_anywhere Way device queue old new before after s t h =
+    let n : NotifiedAs (device_by Way (guest_device device)) Same 0 queue h.ending old new before after t s =
+    notified_as (device_by Way device) (device_by Way (guest_device device)) Same (does_anywhere Way device) 0 queue h.ending old new before after s t s refl h.notified in
+    record {
+      ending = h.ending;
+      notified = subst (λ (d : Disk). Notified (device_by Way (guest_device device)) 0 queue h.ending old new before after s d) n.alike n.notified;
+    }
+
+pub block_for_guest : (device : BlockDevice) (queue : Option Queue) (old new : Memory) (before after : WindowState) (s t : Disk) → IsNotified (block_device device) 0 queue old new before after s t → IsNotified (block_device (guest_device device)) 0 queue old new before after s t
+block_for_guest device = notified_anywhere Ends device
+
+pub exact_for_guest : (device : BlockDevice) (queue : Option Queue) (old new : Memory) (before after : WindowState) (s t : Disk) → IsNotified (exact_device device) 0 queue old new before after s t → IsNotified (exact_device (guest_device device)) 0 queue old new before after s t
+exact_for_guest device = notified_anywhere Completes device
+
+-- ---- how the image fares is never seen
+
+-- the same sectors, whatever failed and whatever is to be flushed
+pub record SameSectors (s t : Disk) : Type 0 where
+  pub told : t.told ≡ s.told
+  pub sectors : t.sector_count ≡ s.sector_count
+
+finds_same : (request : Request) (s t : Disk) (found : List ℕ) → SameSectors s t → Finds request s found → Finds request t found
+finds_same (Rejected status) s t found same h = h
+finds_same (Read sector count) s t found same h = record {
+  size = h.size;
+  told = subst (λ (o : Option (List ℕ)). IfSome o (λ bytes. found ≡ extent_of bytes sector count)) (sym same.told) h.told;
+}
+finds_same (Write sector count) s t found same h = h
+finds_same Flush s t found same h = h
+finds_same GetId s t found same h = h
+
+-- what is told to the driver is the same, and so are the sectors afterwards
+record SameOutcome (one other : Outcome) : Type 0 where
+  disk : SameSectors one.disk other.disk
+  found : other.found ≡ one.found
+  status : other.status ≡ one.status
+
+completed_same : (request : Request) (payload found : List ℕ) (s t : Disk) → SameSectors s t → SameOutcome (completed request payload found s) (completed request payload found t)
+completed_same (Rejected status) payload found s t same = record { disk = same; found = refl; status = refl }
+completed_same (Read sector count) payload found s t same = record { disk = same; found = refl; status = refl }
+completed_same (Write sector count) payload found s t same = record {
+  disk = record { told = ap (option_map (λ bytes. with_sectors bytes sector payload)) same.told; sectors = same.sectors };
+  found = refl;
+  status = refl;
+}
+completed_same Flush payload found s t same = record { disk = record { told = same.told; sectors = same.sectors }; found = refl; status = refl }
+completed_same GetId payload found s t same = record { disk = same; found = refl; status = refl }
+
+same_written : (room : ℕ) (one other : Outcome) → SameOutcome one other → (given_of room one).written ≡ (given_of room other).written
+same_written room one other same = rw (same.found, same.status) refl
+
+-- what was written, with another state
+abbrev given_with : Disk → List (Option ℕ) → Given Disk
+given_with disk written = record { state = disk; written = written }
+
+gives_same : (device : BlockDevice) (s t : Disk) (readable : List ℕ) (w : ℕ) (given : Given Disk) → SameSectors s t → GivesBy Completes device s readable w given → Matches (exact_device device) SameSectors t readable w given
+gives_same device s t readable zero given same h = record {
+  state = t;
+  alike = subst (λ (d : Disk). SameSectors d t) (sym (ap (λ (g : Given Disk). g.state) h)) same;
+  gives = ap (λ (written : List (Option ℕ)). given_with t written) (ap (λ (g : Given Disk). g.written) h);
+}
+gives_same device s t readable (suc room) given same h =
+    let request = request_of device readable room in
+    let payload = payload_of readable in
+    let other : Outcome = completed request payload h.is.found t in
+    let outcomes : SameOutcome h.outcome other = subst (λ (o : Outcome). SameOutcome o other) (sym h.is.is) (completed_same request payload h.is.found s t same) in
+    record {
+      state = other.disk;
+      alike = subst (λ (d : Disk). SameSectors d other.disk) (sym (ap (λ (g : Given Disk). g.state) h.given_is)) outcomes.disk;
+      gives = record {
+        outcome = other;
+        is = record { found = h.is.found; finds = finds_same request s t h.is.found same h.is.finds; is = refl };
+        given_is = ap (given_with other.disk) (ap (λ (g : Given Disk). g.written) h.given_is ∙ same_written room h.outcome other outcomes);
+      };
+    }
+
+pub exact_same : (device : BlockDevice) → DoesAs (exact_device device) (exact_device device) SameSectors
+exact_same device = record {
+  takes = λ s t same. refl;
+  gives = λ s t readable w given same h. gives_same device s t readable w given same h;
+  lacks_memory = λ s t readable w same h. h;
+}
