@@ -9,6 +9,7 @@ use Rattle.chain.specs.Service.{Device}
 use Rattle.sector_cache.specs.Disk.{Disk, IsWhole}
 use Rattle.sector_cache.specs.Sector.{extent_of}
 use Rattle.mmio_window.specs.declared.action.Action.{Action}
+use Rattle.mmio_window.specs.declared.queue.Queue.{Queue}
 use Rattle.mmio_window.specs.declared.action.Action.TheVariants as action
 use Rattle.mmio_window.specs.declared.device_kind.DeviceKind.{DeviceKind}
 use Rattle.mmio_window.specs.declared.device_kind.DeviceKind.TheVariants.{Block, Console}
@@ -25,7 +26,7 @@ use Rattle.board.specs.Image.{Health, Tells, bytes_of, health_of, sectors_of, di
 use Rattle.board.specs.Machine.{replies, register, device_of, with_write, IsBlockService, Finishes, Writes}
 use Rattle.board.specs.Slot.{SlotState, BoardSlot, state_of}
 use Rattle.board.specs.World.{MayGive}
-use Rattle.board.proofs.Guests.{disk_of_parts, block_for_guest, exact_for_guest}
+use Rattle.board.proofs.Guests.{disk_of_parts, guest_device, block_for_guest, exact_for_guest}
 
 -- ---- the extent as its guest sees it
 
@@ -84,37 +85,36 @@ block_served slot memory block = record slot { memory = memory; block = block }
 abbrev mid : ℕ → ℕ → ℕ → BoardSlot → WindowState
 mid offset width value slot = written offset width value slot.memory slot.block
 
--- a notification of the block device, where no call of the image needs to be exact
+-- A notification of the block device, where the device of the whole image does as its guest's own does:
+-- the device that may fail, and the one that never does.
+notified_by : (device_by : BlockDevice → Device Disk)
+    → ((device : BlockDevice) (queue : Option Queue) (old new : Memory) (before after : WindowState) (s t : Disk) → Notified (device_by device) queue old new before after s t → Notified (device_by (guest_device device)) queue old new before after s t)
+    → (slot : BoardSlot) (offset width value : ℕ) (memory : Memory) (block : WindowState) (old new : Disk) → Tells old → Tells new → IsWhole old → IsWhole new → LiesIn old slot.extent → LiesIn new slot.extent
+    → action_of offset width value slot.block ≡ action.Notify 0
+    → Notified (device_by (slot_device slot)) (queue_at 0 (mid offset width value slot)) slot.memory memory (mid offset width value slot) block (extent_disk slot.extent old) (extent_disk slot.extent new)
+    → Writes (device_by (device_of (state_of (bytes_of old) slot))) (state_of (bytes_of old) slot) Block offset width value (health_of old) (health_of new) (state_of (bytes_of new) (block_served slot memory block))
+notified_by device_by for_guest slot offset width value memory block old new tells tells' whole whole' lies lies' notify h =
+    let start = state_of (bytes_of old) slot in
+    let last = state_of (bytes_of new) (block_served slot memory block) in
+    let before = mid offset width value slot in
+    let count : slot.extent.count ≡ sectors_of start.extent = sym (count_of slot.extent old tells whole lies) in
+    let guest = for_guest (slot_device slot) (queue_at 0 before) slot.memory memory before block (extent_disk slot.extent old) (extent_disk slot.extent new) h in
+    let own = subst (λ c. Notified (device_by (counted_device slot.read_only c)) (queue_at 0 before) slot.memory memory before block (extent_disk slot.extent old) (extent_disk slot.extent new)) count guest in
+    let seen = seen_service (device_by (device_of start)) slot (block_served slot memory block) before old new tells tells' whole whole' lies lies' own in
+    let service : IsBlockService (device_by (device_of start)) (with_write Block offset width value start) last (health_of old) (health_of new) = record { notified = seen.notified; rest = refl } in
+    subst (λ (a : Action). Finishes (device_by (device_of start)) Block a (with_write Block offset width value start) last (health_of old) (health_of new)) (sym notify) service
+
 pub notified_writes : (slot : BoardSlot) (offset width value : ℕ) (memory : Memory) (block : WindowState) (old new : Disk) → Tells old → Tells new → IsWhole old → IsWhole new → LiesIn old slot.extent → LiesIn new slot.extent
     → action_of offset width value slot.block ≡ action.Notify 0
     → Notified (block_device (slot_device slot)) (queue_at 0 (mid offset width value slot)) slot.memory memory (mid offset width value slot) block (extent_disk slot.extent old) (extent_disk slot.extent new)
     → Writes (block_device (device_of (state_of (bytes_of old) slot))) (state_of (bytes_of old) slot) Block offset width value (health_of old) (health_of new) (state_of (bytes_of new) (block_served slot memory block))
-notified_writes slot offset width value memory block old new tells tells' whole whole' lies lies' notify h =
-    let start = state_of (bytes_of old) slot in
-    let last = state_of (bytes_of new) (block_served slot memory block) in
-    let before = mid offset width value slot in
-    let count : slot.extent.count ≡ sectors_of start.extent = sym (count_of slot.extent old tells whole lies) in
-    let guest = block_for_guest (slot_device slot) (queue_at 0 before) slot.memory memory before block (extent_disk slot.extent old) (extent_disk slot.extent new) h in
-    let own = subst (λ c. Notified (block_device (counted_device slot.read_only c)) (queue_at 0 before) slot.memory memory before block (extent_disk slot.extent old) (extent_disk slot.extent new)) count guest in
-    let seen = seen_service (block_device (device_of start)) slot (block_served slot memory block) before old new tells tells' whole whole' lies lies' own in
-    let service : IsBlockService (block_device (device_of start)) (with_write Block offset width value start) last (health_of old) (health_of new) = record { notified = seen.notified; rest = refl } in
-    subst (λ (a : Action). Finishes (block_device (device_of start)) Block a (with_write Block offset width value start) last (health_of old) (health_of new)) (sym notify) service
+notified_writes = notified_by block_device block_for_guest
 
--- the same, where no call of the image failed
 pub notified_writes_exactly : (slot : BoardSlot) (offset width value : ℕ) (memory : Memory) (block : WindowState) (old new : Disk) → Tells old → Tells new → IsWhole old → IsWhole new → LiesIn old slot.extent → LiesIn new slot.extent
     → action_of offset width value slot.block ≡ action.Notify 0
     → Notified (exact_device (slot_device slot)) (queue_at 0 (mid offset width value slot)) slot.memory memory (mid offset width value slot) block (extent_disk slot.extent old) (extent_disk slot.extent new)
     → Writes (exact_device (device_of (state_of (bytes_of old) slot))) (state_of (bytes_of old) slot) Block offset width value (health_of old) (health_of new) (state_of (bytes_of new) (block_served slot memory block))
-notified_writes_exactly slot offset width value memory block old new tells tells' whole whole' lies lies' notify h =
-    let start = state_of (bytes_of old) slot in
-    let last = state_of (bytes_of new) (block_served slot memory block) in
-    let before = mid offset width value slot in
-    let count : slot.extent.count ≡ sectors_of start.extent = sym (count_of slot.extent old tells whole lies) in
-    let guest = exact_for_guest (slot_device slot) (queue_at 0 before) slot.memory memory before block (extent_disk slot.extent old) (extent_disk slot.extent new) h in
-    let own = subst (λ c. Notified (exact_device (counted_device slot.read_only c)) (queue_at 0 before) slot.memory memory before block (extent_disk slot.extent old) (extent_disk slot.extent new)) count guest in
-    let seen = seen_service (exact_device (device_of start)) slot (block_served slot memory block) before old new tells tells' whole whole' lies lies' own in
-    let service : IsBlockService (exact_device (device_of start)) (with_write Block offset width value start) last (health_of old) (health_of new) = record { notified = seen.notified; rest = refl } in
-    subst (λ (a : Action). Finishes (exact_device (device_of start)) Block a (with_write Block offset width value start) last (health_of old) (health_of new)) (sym notify) service
+notified_writes_exactly = notified_by exact_device exact_for_guest
 
 -- ---- no service
 

@@ -8,5 +8,6 @@ pub mod Alone
 pub mod Failures
 pub mod Noted
 pub mod Runs
+pub mod Keeping
 pub mod Specs
 pub mod Faults

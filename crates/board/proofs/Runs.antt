@@ -9,7 +9,7 @@ use Rattle.board.specs.declared.reply.Reply.{Reply}
 use Rattle.board.specs.declared.reply.Reply.TheVariants.{NoMemory}
 use Rattle.board.specs.declared.reply.Record.{Record}
 use Rattle.board.specs.Slot.{SlotState}
-use Rattle.board.specs.World.{World, SlotStep, MissingStep, Step, Handles}
+use Rattle.board.specs.World.{World, SlotStep, MissingStep, Step, Handles, Answers}
 use Rattle.board.specs.Line.{Move, IsLine, IsQuiet, HadMemory, HasInterruptWords, IsRun, events_of, records_of}
 use Rattle.board.proofs.Alone.{alone, recorded_slot}
 use Rattle.board.proofs.Failures.{given_failures}
@@ -39,6 +39,10 @@ outside_at old event written new (Some s) step = step.outside
 pub step_outside : {A : Type 0} (old : World) (event : Event A) (written : Record A) (new : World) → Step old event written new → new.outside ≡ old.outside
 step_outside old event written new step = outside_at old event written new (slice_get old.slots event.slot) step
 
+-- where the board handled an event
+pub handled_outside : {A : Type 0} {old : World} {event : Event A} {reply : Reply A} {block console : ℕ} {before after : List ℕ} {new : World} → Handles old event reply block console before after new → new.outside ≡ old.outside
+handled_outside {A} {old} {event} {reply} {block} {console} {before} {after} {new} h = step_outside old event _ new h.step
+
 -- and in a line
 pub line_outside : {A : Type 0} (old : World) (moves : List (Move A)) (new : World) → IsLine old moves new → new.outside ≡ old.outside
 line_outside old [] new line = ap (λ (w : World). w.outside) line
@@ -57,6 +61,10 @@ quiet {A} g old (move ∷ moves) new line stood had =
       },
       quiet g move.after moves new line.1 (omega arith) (All-tail P move.written (records_of moves) had),
     )
+
+-- where the board handled an event it answered it
+pub answered : {A : Type 0} {old : World} {event : Event A} {reply : Reply A} {block console : ℕ} {before after : List ℕ} {new : World} → Handles old event reply block console before after new → Answers old event reply before after new
+answered h = record { written = _; step = h.step; replied = refl; appended = h.appended }
 
 -- a line goes on by one step
 line_more : {A : Type 0} (old mid new : World) (moves : List (Move A)) (move : Move A) → IsLine old moves mid → Step mid move.event move.written move.after → move.after ≡ new → IsLine old (moves ++ move ∷ []) new
@@ -110,6 +118,33 @@ run_of old new events before after reached = record {
   noted = λ g. line_noted g old reached.moves new reached.line;
   quiet = λ stood g had. quiet g old reached.moves new reached.line stood had;
 }
+
+-- two lines, the second from where the first ends, are one
+lines_join : {A : Type 0} (old mid new : World) (moves more : List (Move A)) → IsLine old moves mid → IsLine mid more new → IsLine old (moves ++ more) new
+lines_join old mid new [] more line rest = subst (λ (w : World). IsLine w more new) line rest
+lines_join old mid new (move ∷ moves) more line rest = (line.0, lines_join move.after mid new moves more line.1 rest)
+
+-- and so are two runs
+pub runs_join : {A : Type 0} (old mid new : World) (events more : List (Event A)) (before between after : List (Record A)) → IsRun old mid events before between → IsRun mid new more between after → IsRun old new (events ++ more) before after
+runs_join {A} old mid new events more before between after one other =
+    run_of old new (events ++ more) before after (record {
+      moves = one.moves ++ other.moves;
+      line = lines_join old mid new one.moves other.moves one.line other.line;
+      events_are =
+          map-append (λ (m : Move A). m.event) one.moves other.moves
+          ∙ (ap (λ es. es ++ events_of other.moves) one.events_are ∙ ap (λ es. events ++ es) other.events_are);
+      records_are =
+          other.records_are
+          ∙ (ap (λ rs. rs ++ records_of other.moves) one.records_are
+          ∙ (append_assoc before (records_of one.moves) (records_of other.moves)
+          ∙ ap (λ rs. before ++ rs) (sym (map-append (λ (m : Move A). m.written) one.moves other.moves))));
+    })
+
+-- a step is a run of one event
+pub step_run : {A : Type 0} (old new : World) (event : Event A) (written : Record A) (before : List (Record A)) → Step old event written new → IsRun old new (event ∷ []) before (before ++ written ∷ [])
+step_run {A} old new event written before step =
+    let move : Move A = record { event = event; written = written; after = new } in
+    run_of old new (event ∷ []) before (before ++ written ∷ []) (record { moves = move ∷ []; line = (step, refl); events_are = refl; records_are = refl })
 
 -- what holds where a call succeeded, of one that did
 pub where_ok : {T E : Type 0} (r : Result T E) (P : Type 0) → is_err r ≡ false → OnOk r P → P

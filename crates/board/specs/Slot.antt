@@ -1,6 +1,6 @@
 -- A slot: what its guest can see, and what the board keeps of it.
-use Rattle.std.specs.Prelude.{ℕ, ◌+◌, Bool, false, if◌then◌else◌, List}
-use Rattle.guest_memory.specs.Memory.{Memory, zeroed}
+use Rattle.std.specs.Prelude.{◌≡◌, ℕ, ◌+◌, Bool, false, if◌then◌else◌, List, length}
+use Rattle.guest_memory.specs.Memory.{Memory, SameRange, zeroed}
 use Rattle.negotiation.specs.Features.{block_seg_max, block_ro, block_blk_size, block_flush, indirect_desc, version_1}
 use Rattle.mmio_window.specs.declared.device_kind.DeviceKind.TheVariants.{Block, Console}
 use Rattle.mmio_window.specs.Soundness.{IsSound}
@@ -44,19 +44,33 @@ state_of bytes slot = record {
   rows = slot.rows;
 }
 
+-- All that a block request doesn't reach stays: the console's window and size, whether the disk may be
+-- written, where the memory lies and how large it is, and how many bytes the disk has.
+pub record KeepsBesideDisk (old new : SlotState) : Type 0 where
+  pub console : new.console ≡ old.console
+  pub cols : new.cols ≡ old.cols
+  pub rows : new.rows ≡ old.rows
+  pub read_only : new.read_only ≡ old.read_only
+  pub memory : SameRange old.memory new.memory
+  pub extent : length new.extent ≡ length old.extent
+
 -- both windows are sound for the memory: their ready queues lie in it
 pub record HasSoundWindows (memory : Memory) (block console : WindowState) : Type 0 where
   pub block_sound : IsSound memory block
   pub console_sound : IsSound memory console
 
--- the features that a block device offers (5.2.3, 6); one that refuses writes says so
+-- the features that every device offers (6)
+abbrev pub device_features : ℕ
+device_features = indirect_desc + version_1
+
+-- the features that a block device offers (5.2.3); one that refuses writes says so
 abbrev pub block_features : Bool → ℕ
 block_features read_only =
-    (if read_only then block_ro else 0) + block_seg_max + block_blk_size + block_flush + indirect_desc + version_1
+    (if read_only then block_ro else 0) + block_seg_max + block_blk_size + block_flush + device_features
 
--- the features that a console offers (6)
+-- a console offers no feature of its own (5.3.3)
 abbrev pub console_features : ℕ
-console_features = indirect_desc + version_1
+console_features = device_features
 
 -- a slot of a new board: its memory is all zeros, its windows are as after a reset, nothing met a
 -- refusal yet, and the rest is as it was asked for

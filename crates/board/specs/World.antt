@@ -172,3 +172,10 @@ MayLackMemory memory (Read window offset width) = ⊥
 MayLackMemory memory (Write window offset width value) = ⊥
 MayLackMemory memory (MemRead addr len) = (0 < len) × Inside memory addr len
 MayLackMemory memory (MemWrite addr bytes) = ⊥
+
+-- What can be seen of the board stays, but for what is noted of refusals, and nothing was put out.
+pub record KeepsBoard {A : Type 0} (old : World) (written : Record A) (new : World) : Type 0 where
+  pub slots : new.slots ≡ old.slots
+  pub outside : new.outside ≡ old.outside
+  pub health : new.health ≡ old.health
+  pub output : written.output ≡ []

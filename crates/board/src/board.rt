@@ -11,7 +11,7 @@ ghost use Rattle.board.specs.World.{Handles, Answers, MayLackMemory, disturbed_o
 
 use crate::bytes::Bytes;
 use crate::check;
-use crate::event::Event;
+use crate::event::{Event, EventKind};
 use crate::fault::BoardFault;
 use crate::reply::{Record, Reply, RunStop};
 use crate::slot::{self, Slot};
@@ -94,6 +94,7 @@ impl<I: Image, A: Allocator + Copy> Board<I, A> {
     }
 
     /// Handles one event to its end. What the slot's console puts out is appended to `out`.
+    #[tactic(auto, using(crate::proofs::Runs::answered))]
     pub fn step(&mut self, event: &Event<A>, out: &mut Vec<u8, A>) -> Reply<A>
         ensures step { Tells (I.disk self.old.image) →
             Answers (world_of I.disk self.old) event.now result out.old.items out.new.items
@@ -104,6 +105,8 @@ impl<I: Image, A: Allocator + Copy> Board<I, A> {
         ensures outside { Tells (I.disk self.old.image) →
             (world_of I.disk self.new).outside ≡ (world_of I.disk self.old).outside }
         ensures extents { extents_of self.new.slots ≡ extents_of self.old.slots }
+        ensures sectors {
+            (I.disk self.new.image).sector_count ≡ (I.disk self.old.image).sector_count }
         ensures rises { (I.disk self.old.image).failures ≤ (I.disk self.new.image).failures }
 
         // a refusal, of memory or of the image, is noted for the event's slot
@@ -119,7 +122,7 @@ impl<I: Image, A: Allocator + Copy> Board<I, A> {
             IsSomeAnd (slice_get self.old.slots event.now.slot)
             (λ slot. MayLackMemory slot.memory event.now.what) }
     {
-        self.handle(event, out).reply
+        self.handle(event.slot, &event.what, out).reply
     }
 
     /// Handles the events in their order, and appends a record for each. Where there is no memory
@@ -141,6 +144,8 @@ impl<I: Image, A: Allocator + Copy> Board<I, A> {
         ensures outside { Tells (I.disk self.old.image) →
             (world_of I.disk self.new).outside ≡ (world_of I.disk self.old).outside }
         ensures extents { extents_of self.new.slots ≡ extents_of self.old.slots }
+        ensures sectors {
+            (I.disk self.new.image).sector_count ≡ (I.disk self.old.image).sector_count }
         ensures rises { (I.disk self.old.image).failures ≤ (I.disk self.new.image).failures }
     {
         for (done, event) in events.iter().enumerate() {
@@ -148,7 +153,7 @@ impl<I: Image, A: Allocator + Copy> Board<I, A> {
                 return Err(RunStop { done });
             }
             let mut output = Vec::new(self.alloc);
-            let handled = self.handle(event, &mut output);
+            let handled = self.handle(event.slot, &event.what, &mut output);
             put(
                 records,
                 Record {
@@ -163,36 +168,39 @@ impl<I: Image, A: Allocator + Copy> Board<I, A> {
         Ok(())
     }
 
-    // Handles one event.
-    fn handle(&mut self, event: &Event<A>, out: &mut Vec<u8, A>) -> Handled<A>
+    // Handles one event of a slot.
+    fn handle(&mut self, slot: u8, what: &EventKind<A>, out: &mut Vec<u8, A>) -> Handled<A>
         ensures handles { Tells (I.disk self.old.image) →
-            Handles (world_of I.disk self.old) event.now
+            Handles (world_of I.disk self.old) (record { slot = slot; what = what.now })
             result.reply result.block_irq result.console_irq
             out.old.items out.new.items (world_of I.disk self.new) }
         ensures block_word { result.block_irq ≤ 3 }
         ensures console_word { result.console_irq ≤ 3 }
         ensures told { Tells (I.disk self.old.image) → Tells (I.disk self.new.image) }
+        ensures outside { Tells (I.disk self.old.image) →
+            (world_of I.disk self.new).outside ≡ (world_of I.disk self.old).outside }
         ensures extents { extents_of self.new.slots ≡ extents_of self.old.slots }
+        ensures sectors {
+            (I.disk self.new.image).sector_count ≡ (I.disk self.old.image).sector_count }
         ensures rises { (I.disk self.old.image).failures ≤ (I.disk self.new.image).failures }
-        ensures noted { disturbed_of self.new.slots ≡ noted event.now.slot
+        ensures noted { disturbed_of self.new.slots ≡ noted slot
             (met_refusal result.reply (I.disk self.old.image).failures (I.disk self.new.image).failures)
             (disturbed_of self.old.slots) }
-        ensures bad_slot { (result.reply ≡ Reply.BadSlot) ↔
-            (length self.old.slots ≤ event.now.slot) }
+        ensures bad_slot { (result.reply ≡ Reply.BadSlot) ↔ (length self.old.slots ≤ slot) }
         ensures bad_slot_keeps { result.reply ≡ Reply.BadSlot → self.new ≡ self.old }
         ensures bad_range_keeps { result.reply ≡ Reply.BadRange → self.new ≡ self.old }
         ensures no_memory { result.reply ≡ Reply.NoMemory →
-            IsSomeAnd (slice_get self.old.slots event.now.slot)
-            (λ slot. MayLackMemory slot.memory event.now.what) }
+            IsSomeAnd (slice_get self.old.slots slot)
+            (λ found. MayLackMemory found.memory what.now) }
     {
-        let Some(slot) = self.slots.get_mut(event.slot as usize) else {
+        let Some(slot) = self.slots.get_mut(slot as usize) else {
             return Handled {
                 reply: Reply::BadSlot,
                 block_irq: 0,
                 console_irq: 0,
             };
         };
-        let reply = slot.serve(self.alloc, &event.what, &mut self.cache, out);
+        let reply = slot.serve(self.alloc, what, &mut self.cache, out);
         Handled {
             reply,
             block_irq: slot.block_irq(),

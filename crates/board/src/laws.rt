@@ -1,13 +1,21 @@
 //! What holds of every line of events, by itself: no board is made or run here.
 
-ghost use Rattle.std.specs.Prelude.{◌≡◌, ℕ, List, Some};
+ghost use Rattle.std.specs.Prelude.{◌≡◌, ℕ, ◌+◌, ◌<◌, ◌≤◌, List, [], ◌∷◌, ◌++◌, Some, length};
 ghost use Rattle.std.specs.List.{slice_get};
+ghost use Rattle.chain.specs.Service.{Passes, Served, Site};
+ghost use Rattle.sector_cache.specs.Disk.{Disk};
+ghost use Rattle.mmio_window.specs.declared.queue.Queue.{Queue};
+ghost use Rattle.mmio_window.specs.Queue.{queue_kind};
+ghost use Rattle.block_device.specs.declared.device.BlockDevice.{BlockDevice};
+ghost use Rattle.block_device.specs.Device.{block_device};
+ghost use Rattle.board.specs.declared.event.Event.{Event};
 ghost use Rattle.board.specs.declared.event.EventKind.{EventKind};
+ghost use Rattle.board.specs.declared.reply.Reply.{Reply};
 ghost use Rattle.board.specs.declared.reply.Record.{Record};
-ghost use Rattle.board.specs.Line.{Move, IsLine, IsNoted, IsQuiet, IsAlone, SeesTheSame, events_of, own_events};
+ghost use Rattle.board.specs.Line.{Move, IsLine, IsNoted, IsQuiet, IsAlone, IsRun, SeesTheSame, events_of, own_events};
 ghost use Rattle.board.specs.Machine.{Outcome, IsNext, RunsOnItsOwn};
-ghost use Rattle.board.specs.Slot.{SlotState};
-ghost use Rattle.board.specs.World.{World};
+ghost use Rattle.board.specs.Slot.{SlotState, KeepsBesideDisk};
+ghost use Rattle.board.specs.World.{World, KeepsBoard, Step};
 
 use std::alloc::Allocator;
 
@@ -46,4 +54,36 @@ pub fn a_guest_alone_has_one_run<A: Allocator>()
         (records records' : List (Record A)) →
         RunsOnItsOwn g state events records one → RunsOnItsOwn g state events records' other →
         (records ≡ records') × (one ≡ other) }
+{}
+
+/// Two runs, the second from where the first ends, are one run over both lists of events.
+pub fn two_runs_are_one<A: Allocator>()
+    ensures { (old mid new : World) (events more : List (Event A)) (before between after : List (Record A)) →
+        IsRun old mid events before between → IsRun mid new more between after →
+        IsRun old new (events ++ more) before after }
+{}
+
+/// A step is a run of its one event.
+pub fn a_step_is_a_run<A: Allocator>()
+    ensures { (old new : World) (event : Event A) (written : Record A) (before : List (Record A)) →
+        Step old event written new → IsRun old new (event ∷ []) before (before ++ written ∷ []) }
+{}
+
+/// A read that found no memory changed nothing that can be seen, and put nothing out.
+pub fn a_read_without_memory_changes_nothing<A: Allocator>()
+    ensures { (old new : World) (slot addr len : ℕ) (written : Record A) →
+        Step old (record { slot = slot; what = EventKind.MemRead addr len }) written new →
+        written.reply ≡ Reply.NoMemory → KeepsBoard old written new }
+{}
+
+/// An event in which calls of the image failed keeps all of its slot that a block request doesn't reach.
+/// Each request of its service counts one failure at most, so there are no more of them than requests.
+pub fn a_failed_event_keeps_the_rest<A: Allocator>()
+    ensures rest { (old new : World) (event : Event A) (written : Record A) (before after : SlotState) →
+        Step old event written new → old.health.failures < new.health.failures →
+        slice_get old.slots event.slot ≡ Some before → slice_get new.slots event.slot ≡ Some after →
+        KeepsBesideDisk before after }
+    ensures failures { (device : BlockDevice) (start at : Site Queue Disk) (requests : List (Served Disk)) →
+        Passes queue_kind (block_device device) start requests at →
+        at.state.failures ≤ start.state.failures + length requests }
 {}

@@ -29,8 +29,9 @@ pub use event::{Event, EventKind};
 pub use fault::BoardFault;
 pub use guest_memory::MemoryFault;
 pub use laws::{
-    a_guest_alone_has_one_run, each_guest_is_alone, nothing_else_is_seen, one_outcome,
-    refusals_are_noted,
+    a_failed_event_keeps_the_rest, a_guest_alone_has_one_run,
+    a_read_without_memory_changes_nothing, a_step_is_a_run, each_guest_is_alone,
+    nothing_else_is_seen, one_outcome, refusals_are_noted, two_runs_are_one,
 };
 pub use mmio_window::DeviceKind;
 pub use reply::{Record, Reply, RunStop};

@@ -2,6 +2,7 @@
 
 use crate::bytes::Bytes;
 use std::alloc::{Allocator, Global};
+use thiserror::Error;
 
 /// What a guest is answered.
 #[derive(Drop)]
@@ -38,7 +39,8 @@ pub struct Record<A: Allocator = Global> {
 
 /// A run that stopped, since there was no memory for the next record: the first `done` events are
 /// done and recorded, and the next one is untouched.
-#[derive(Clone, Copy, Debug, PartialEq, Eq)]
+#[derive(Clone, Copy, Debug, Error, PartialEq, Eq)]
+#[error("no memory for the record after the first {done}")]
 pub struct RunStop {
     pub done: usize,
 }

@@ -1,11 +1,11 @@
 //! Which slots have met a refusal.
 
-use super::driver::{DATA, IN, OUT, Request, STATUS, are_done, ask, bring_up, has};
-use super::{BASE, board, mem_read, mem_write, read, slot};
+use super::driver::{bring_up, request};
+use super::{Act, BASE, board, board_over, eight_sectors, event, events, gives, step, two_slots};
 use crate::{Board, DeviceKind, Image, Reply};
 use refusing::RefusingHeap;
 use sector_cache::ScriptedImage;
-use std::alloc::{Allocator, Global};
+use std::alloc::{AllocError, Allocator, Global};
 use std::process::Abort;
 use std::test::Fail;
 
@@ -20,116 +20,85 @@ const ONLY_THE_SECOND: [Option<bool>; 3] = [Some(false), Some(true), None];
 
 #[test]
 fn a_new_board_has_met_no_refusal(rt: HostRuntime) -> Result<(), Fail> {
-    let slots = [slot(0x1000, 0, 4), slot(0x1000, 4, 4)];
-    let board = board(rt.alloc(), rt.alloc(), &slots)?;
+    let board = board(rt.alloc(), rt.alloc(), &two_slots())?;
     assert_eq!(rt; noted(&board), NEITHER);
     assert_eq!(rt; board.disturbed(255), None);
     Ok(())
 }
 
+/// Each is of the second slot or of none, and only the last finds no memory where there is none.
+const READS: [(u8, Act, [Option<bool>; 3]); 5] = [
+    (1, Act::Load(BASE, 0), NEITHER),
+    (1, Act::Load(BASE + 0x1_0000, 1), NEITHER),
+    (2, Act::Load(BASE, 1), NEITHER),
+    (1, Act::Get(DeviceKind::Block, 0x000), NEITHER),
+    (1, Act::Load(BASE, 1), ONLY_THE_SECOND),
+];
+
 #[test]
 fn want_of_memory_is_noted(rt: HostRuntime) -> Result<(), Fail> {
     let heap = RefusingHeap::new(rt.alloc());
-    let slots = [slot(0x1000, 0, 4), slot(0x1000, 4, 4)];
-    let mut board = board(rt.alloc(), &heap, &slots)?;
+    let mut board = board(rt.alloc(), &heap, &two_slots())?;
     let mut out = Vec::new(&heap);
-    let events = [
-        (mem_read(1, BASE, 0), false),
-        (mem_read(1, BASE + 0x1000, 1), false),
-        (mem_read(2, BASE, 1), false),
-        (read(0, DeviceKind::Block, 0x000, 4), false),
-        (mem_read(1, BASE, 1), true),
-    ];
     heap.refuse_from(1);
-    for (event, lacks) in &events {
-        let reply = board.step(event, &mut out);
-        assert_eq!(rt; reply == Reply::NoMemory, *lacks);
-        let want = if *lacks { ONLY_THE_SECOND } else { NEITHER };
-        assert_eq!(rt; noted(&board), want);
+    for (slot, act, want) in READS {
+        let event = event(&heap, slot, act)?;
+        let lacks = step(&mut board, &event, &mut out) == Reply::NoMemory;
+        assert_eq!(rt; lacks, want == ONLY_THE_SECOND, "{act:?}");
+        assert_eq!(rt; noted(&board), want, "{act:?}");
     }
     heap.refuse_from(0);
-    for slot in 0..2 {
-        let reply = board.step(&mem_read(slot, BASE, 1), &mut out);
-        assert!(rt; reply == Reply::Bytes([0].to_vec(&heap)?.into()));
-        assert!(rt; noted(&board) == ONLY_THE_SECOND);
-    }
+    let event = event(&heap, 1, Act::Load(BASE, 1))?;
+    assert!(rt; gives(&step(&mut board, &event, &mut out), &[0]));
+    assert_eq!(rt; noted(&board), ONLY_THE_SECOND);
     Ok(())
 }
 
-/// A board of two slots over eight sectors, both block windows brought up, whose image fails in the
-/// calls of these numbers.
-fn failing(rt: &impl Abort, alloc: Global, calls: &[u64]) -> Result<Board<ScriptedImage>, Fail> {
-    let bytes = super::image(alloc)?.into_bytes();
-    let image = ScriptedImage::new(bytes, calls.to_vec(alloc)?)?;
-    let slots = [slot(0x1_0000, 0, 4), slot(0x1_0000, 4, 4)];
-    let mut board = Board::new(alloc, &slots, image, 8).map_err(|refused| refused.why)?;
-    for slot in 0..2 {
-        are_done(
-            rt,
-            alloc,
-            &mut board,
-            &bring_up(alloc, slot, DeviceKind::Block, 0)?,
-        );
+/// Handles events, each of which is done and puts nothing out.
+fn are_done<I: Image, A: Allocator + Copy>(
+    rt: &impl Abort,
+    alloc: A,
+    board: &mut Board<I, A>,
+    acts: &[(u8, Act)],
+) -> Result<(), AllocError> {
+    let mut out = Vec::new(alloc);
+    for (at, event) in events(alloc, acts)?.iter().enumerate() {
+        assert!(rt; step(board, event, &mut out) == Reply::Done, "event {at}");
     }
-    Ok(board)
+    assert!(rt; out.is_empty());
+    Ok(())
 }
 
-/// The image's first call, a read for slot 1, fails. Slot 0 is served as ever, and so is slot 1 afterwards.
+/// The image's first call, a read for slot 1, fails. What is noted stays when both are served afterwards.
 #[test]
 fn a_failing_read_is_noted(rt: HostRuntime) -> Result<(), Fail> {
     let alloc = rt.alloc();
-    let mut board = failing(&rt, alloc, &[0])?;
+    let image = ScriptedImage::new(eight_sectors(alloc)?, [0].to_vec(alloc)?)?;
+    let mut board = board_over(alloc, &two_slots(), image)?;
+    are_done(&rt, alloc, &mut board, &bring_up(0))?;
+    are_done(&rt, alloc, &mut board, &bring_up(1))?;
     assert_eq!(rt; noted(&board), NEITHER);
-    for (slot, idx, status, data) in [
-        (1, 1, 1, 0),
-        (0, 1, 0, 0x10),
-        (1, 2, 0, 0x14),
-        (1, 3, 0, 0x14),
-        (0, 2, 0, 0x10),
-    ] {
-        let request = Request {
-            kind: IN,
-            sector: 0,
-            idx,
-        };
-        ask(&rt, alloc, &mut board, slot, request)?;
+    for (slot, idx) in [(1, 1), (0, 1), (1, 2)] {
+        are_done(&rt, alloc, &mut board, &request(slot, idx))?;
         assert_eq!(rt;
             noted(&board),
             ONLY_THE_SECOND,
             "request {idx} of slot {slot}"
         );
-        assert!(rt; has(alloc, &mut board, slot, STATUS, &[status])?);
-        assert!(rt; has(alloc, &mut board, slot, DATA, &[data; 512])?);
     }
     Ok(())
 }
 
-/// An OUT writes its sector and flushes. Call 1 is slot 1's flush: it is told at once, to slot 1 alone.
+/// A ring of four can't have nine requests on offer: that is a fault, and no refusal.
 #[test]
-fn a_failing_flush_is_noted(rt: HostRuntime) -> Result<(), Fail> {
+fn a_fault_of_a_ring_is_not_noted(rt: HostRuntime) -> Result<(), Fail> {
     let alloc = rt.alloc();
-    let mut board = failing(&rt, alloc, &[1])?;
-    for (slot, status) in [(1, 1), (0, 0)] {
-        let request = Request {
-            kind: OUT,
-            sector: 0,
-            idx: 1,
-        };
-        are_done(
-            &rt,
-            alloc,
-            &mut board,
-            &[mem_write(alloc, slot, DATA, &[0x55; 512])?],
-        );
-        ask(&rt, alloc, &mut board, slot, request)?;
-        assert_eq!(rt; noted(&board), ONLY_THE_SECOND, "slot {slot}");
-        assert!(rt;
-            has(alloc, &mut board, slot, STATUS, &[status])?,
-            "slot {slot}"
-        );
-    }
-    let image = board.into_image();
-    assert_eq!(rt; (image.calls(), image.flushes()), (4, 2));
-    assert_eq!(rt; image.bytes().get(2048..2560), Some([0x55; 512].as_slice()));
+    let mut board = board(alloc, alloc, &two_slots())?;
+    are_done(&rt, alloc, &mut board, &bring_up(1))?;
+    are_done(&rt, alloc, &mut board, &request(1, 9))?;
+    let event = event(alloc, 1, Act::Get(DeviceKind::Block, 0x070))?;
+    let mut out = Vec::new(alloc);
+    assert!(rt; step(&mut board, &event, &mut out) == Reply::Value(0x4f));
+    assert_eq!(rt; noted(&board), NEITHER);
     Ok(())
 }

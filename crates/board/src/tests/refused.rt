@@ -1,53 +1,45 @@
 //! Each request for memory refused in turn.
 
-use super::driver::{DATA, IN, Request, STATUS, USED, bring_up, notify, offer};
-use super::{BASE, board, image, mem_read, mem_write, read, slot, write};
+use super::driver::{DATA, STATUS, USED, bring_up, request};
+use super::{Act, BASE, board, eight_sectors, events, image, run, slot, two_slots};
 use crate::{Board, BoardFault, DeviceKind, Event, Record, Reply};
 use refusing::RefusingHeap;
 use sector_cache::MemoryImage;
-use std::alloc::{AllocError, Allocator, Global};
+use std::alloc::{Allocator, Global};
 use std::process::Abort;
 use std::test::Fail;
 
-/// What two slots do: each reads its memory and writes it, and writes registers.
-fn events<A: Allocator + Copy>(alloc: A) -> Result<[Event<A>; 9], AllocError> {
-    Ok([
-        mem_write(alloc, 0, BASE, b"zero")?,
-        mem_write(alloc, 1, BASE, b"one")?,
-        mem_read(0, BASE, 4),
-        write(1, DeviceKind::Block, 0x070, 4, 1),
-        read(1, DeviceKind::Block, 0x070, 4),
-        mem_read(1, BASE, 3),
-        mem_read(1, BASE + 0x1000, 0),
-        write(0, DeviceKind::Block, 0x050, 4, 0),
-        mem_read(0, BASE + 2, 2),
-    ])
-}
+const BLOCK: DeviceKind = DeviceKind::Block;
 
-/// What slot 1 does to read a sector and to look at it, and slot 0 in between.
-fn reading<A: Allocator + Copy>(alloc: A) -> Result<Vec<Event<A>, A>, AllocError> {
-    let mut events = bring_up(alloc, 1, DeviceKind::Block, 0)?;
-    let request = Request {
-        kind: IN,
-        sector: 0,
-        idx: 1,
-    };
-    events.append(&mut offer(alloc, 1, request)?)?;
-    events.push(mem_read(0, USED, 4))?;
-    events.push(notify(1, DeviceKind::Block, 0))?;
-    events.push(mem_read(1, USED, 12))?;
-    events.push(mem_read(1, STATUS, 1))?;
-    events.push(mem_read(1, DATA, 4))?;
-    Ok(events)
-}
+/// What two slots do: each reads its memory and writes it, and writes registers.
+const BOTH: [(u8, Act); 9] = [
+    (0, Act::Store(BASE, b"zero")),
+    (1, Act::Store(BASE, b"one")),
+    (0, Act::Load(BASE, 4)),
+    (1, Act::Set(BLOCK, 0x070, 1)),
+    (1, Act::Get(BLOCK, 0x070)),
+    (1, Act::Load(BASE, 3)),
+    (1, Act::Load(BASE + 0x1000, 0)),
+    (0, Act::Set(BLOCK, 0x050, 0)),
+    (0, Act::Load(BASE + 2, 2)),
+];
+
+/// A look at what became of a read of slot 1, and at slot 0 beside it.
+const LOOKS: [(u8, Act); 4] = [
+    (0, Act::Load(USED, 4)),
+    (1, Act::Load(USED, 12)),
+    (1, Act::Load(STATUS, 1)),
+    (1, Act::Load(DATA, 4)),
+];
 
 #[test]
 fn a_refused_board_hands_the_image_back(rt: HostRuntime) -> Result<(), Fail> {
     let heap = RefusingHeap::new(rt.alloc());
-    let slots = [slot(0x1000, 0, 4), slot(0x1000, 4, 4)];
+    let bytes = eight_sectors(rt.alloc())?;
     for n in 1..100 {
+        let image = image(rt.alloc())?;
         heap.refuse_from(n);
-        match Board::new(&heap, &slots, image(rt.alloc())?, 8) {
+        match Board::new(&heap, &two_slots(), image, 8) {
             Ok(_) => {
                 assert!(rt; !heap.has_refused());
                 assert!(rt; n > 3, "the slots and two memories take memory");
@@ -56,7 +48,7 @@ fn a_refused_board_hands_the_image_back(rt: HostRuntime) -> Result<(), Fail> {
             Err(refused) => {
                 assert!(rt; heap.has_refused());
                 assert_eq!(rt; refused.why, BoardFault::NoMemory);
-                assert_eq!(rt; refused.image.bytes(), image(rt.alloc())?.bytes());
+                assert!(rt; refused.image.bytes() == bytes.as_slice());
             }
         }
     }
@@ -73,46 +65,74 @@ fn is_noted<A: Allocator + Copy>(
     board.disturbed(slot) == Some(lacked)
 }
 
-/// A run of two slots over these events, with each request for memory refused in turn. It stops before
-/// an event whose record finds no room, and can go on from there. A read that finds no memory says so,
-/// and every other record is that of ample memory. Answers how often it stopped, and how often a read
+/// What one run of two slots came to, of whose requests for memory one was refused.
+#[derive(Drop)]
+struct Tried<'h, A: Allocator> {
+    records: Vec<Record<&'h RefusingHeap<A>>, &'h RefusingHeap<A>>,
+    has_stopped: bool,
+    has_refused: bool,
+}
+
+/// A run of two slots over these events, with the nth request for memory refused. It stops before an event
+/// whose record finds no room, and goes on from there with ample memory.
+fn run_refusing<'h, A: Allocator + Copy>(
+    rt: &impl Abort,
+    alloc: Global,
+    heap: &'h RefusingHeap<A>,
+    events: &[Event<&'h RefusingHeap<A>>],
+    n: u64,
+) -> Result<Tried<'h, A>, Fail> {
+    let mut board = board(alloc, heap, &two_slots())?;
+    let mut records = Vec::new(heap);
+    heap.refuse_from(n);
+    let stopped = run(&mut board, events, &mut records);
+    let has_refused = heap.has_refused();
+    heap.refuse_from(0);
+    let has_stopped = stopped.is_err();
+    if let Err(stop) = stopped {
+        assert_eq!(rt; records.len(), stop.done);
+        assert_eq!(rt; run(&mut board, &events[stop.done..], &mut records), Ok(()));
+    }
+    assert!(rt; is_noted(&board, &records, 0) && is_noted(&board, &records, 1));
+    Ok(Tried {
+        records,
+        has_stopped,
+        has_refused,
+    })
+}
+
+/// How many of the records say that there was no memory. Every other one is that of ample memory.
+fn lacking<A: Allocator>(rt: &impl Abort, records: &[Record<A>], ample: &[Record<A>]) -> u32 {
+    assert_eq!(rt; records.len(), ample.len());
+    let mut count = 0u32;
+    for (entry, want) in records.iter().zip(ample) {
+        if entry.reply == Reply::NoMemory {
+            count = count.saturating_add(1);
+        } else {
+            assert!(rt; entry == want);
+        }
+    }
+    count
+}
+
+/// Runs with each request for memory refused in turn. Answers how often one stopped, and how often a read
 /// found no memory.
 fn counted<'h, A: Allocator + Copy>(
     rt: &impl Abort,
     alloc: Global,
     heap: &'h RefusingHeap<A>,
-    events: &[Event<&'h RefusingHeap<A>>],
+    acts: &[(u8, Act)],
 ) -> Result<(u32, u32), Fail> {
-    let slots = [slot(0x1_0000, 0, 4), slot(0x1_0000, 4, 4)];
-    let mut ample = Vec::new(heap);
-    let whole = board(alloc, heap, &slots)?.run(events, &mut ample);
-    assert_eq!(rt; whole, Ok(()));
-
+    let events = events(heap, acts)?;
+    let ample = run_refusing(rt, alloc, heap, &events, 0)?.records;
     let mut stops = 0u32;
-    let mut lacking = 0u32;
+    let mut found_none = 0u32;
     for n in 1..100 {
-        let mut board = board(alloc, heap, &slots)?;
-        let mut records = Vec::new(heap);
-        heap.refuse_from(n);
-        let stopped = board.run(events, &mut records);
-        let refused = heap.has_refused();
-        heap.refuse_from(0);
-        if let Err(stop) = stopped {
-            assert_eq!(rt; records.len(), stop.done);
-            assert_eq!(rt; board.run(&events[stop.done..], &mut records), Ok(()));
-            stops = stops.saturating_add(1);
-        }
-        assert_eq!(rt; records.len(), ample.len());
-        for (entry, want) in records.iter().zip(&ample) {
-            if entry.reply == Reply::NoMemory {
-                lacking = lacking.saturating_add(1);
-            } else {
-                assert!(rt; entry == want, "at request {n}");
-            }
-        }
-        assert!(rt; is_noted(&board, &records, 0) && is_noted(&board, &records, 1));
-        if !refused {
-            return Ok((stops, lacking));
+        let tried = run_refusing(rt, alloc, heap, &events, n)?;
+        stops = stops.saturating_add(u32::from(tried.has_stopped));
+        found_none = found_none.saturating_add(lacking(rt, &tried.records, &ample));
+        if !tried.has_refused {
+            return Ok((stops, found_none));
         }
     }
     panic!(rt; "memory was never ample")
@@ -123,9 +143,7 @@ fn counted<'h, A: Allocator + Copy>(
 #[test]
 fn a_refused_run_goes_on(rt: HostRuntime) -> Result<(), Fail> {
     let heap = RefusingHeap::new(rt.alloc());
-    let events = events(&heap)?;
-    let (stops, lacking) = counted(&rt, rt.alloc(), &heap, &events)?;
-    assert_eq!(rt; (stops, lacking), (5, 3));
+    assert_eq!(rt; counted(&rt, rt.alloc(), &heap, &BOTH)?, (5, 3));
     Ok(())
 }
 
@@ -134,36 +152,39 @@ fn a_refused_run_goes_on(rt: HostRuntime) -> Result<(), Fail> {
 #[test]
 fn a_refused_request_goes_on(rt: HostRuntime) -> Result<(), Fail> {
     let heap = RefusingHeap::new(rt.alloc());
-    let events = reading(&heap)?;
-    let (stops, lacking) = counted(&rt, rt.alloc(), &heap, &events)?;
-    assert_eq!(rt; (stops, lacking), (4, 10));
+    let mut acts = bring_up(1).to_vec(rt.alloc())?;
+    acts.extend_from_slice(&request(1, 1))?;
+    acts.extend_from_slice(&LOOKS)?;
+    assert_eq!(rt; counted(&rt, rt.alloc(), &heap, &acts)?, (4, 10));
     Ok(())
 }
+
+/// What asks for no memory: no bytes are given.
+const WITHOUT_BYTES: [(u8, Act); 8] = [
+    (0, Act::Get(BLOCK, 0x000)),
+    // the queue is ready, and nothing is on offer
+    (0, Act::Set(BLOCK, 0x050, 0)),
+    (0, Act::Get(BLOCK, 0x044)),
+    (0, Act::Set(DeviceKind::Console, 0x108, 0x41)),
+    (0, Act::Store(BASE, b"zero")),
+    (0, Act::Load(BASE + 0x1_0000, 0)),
+    (0, Act::Load(BASE + 0x1_0000, 1)),
+    (9, Act::Get(BLOCK, 0x000)),
+];
 
 /// With room for the records, only the bytes of a reply ask for memory.
 #[test]
 fn an_event_without_bytes_takes_no_memory(rt: HostRuntime) -> Result<(), Fail> {
     let heap = RefusingHeap::new(rt.alloc());
     let mut board = board(rt.alloc(), &heap, &[slot(0x1_0000, 0, 4)])?;
-    let mut events = bring_up(&heap, 0, DeviceKind::Block, 0)?;
-    for event in [
-        read(0, DeviceKind::Block, 0x000, 4),
-        // the queue is ready, and nothing is on offer
-        notify(0, DeviceKind::Block, 0),
-        read(0, DeviceKind::Block, 0x044, 4),
-        write(0, DeviceKind::Console, 0x108, 1, 0x41),
-        mem_write(&heap, 0, BASE, b"zero")?,
-        mem_read(0, BASE + 0x1_0000, 0),
-        mem_read(0, BASE + 0x1_0000, 1),
-        read(9, DeviceKind::Block, 0x000, 4),
-    ] {
-        events.push(event)?;
-    }
+    let mut acts = bring_up(0).to_vec(rt.alloc())?;
+    acts.extend_from_slice(&WITHOUT_BYTES)?;
+    let events = events(&heap, &acts)?;
     let mut records = Vec::with_capacity(&heap, events.len())?;
     heap.refuse_from(1);
-    assert_eq!(rt; board.run(&events, &mut records), Ok(()));
+    assert_eq!(rt; run(&mut board, &events, &mut records), Ok(()));
     assert!(rt; !heap.has_refused());
-    let ready = records.get(20).map(|entry| entry.reply == Reply::Value(1));
+    let ready = records.get(17).map(|entry| entry.reply == Reply::Value(1));
     assert_eq!(rt; ready, Some(true), "the queue is ready");
     Ok(())
 }

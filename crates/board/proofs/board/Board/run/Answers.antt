@@ -31,6 +31,7 @@ loop-done-preserved g c =
       told = λ tells. c.handle-handled.ensures.told (c.loop-done.invariant.told tells);
       words = λ before. words_more c.loop-done.records.items c.put.new.records.items _ (rw (c.reserve.ensures.items, c.from.ensures) at c.put.ensures) (c.loop-done.invariant.words before) c.handle-handled.ensures.block_word c.handle-handled.ensures.console_word;
       extents = c.handle-handled.ensures.extents ∙ c.loop-done.invariant.extents;
+      sectors = c.handle-handled.ensures.sectors ∙ c.loop-done.invariant.sectors;
       rises = omega (arith, c.loop-done.invariant.rises, c.handle-handled.ensures.rises);
     }
 

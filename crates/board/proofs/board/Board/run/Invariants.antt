@@ -12,5 +12,6 @@ invariant-loop-done g l = record {
   told : Tells (g.I.Image.disk l.fn.self.image) → Tells (g.I.Image.disk l.self.image);
   words : All HasInterruptWords l.fn.records.items → All HasInterruptWords l.records.items;
   extents : extents_of l.self.slots ≡ extents_of l.fn.self.slots;
+  sectors : (g.I.Image.disk l.self.image).sector_count ≡ (g.I.Image.disk l.fn.self.image).sector_count;
   rises : (g.I.Image.disk l.fn.self.image).failures ≤ (g.I.Image.disk l.self.image).failures;
 }
