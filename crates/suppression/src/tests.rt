@@ -8,19 +8,21 @@ const BASE: u64 = 0x8000_0000;
 
 const AREA: u64 = BASE + 0x2000;
 
+/// used_event, the number of places used from 65534 on, and whether a notification is wanted.
+const SPLIT_EVENTS: [(u16, u16, bool); 6] = [
+    (65535, 2, true),
+    (0, 2, false),
+    (65533, 2, false),
+    (65534, 2, true),
+    (0, 3, true),
+    (65534, 0, false),
+];
+
 /// The available ring of a queue of 4 ends with used_event, 12 bytes into it.
 #[test]
 fn split_driver_names_a_place(rt: HostRuntime) -> Result<(), Fail> {
     let mut mem = GuestMemory::new(rt.alloc(), BASE, 0x1_0000)?;
-    let rows = [
-        (65535, 2, true),
-        (0, 2, false),
-        (65533, 2, false),
-        (65534, 2, true),
-        (0, 3, true),
-        (65534, 0, false),
-    ];
-    for (used_event, count, wanted) in rows {
+    for (used_event, count, wanted) in SPLIT_EVENTS {
         assert!(rt; mem.put_u16(AREA + 12, used_event));
         assert!(rt; mem.holds(AREA, 14));
         let wants = split_wants(&mem, AREA, 4, true, 65534, count);
@@ -29,41 +31,106 @@ fn split_driver_names_a_place(rt: HostRuntime) -> Result<(), Fail> {
     Ok(())
 }
 
+/// The flags; whether VIRTIO_F_EVENT_IDX was negotiated; used_event; the number of places used from 7 on; and
+/// whether a notification is wanted.
+const SPLIT_FLAGS: [(u16, bool, u16, u16, bool); 20] = [
+    (0, false, 7, 1, true),
+    (1, false, 7, 1, false),
+    (2, false, 7, 1, true),
+    (3, false, 7, 1, false),
+    (0xfffe, false, 7, 1, true),
+    (0xffff, false, 7, 1, false),
+    // The feature is what gives used_event a meaning.
+    (0, false, 8, 1, true),
+    (1, false, 8, 1, false),
+    (0, false, 7, 0, false),
+    // With it the flags have none.
+    (0, true, 7, 1, true),
+    (1, true, 7, 1, true),
+    (2, true, 7, 1, true),
+    (3, true, 7, 1, true),
+    (0xffff, true, 7, 1, true),
+    (0, true, 8, 1, false),
+    (1, true, 8, 1, false),
+    (2, true, 8, 1, false),
+    (3, true, 8, 1, false),
+    (0xffff, true, 8, 1, false),
+    (0, true, 7, 0, false),
+];
+
 #[test]
-fn split_driver_sets_a_flag(rt: HostRuntime) -> Result<(), Fail> {
+fn split_driver_sets_flags(rt: HostRuntime) -> Result<(), Fail> {
     let mut mem = GuestMemory::new(rt.alloc(), BASE, 0x1_0000)?;
-    for (flags, count, wanted) in [(0, 1, true), (1, 1, false), (2, 1, true), (0, 0, false)] {
+    for (flags, event_idx, used_event, count, wanted) in SPLIT_FLAGS {
         assert!(rt; mem.put_u16(AREA, flags));
+        assert!(rt; mem.put_u16(AREA + 12, used_event));
         assert!(rt; mem.holds(AREA, 14));
-        let wants = split_wants(&mem, AREA, 4, false, 7, count);
-        assert_eq!(rt; wants, wanted, "{count} places, flags {flags}");
+        let wants = split_wants(&mem, AREA, 4, event_idx, 7, count);
+        assert_eq!(rt;
+            wants,
+            wanted,
+            "{count} places, flags {flags:x}, used_event {used_event}"
+        );
     }
     Ok(())
 }
 
-/// In a ring of 3 the places are 0 to 5.
+/// In a ring of 3, whose places are 0 to 5: offset and wrap counter, flags, whether VIRTIO_F_EVENT_IDX was
+/// negotiated, the first place, the number of places passed, and whether a notification is wanted.
+const PACKED: [(u16, u16, bool, u16, u16, bool); 34] = [
+    // Places 1, 2 and 3 are passed. Offset 0 names place 3 with a wrap counter of 0, and place 0 with 1.
+    (0x0000, 0, false, 1, 3, true),
+    (0x0000, 1, false, 1, 3, false),
+    (0x0000, 2, false, 1, 3, true),
+    (0x0000, 3, false, 1, 3, true),
+    (0x0000, 0xfffc, false, 1, 3, true),
+    (0x0000, 0xfffd, false, 1, 3, false),
+    (0x0000, 0xfffe, false, 1, 3, true),
+    (0x0000, 0xffff, false, 1, 3, true),
+    (0x8000, 0, false, 1, 3, true),
+    (0x8000, 1, false, 1, 3, false),
+    (0x8000, 2, false, 1, 3, true),
+    (0x8000, 3, false, 1, 3, true),
+    (0x0000, 0, true, 1, 3, true),
+    (0x0000, 1, true, 1, 3, false),
+    (0x0000, 2, true, 1, 3, true),
+    (0x0000, 3, true, 1, 3, true),
+    (0x0000, 0xfffc, true, 1, 3, true),
+    (0x0000, 0xfffd, true, 1, 3, false),
+    (0x0000, 0xfffe, true, 1, 3, true),
+    (0x0000, 0xffff, true, 1, 3, true),
+    (0x8000, 0, true, 1, 3, true),
+    (0x8000, 1, true, 1, 3, false),
+    (0x8000, 2, true, 1, 3, false),
+    (0x8000, 3, true, 1, 3, true),
+    (0x8000, 0xfffe, true, 1, 3, false),
+    // An offset beside the ring names no place.
+    (0x0004, 2, true, 1, 3, false),
+    (0x8003, 2, true, 1, 3, false),
+    // Places 5 and 0.
+    (0x8000, 2, true, 5, 2, true),
+    (0x8001, 2, true, 5, 2, false),
+    (0x0002, 2, true, 5, 2, true),
+    // None is passed.
+    (0x0000, 0, false, 1, 0, false),
+    (0x0000, 2, false, 1, 0, false),
+    (0x8001, 2, true, 1, 0, false),
+    (0x0000, 3, true, 1, 0, false),
+];
+
 #[test]
 fn packed_driver_asks(rt: HostRuntime) -> Result<(), Fail> {
     let mut mem = GuestMemory::new(rt.alloc(), BASE, 0x1_0000)?;
-    let rows = [
-        // Places 1, 2 and 3; offset 0 is place 3 with a wrap counter of 0, and place 0 with 1.
-        ([0x00, 0x00, 0x02, 0x00], true, 1, 3, true),
-        ([0x00, 0x80, 0x02, 0x00], true, 1, 3, false),
-        ([0x04, 0x00, 0x02, 0x00], true, 1, 3, false),
-        ([0x00, 0x00, 0x03, 0x00], true, 1, 3, true),
-        ([0x00, 0x00, 0x01, 0x00], true, 1, 3, false),
-        ([0x00, 0x80, 0x02, 0x00], false, 1, 3, true),
-        // Places 5 and 0.
-        ([0x00, 0x80, 0x02, 0x00], true, 5, 2, true),
-        ([0x01, 0x80, 0x02, 0x00], true, 5, 2, false),
-        // None, although all are asked for.
-        ([0x00, 0x00, 0x00, 0x00], true, 1, 0, false),
-    ];
-    for (area, event_idx, from, passed, wanted) in rows {
-        assert!(rt; mem.put_u32(AREA, u32::from_le_bytes(area)));
+    for (event, flags, event_idx, from, passed, wanted) in PACKED {
+        assert!(rt; mem.put_u16(AREA, event));
+        assert!(rt; mem.put_u16(AREA + 2, flags));
         assert!(rt; mem.holds(AREA, 4));
         let wants = packed_wants(&mem, AREA, 3, event_idx, from, passed);
-        assert_eq!(rt; wants, wanted, "{passed} places from {from}, area {area:?}");
+        assert_eq!(rt;
+            wants,
+            wanted,
+            "{passed} places from {from}, event {event:x}, flags {flags:x}"
+        );
     }
     Ok(())
 }

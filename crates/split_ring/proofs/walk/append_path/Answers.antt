@@ -43,6 +43,6 @@ returns-then-descriptor-clause-ok g c =
       k,
       i,
       list_table split_tables c.args.table.indirect m (split_table m a) c.args.table.size c.args.head before after k i d
-      e c.loop-count-test.true c.if-index-table.false c.if-descriptor.true (ends k).known (ends k).apart (ends k).table c.loop-count.invariant,
+          e c.loop-count-test.true c.if-index-table.false c.if-descriptor.true (ends k).known (ends k).apart (ends k).table c.loop-count.invariant,
     ))
     c.append_table.ensures.ok
