@@ -1,4 +1,3 @@
-pub mod Gathering
 pub mod Reading
 pub mod Statuses
 pub mod AnyFiles

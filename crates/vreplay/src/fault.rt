@@ -1,15 +1,18 @@
-//! Why a call came to no good end.
+//! Why a call did not come to its end.
 
+use thiserror::Error;
 use trace::ReplayFault;
 
-/// Why a call came to no good end.
-#[derive(Clone, Copy, Debug, PartialEq, Eq)]
+/// Why a call did not come to its end.
+#[derive(Clone, Copy, Debug, PartialEq, Eq, Error)]
 pub enum Fault {
     /// The words name no call.
+    #[error("the words name no call")]
     Usage,
     /// What stopped the replay or the work round it: `Read` is also an image that can't be read or whose
     /// length is no multiple of 512, `Write` a file that can't be saved to, and `NoMemory` want of memory
     /// for the words or the image.
+    #[error(transparent)]
     Replay(ReplayFault),
 }
 

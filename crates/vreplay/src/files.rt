@@ -2,6 +2,7 @@
 
 ghost use Rattle.std.specs.Prelude.{◌≡◌, IfOk, IfErr, OnOk, is_some};
 ghost use Rattle.std.specs.Io.KnownBytes.{Appends};
+ghost use Rattle.trace.specs.LastLine.{AppendsFront};
 
 use crate::image::read_image;
 use crate::replayed::replayed;
@@ -11,7 +12,7 @@ use std::alloc::Allocator;
 use std::fs;
 use std::io::Write;
 use std::rt::Files;
-use trace::ReplayFault;
+use trace::{ReplayFault, write_whole};
 
 /// Replays the call's trace over its image, and then saves the image's bytes where the call asks for it.
 /// The answer is the file that was saved to. The image's own file is only read.
@@ -57,13 +58,15 @@ fn save<R: Files>(rt: &R, path: &str, bytes: &[u8]) -> Result<R::File, ReplayFau
     Ok(file)
 }
 
-// Writes the bytes to the file, whole.
+// Writes the bytes to the file, whole, or a front of them.
 fn send<W: Write>(file: &mut W, bytes: &[u8]) -> Result<(), ReplayFault>
     ensures whole { OnOk result (Appends (W.contents file.old) (W.contents file.new) bytes.now) }
+    ensures front { AppendsFront (W.contents file.old) (W.contents file.new) bytes.now }
     ensures fault { IfErr result (λ fault. fault ≡ ReplayFault.Write) }
 {
-    match file.write_all(bytes) {
-        Ok(()) => Ok(()),
-        Err(_) => Err(ReplayFault::Write),
+    if write_whole(file, bytes) {
+        Ok(())
+    } else {
+        Err(ReplayFault::Write)
     }
 }

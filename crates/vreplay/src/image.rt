@@ -5,11 +5,10 @@ ghost use Rattle.std.specs.Io.KnownBytes.{IsAtEnd};
 ghost use Rattle.sector_cache.specs.Disk.{new_disk};
 ghost use Rattle.sector_cache.specs.MemoryImage.{disk_of};
 
-use crate::gather::gather;
 use sector_cache::{ImageFault, MemoryImage};
 use std::alloc::{AllocError, Allocator};
 use std::io::Read;
-use trace::ReplayFault;
+use trace::{ReplayFault, gather};
 
 /// The bytes of the image of a call without words: eight sectors.
 const ZERO_BYTES: usize = 8 * 512;

@@ -6,7 +6,7 @@ ghost use Rattle.vreplay.specs.LastLine.{EndsBy};
 
 use crate::fault::Fault;
 use std::io::Write;
-use trace::finish;
+use trace::{finish, write_whole};
 
 /// The status where the words are refused.
 const REFUSED_USAGE: u8 = 2;
@@ -22,10 +22,13 @@ pub fn end<W: Write>(outcome: &Result<(), Fault>, out: &mut W) -> u8
 {
     match outcome {
         Ok(()) => finish(&Ok(()), out),
-        Err(Fault::Usage) => match out.write_all(b"fault usage\n") {
-            Ok(()) => REFUSED_USAGE,
-            Err(_) => LOST_OUTPUT,
-        },
+        Err(Fault::Usage) => {
+            if write_whole(out, b"fault usage\n") {
+                REFUSED_USAGE
+            } else {
+                LOST_OUTPUT
+            }
+        }
         Err(Fault::Replay(fault)) => finish(&Err(*fault), out),
     }
 }

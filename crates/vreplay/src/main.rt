@@ -6,13 +6,12 @@
 //! output, and where something was refused one last line says what. The status says it too.
 //!
 //! `words` reads what a call asks for, `image` makes the image, `replayed` replays and keeps the image,
-//! `files` does that over files, `fault` and `last_line` tell why a call came to no good end, and `program`
+//! `files` does that over files, `fault` and `last_line` tell why a call did not come to its end, and `program`
 //! puts them in their order. `laws` says of the words what callers may rely on.
 #![tactic(auto)]
 
 mod fault;
 mod files;
-mod gather;
 mod image;
 mod last_line;
 mod laws;

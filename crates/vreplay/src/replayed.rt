@@ -1,21 +1,26 @@
 //! A replay of which the image is wanted afterwards.
 
-ghost use Rattle.vreplay.specs.Replayed.{ComesTo};
+ghost use Rattle.std.specs.Prelude.{IfOk};
+ghost use Rattle.sector_cache.specs.MemoryImage.{disk_of};
+ghost use Rattle.board.specs.Image.{Tells};
+ghost use Rattle.vreplay.specs.Replayed.{ComesTo, HasRun};
 
-use sector_cache::Image;
+use sector_cache::MemoryImage;
 use std::alloc::Allocator;
 use std::io::{Read, Write};
 use trace::{ReplayFault, replay};
 
 /// Replays a trace over the image and writes its records. The image is handed back after a replay that
 /// came to its end.
-pub fn replayed<A: Allocator + Copy, T: Read, W: Write, I: Image + Drop>(
+pub fn replayed<A: Allocator + Copy, T: Read, W: Write>(
     alloc: A,
     trace: &mut T,
     out: &mut W,
-    image: I,
-) -> Result<I, ReplayFault>
-    ensures { ComesTo A I.disk (T.remaining trace.old) (W.contents out.old) (W.contents out.new) image result }
+    image: MemoryImage<A>,
+) -> Result<MemoryImage<A>, ReplayFault>
+    ensures comes_to { ComesTo (T.remaining trace.old) (W.contents out.old) (W.contents out.new) image result }
+    ensures tells { Tells (disk_of image) }
+    ensures run { IfOk result (λ after. HasRun A (T.remaining trace.old) (W.contents out.old) (W.contents out.new) (disk_of image) (disk_of after)) }
 {
     match replay(alloc, trace, out, image) {
         (image, Ok(())) => Ok(image),

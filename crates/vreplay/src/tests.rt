@@ -1,15 +1,15 @@
-//! The program over streams and files of the tests' own, and over real files.
+//! The program over streams and files of the tests' own, and a replay over real files.
 
+mod calls;
 mod disk;
-mod folder;
 mod input;
 mod machine;
-mod one_sector;
 mod order;
 mod over_files;
 mod refused;
 mod stopped;
 mod word_lists;
+mod written;
 
 use std::alloc::{AllocError, Global};
 
@@ -18,6 +18,9 @@ const TRACE: &[u8] = b"vreplay 1\ncache 1\nslot 80000000 1000 0 8 rw 50 19\nr 0 
 
 /// What a replay of it writes.
 const RECORDS: &[u8] = b"0 v:00000003 - 0 0\n";
+
+/// The same, where the output or the file to save to then fails.
+const UNSAVED: &[u8] = b"0 v:00000003 - 0 0\nfault output\n";
 
 /// The words as the program takes them.
 fn words_of(heap: Global, words: &[&str]) -> Result<Vec<String>, AllocError> {
@@ -32,9 +35,7 @@ fn words_of(heap: Global, words: &[&str]) -> Result<Vec<String>, AllocError> {
 fn numbered_image(heap: Global) -> Result<Vec<u8>, AllocError> {
     let mut bytes = Vec::new(heap);
     for sector in 0x10..0x18 {
-        for _ in 0..512 {
-            bytes.push(sector)?;
-        }
+        bytes.extend_from_slice(&[sector; 512])?;
     }
     Ok(bytes)
 }

@@ -1,42 +1,53 @@
 //! Files in memory that fail at a chosen call.
 
 use super::machine::unsupported;
-use std::alloc::{Allocator, Global};
+use std::alloc::Global;
 use std::cell::{Cell, RefCell};
-use std::fs::{Metadata, OpenFile, OpenOptions};
+use std::fs::{Metadata, OpenFile};
 use std::io;
 use std::io::{ErrorKind, Read, Seek, SeekFrom, Write};
-use std::rt::Files;
 
 /// The files `trace`, `image` and `saved`. Their calls are numbered from 0, and from one on all fail.
 #[derive(Drop)]
-pub struct Disk<'a> {
-    pub trace: &'a [u8],
-    pub image: &'a [u8],
-    /// What `saved` holds.
-    pub saved: RefCell<Vec<u8>>,
-    /// How many calls there were.
-    pub calls: Cell<u32>,
-    /// The first call that fails.
+pub struct Disk {
+    trace: RefCell<Vec<u8>>,
+    image: RefCell<Vec<u8>>,
+    saved: RefCell<Vec<u8>>,
+    calls: Cell<u32>,
     fails_from: u32,
 }
 
-impl<'a> Disk<'a> {
-    /// Files whose calls succeed, of which `saved` holds the text `kept`.
-    pub(super) fn new(heap: Global, trace: &'a [u8], image: &'a [u8]) -> io::Result<Disk<'a>> {
+/// What the files hold in the end, and how many calls of them there were.
+#[derive(Drop)]
+pub struct Held {
+    pub image: Vec<u8>,
+    pub saved: Vec<u8>,
+    pub calls: u32,
+}
+
+impl Disk {
+    /// Files that hold these bytes, of which `saved` holds the text `kept`.
+    pub(super) fn new(
+        heap: Global,
+        trace: &[u8],
+        image: &[u8],
+        fails_from: u32,
+    ) -> io::Result<Disk> {
         Ok(Disk {
-            trace,
-            image,
+            trace: RefCell::new(trace.to_vec(heap)?),
+            image: RefCell::new(image.to_vec(heap)?),
             saved: RefCell::new(b"kept".to_vec(heap)?),
             calls: Cell::new(0),
-            fails_from: u32::MAX,
+            fails_from,
         })
     }
 
-    /// The same files, whose calls fail from this one on.
-    pub(super) fn failing_from(mut self, call: u32) -> Disk<'a> {
-        self.fails_from = call;
-        self
+    pub(super) fn into_held(self) -> Held {
+        Held {
+            image: self.image.into_inner(),
+            saved: self.saved.into_inner(),
+            calls: self.calls.get(),
+        }
     }
 
     /// Numbers a call, which may fail.
@@ -49,40 +60,59 @@ impl<'a> Disk<'a> {
         Ok(())
     }
 
-    fn clear_saved(&self) -> io::Result<()> {
-        match self.saved.try_borrow_mut() {
-            Ok(mut saved) => Ok(saved.clear()),
-            Err(_) => Err(io::Error::from(ErrorKind::ResourceBusy)),
+    /// Opens a file, to be read from its front or to be written anew.
+    pub(super) fn open(&self, name: &str, anew: bool) -> io::Result<DiskFile<'_>> {
+        self.call()?;
+        let held = match name {
+            "trace" => &self.trace,
+            "image" => &self.image,
+            "saved" => &self.saved,
+            _ => return Err(io::Error::from(ErrorKind::NotFound)),
+        };
+        if anew {
+            let Ok(mut bytes) = held.try_borrow_mut() else {
+                return Err(io::Error::from(ErrorKind::ResourceBusy));
+            };
+            bytes.clear();
         }
-    }
-
-    fn extend_saved(&self, bytes: &[u8]) -> io::Result<()> {
-        match self.saved.try_borrow_mut() {
-            Ok(mut saved) => Ok(saved.extend_from_slice(bytes)?),
-            Err(_) => Err(io::Error::from(ErrorKind::ResourceBusy)),
-        }
+        Ok(DiskFile {
+            disk: self,
+            held,
+            at: 0,
+        })
     }
 }
 
-/// An open file: what is left to be read, or `saved`.
+/// An open file of a disk, which was read up to a place.
 #[derive(Drop)]
 pub struct DiskFile<'a> {
-    disk: &'a Disk<'a>,
-    rest: &'a [u8],
+    disk: &'a Disk,
+    held: &'a RefCell<Vec<u8>>,
+    at: usize,
 }
 
 impl Read for DiskFile<'_> {
     fn read(&mut self, buf: &mut [u8]) -> io::Result<usize> {
         self.disk.call()?;
-        self.rest.read(buf)
+        let Ok(bytes) = self.held.try_borrow() else {
+            return Err(io::Error::from(ErrorKind::ResourceBusy));
+        };
+        let mut rest = &bytes[self.at.min(bytes.len())..];
+        let n = rest.read(buf)?;
+        self.at = self.at.saturating_add(n);
+        Ok(n)
     }
 }
 
+// It takes at most 3000 bytes at a time.
 impl Write for DiskFile<'_> {
     fn write(&mut self, buf: &[u8]) -> io::Result<usize> {
         self.disk.call()?;
         let n = buf.len().min(3000);
-        self.disk.extend_saved(&buf[..n])?;
+        let Ok(mut bytes) = self.held.try_borrow_mut() else {
+            return Err(io::Error::from(ErrorKind::ResourceBusy));
+        };
+        bytes.extend_from_slice(&buf[..n])?;
         Ok(n)
     }
 
@@ -91,6 +121,7 @@ impl Write for DiskFile<'_> {
     }
 }
 
+// The program reads and writes files from front to end, and does nothing else with them.
 impl Seek for DiskFile<'_> {
     fn seek(&mut self, _to: SeekFrom) -> io::Result<u64> {
         Err(unsupported())
@@ -111,69 +142,6 @@ impl OpenFile for DiskFile<'_> {
     }
 
     fn sync_data(&self) -> io::Result<()> {
-        Err(unsupported())
-    }
-}
-
-/// The files of a disk.
-#[derive(Drop)]
-pub struct Opener<'a> {
-    pub disk: &'a Disk<'a>,
-}
-
-impl<'a> Files for Opener<'a> {
-    type File = DiskFile<'a>;
-
-    type Dir = &'a [u8];
-
-    fn open_file(&self, how: &OpenOptions, path: &str) -> io::Result<DiskFile<'a>> {
-        let disk = self.disk;
-        disk.call()?;
-        let rest = match path {
-            "trace" => disk.trace,
-            "image" => disk.image,
-            "saved" => &[],
-            _ => return Err(io::Error::from(ErrorKind::NotFound)),
-        };
-        if how.asks_write() {
-            disk.clear_saved()?;
-        }
-        Ok(DiskFile { disk, rest })
-    }
-
-    fn open_dir(&self, _path: &str) -> io::Result<&'a [u8]> {
-        Err(unsupported())
-    }
-
-    fn metadata(&self, _path: &str) -> io::Result<Metadata> {
-        Err(unsupported())
-    }
-
-    fn symlink_metadata(&self, _path: &str) -> io::Result<Metadata> {
-        Err(unsupported())
-    }
-
-    fn copy(&self, _from: &str, _to: &str) -> io::Result<u64> {
-        Err(unsupported())
-    }
-
-    fn rename(&self, _from: &str, _to: &str) -> io::Result<()> {
-        Err(unsupported())
-    }
-
-    fn remove_file(&self, _path: &str) -> io::Result<()> {
-        Err(unsupported())
-    }
-
-    fn create_dir(&self, _path: &str) -> io::Result<()> {
-        Err(unsupported())
-    }
-
-    fn remove_dir(&self, _path: &str) -> io::Result<()> {
-        Err(unsupported())
-    }
-
-    fn remove_dir_all<B: Allocator>(&self, _alloc: B, _path: &str) -> io::Result<()> {
         Err(unsupported())
     }
 }

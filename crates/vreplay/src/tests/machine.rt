@@ -1,5 +1,6 @@
-//! A runtime of the tests' own: its input, an output with so much room, and files.
+//! A runtime of the tests' own: its input, an output with so much room, and files in memory.
 
+use super::disk::{Disk, DiskFile};
 use std::alloc::{Allocator, Global};
 use std::cell::RefCell;
 use std::fmt::Display;
@@ -8,41 +9,34 @@ use std::io;
 use std::io::{BufRead, ErrorKind, Lines};
 use std::rt::Files;
 
-/// A runtime with this input and these files, and an output that takes so many bytes and then fails.
+/// A runtime with this input and this disk, and an output that takes so many bytes and then fails.
 #[derive(Drop)]
-pub struct Machine<'a, F> {
+pub struct Machine<'a> {
     heap: Global,
     input: &'a [u8],
     room: usize,
     output: RefCell<Vec<u8>>,
-    files: &'a F,
+    disk: &'a Disk,
 }
 
-impl<'a, F: Files> Machine<'a, F> {
-    pub(super) fn new(heap: Global, input: &'a [u8], room: usize, files: &'a F) -> Machine<'a, F> {
+impl<'a> Machine<'a> {
+    pub(super) fn new(heap: Global, input: &'a [u8], room: usize, disk: &'a Disk) -> Machine<'a> {
         Machine {
             heap,
             input,
             room,
             output: RefCell::new(Vec::new(heap)),
-            files,
+            disk,
         }
     }
 
     /// What was written.
     pub(super) fn into_output(self) -> Vec<u8> {
-        let Machine {
-            heap: _,
-            input: _,
-            room: _,
-            output,
-            files: _,
-        } = self;
-        output.into_inner()
+        self.output.into_inner()
     }
 }
 
-impl<F> Alloc for Machine<'_, F> {
+impl Alloc for Machine<'_> {
     type A = Global;
 
     fn alloc(&self) -> Global {
@@ -50,7 +44,7 @@ impl<F> Alloc for Machine<'_, F> {
     }
 }
 
-impl<'a, F> Input for Machine<'a, F> {
+impl<'a> Input for Machine<'a> {
     type Reader = &'a [u8];
 
     fn read_line<A: Allocator + Clone>(&self, buf: &mut String<A>) -> io::Result<usize> {
@@ -67,7 +61,7 @@ impl<'a, F> Input for Machine<'a, F> {
 }
 
 // The program writes bytes alone.
-impl<F> Print for Machine<'_, F> {
+impl Print for Machine<'_> {
     fn print<D: Display + Drop>(&self, _value: D) -> io::Result<()> {
         Err(unsupported())
     }
@@ -88,16 +82,17 @@ impl<F> Print for Machine<'_, F> {
 }
 
 // The program opens files and does nothing else with them.
-impl<F: Files> Files for Machine<'_, F> {
-    type File = F::File;
+impl<'a> Files for Machine<'a> {
+    type File = DiskFile<'a>;
 
-    type Dir = F::Dir;
+    type Dir = &'a [u8];
 
-    fn open_file(&self, how: &OpenOptions, path: &str) -> io::Result<F::File> {
-        self.files.open_file(how, path)
+    fn open_file(&self, how: &OpenOptions, path: &str) -> io::Result<DiskFile<'a>> {
+        let disk = self.disk;
+        disk.open(path, how.asks_write())
     }
 
-    fn open_dir(&self, _path: &str) -> io::Result<F::Dir> {
+    fn open_dir(&self, _path: &str) -> io::Result<&'a [u8]> {
         Err(unsupported())
     }
 

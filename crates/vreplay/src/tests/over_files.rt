@@ -1,74 +1,162 @@
-//! The program over real files.
+//! Replays over real files, in a new folder for each test.
 
-use super::folder::{Folder, expect_end};
-use super::{RECORDS, TRACE, numbered_image};
+use super::written::{WRITING, WRITTEN, written_image};
+use super::{RECORDS, TRACE, UNSAVED, numbered_image};
+use crate::fault::Fault;
+use crate::files::replay_files;
+use crate::last_line::end;
+use crate::words::Call;
 use std::fs;
+use std::process::Abort;
+use std::rt::{Env, Files};
 use std::test::Fail;
 
-#[test]
-fn a_replay_over_files(rt: HostRuntime) -> Result<(), Fail> {
-    let folder = Folder::new(&rt)?;
-    let bytes = numbered_image(rt.alloc())?;
-    let trace = folder.file(&rt, "trace", TRACE)?;
-    let image = folder.file(&rt, "image", &bytes)?;
-    expect_end(&rt, &trace, &image, None, RECORDS, 0)?;
-    let made = folder.path_of(&rt, "made")?;
-    expect_end(&rt, &trace, &image, Some(&made), RECORDS, 0)?;
-    assert_eq!(rt; fs::read(&rt, &made)?.as_slice(), bytes.as_slice());
-    let longer = folder.file(&rt, "longer", &[7; 5000])?;
-    expect_end(&rt, &trace, &image, Some(&longer), RECORDS, 0)?;
-    assert_eq!(rt; fs::read(&rt, &longer)?.as_slice(), bytes.as_slice());
-    expect_end(&rt, &trace, &image, Some(&image), RECORDS, 0)?;
-    assert_eq!(rt; fs::read(&rt, &image)?.as_slice(), bytes.as_slice());
-    let empty = folder.file(&rt, "empty", b"")?;
-    let outside = b"fault board ExtentOutside\n";
-    expect_end(&rt, &trace, &empty, None, outside, 1)?;
-    folder.remove(&rt)
+/// A new folder among the system's temporary files.
+fn new_folder(rt: &(impl Abort + AllocGlobal + Env + Files)) -> Result<String, Fail> {
+    let parent = std::env::temp_dir(rt)?;
+    for n in 0..1000 {
+        let path = format!(in rt.alloc(); "{}/vreplay-test-{n}", parent.display())?;
+        if fs::create_dir(rt, &path).is_ok() {
+            return Ok(path);
+        }
+    }
+    panic!(rt; "no folder can be made")
 }
 
-#[test]
-fn files_that_are_not_to_be_read(rt: HostRuntime) -> Result<(), Fail> {
-    let folder = Folder::new(&rt)?;
-    let trace = folder.file(&rt, "trace", TRACE)?;
-    let image = folder.file(&rt, "image", &numbered_image(rt.alloc())?)?;
-    let saved = folder.file(&rt, "saved", b"kept")?;
-    let ragged = folder.file(&rt, "ragged", &[0; 513])?;
-    let missing = folder.path_of(&rt, "missing")?;
-    let directory = folder.path_of(&rt, "")?;
-    let input = b"fault input\n";
-    expect_end(&rt, &trace, &ragged, Some(&saved), input, 3)?;
-    expect_end(&rt, &trace, &missing, Some(&saved), input, 3)?;
-    expect_end(&rt, &trace, &directory, Some(&saved), input, 3)?;
-    expect_end(&rt, &missing, &image, Some(&saved), input, 3)?;
-    expect_end(&rt, &directory, &image, Some(&saved), input, 3)?;
-    expect_end(&rt, "", "", Some(&saved), input, 3)?;
-    assert_eq!(rt; fs::read(&rt, &saved)?.as_slice(), b"kept".as_slice());
-    folder.remove(&rt)
+/// The path of a file in the folder. The empty name is a path by itself.
+fn path_of(rt: &impl AllocGlobal, folder: &str, name: &str) -> Result<String, Fail> {
+    if name.is_empty() {
+        return Ok(String::from_str(rt.alloc(), name)?);
+    }
+    Ok(format!(in rt.alloc(); "{folder}/{name}")?)
 }
 
-#[test]
-fn a_text_that_is_not_utf8(rt: HostRuntime) -> Result<(), Fail> {
-    let folder = Folder::new(&rt)?;
-    let trace = folder.file(&rt, "trace", b"vreplay 1\ncache 1\n\xff\xfe\n")?;
-    let image = folder.file(&rt, "image", &numbered_image(rt.alloc())?)?;
-    let saved = folder.file(&rt, "saved", b"kept")?;
-    let word = b"fault trace 3 Word\n";
-    expect_end(&rt, &trace, &image, Some(&saved), word, 1)?;
-    assert_eq!(rt; fs::read(&rt, &saved)?.as_slice(), b"kept".as_slice());
-    folder.remove(&rt)
+/// Writes the files of which each test needs some, and the trace.
+fn make_files(
+    rt: &(impl AllocGlobal + Files),
+    folder: &str,
+    trace: &[u8],
+    image: &[u8],
+) -> Result<(), Fail> {
+    for (name, bytes) in [
+        ("trace", trace),
+        ("image", image),
+        ("no_text", b"vreplay 1\ncache 1\n\xff\xfe\n"),
+        ("ragged", &[0; 513]),
+        ("empty", b""),
+        ("saved", b"kept"),
+        ("longer", &[7; 5000]),
+    ] {
+        fs::write(rt, &path_of(rt, folder, name)?, bytes)?;
+    }
+    Ok(())
 }
 
+/// The names of the trace, the image and the file to save to.
+type Names<'a> = (&'a str, &'a str, Option<&'a str>);
+
+/// A call with these files writes this and has this status.
+fn expect_end(
+    rt: &(impl Abort + AllocGlobal + Files),
+    folder: &str,
+    names: Names<'_>,
+    output: &[u8],
+    status: u8,
+) -> Result<(), Fail> {
+    let trace = path_of(rt, folder, names.0)?;
+    let image = path_of(rt, folder, names.1)?;
+    let saved = path_of(rt, folder, names.2.unwrap_or(""))?;
+    let call = Call {
+        trace: &trace,
+        image: &image,
+        save: if names.2.is_some() {
+            Some(&saved)
+        } else {
+            None
+        },
+    };
+    let mut written = Vec::new(rt.alloc());
+    let outcome = match replay_files(rt, rt.alloc(), &call, &mut written) {
+        Ok(_) => Ok(()),
+        Err(fault) => Err(Fault::from(fault)),
+    };
+    assert_eq!(rt; end(&outcome, &mut written), status, "{names:?}");
+    assert_eq!(rt; written.as_slice(), output, "{names:?}");
+    Ok(())
+}
+
+/// The file holds these bytes.
+fn expect_held(
+    rt: &(impl Abort + AllocGlobal + Files),
+    folder: &str,
+    name: &str,
+    bytes: &[u8],
+) -> Result<(), Fail> {
+    let held = fs::read(rt, &path_of(rt, folder, name)?)?;
+    assert_eq!(rt; held.as_slice(), bytes, "{name}");
+    Ok(())
+}
+
+const INPUT: &[u8] = b"fault input\n";
+
+/// Files that save nothing, with the end: `.` is the folder, and no file is called `missing`.
+const ENDS: [(Names<'static>, &[u8], u8); 12] = [
+    (("trace", "image", None), RECORDS, 0),
+    (("trace", "empty", None), b"fault board ExtentOutside\n", 1),
+    (("trace", "ragged", Some("saved")), INPUT, 3),
+    (("trace", "missing", Some("saved")), INPUT, 3),
+    (("trace", ".", Some("saved")), INPUT, 3),
+    (("missing", "image", Some("saved")), INPUT, 3),
+    ((".", "image", Some("saved")), INPUT, 3),
+    (("", "", Some("saved")), INPUT, 3),
+    (
+        ("no_text", "image", Some("saved")),
+        b"fault trace 3 Word\n",
+        1,
+    ),
+    (("trace", "image", Some(".")), UNSAVED, 3),
+    (("trace", "image", Some("missing/saved")), UNSAVED, 3),
+    (("trace", "image", Some("")), UNSAVED, 3),
+];
+
 #[test]
-fn files_that_are_not_to_be_saved_to(rt: HostRuntime) -> Result<(), Fail> {
-    let folder = Folder::new(&rt)?;
-    let trace = folder.file(&rt, "trace", TRACE)?;
-    let image = folder.file(&rt, "image", &numbered_image(rt.alloc())?)?;
-    let directory = folder.path_of(&rt, "")?;
-    let nowhere = folder.path_of(&rt, "missing/saved")?;
-    let mut text = RECORDS.to_vec(rt.alloc())?;
-    text.extend_from_slice(b"fault output\n")?;
-    expect_end(&rt, &trace, &image, Some(&directory), &text, 3)?;
-    expect_end(&rt, &trace, &image, Some(&nowhere), &text, 3)?;
-    expect_end(&rt, &trace, &image, Some(""), &text, 3)?;
-    folder.remove(&rt)
+fn ends_that_save_nothing(rt: HostRuntime) -> Result<(), Fail> {
+    let folder = new_folder(&rt)?;
+    let image = numbered_image(rt.alloc())?;
+    make_files(&rt, &folder, TRACE, &image)?;
+    for (names, output, status) in ENDS {
+        expect_end(&rt, &folder, names, output, status)?;
+        expect_held(&rt, &folder, "saved", b"kept")?;
+        expect_held(&rt, &folder, "image", &image)?;
+    }
+    Ok(fs::remove_dir_all(&rt, &folder)?)
+}
+
+/// A file is made, one that was longer is made anew, and the image's own is.
+#[test]
+fn an_image_that_no_guest_wrote_is_saved_as_it_was(rt: HostRuntime) -> Result<(), Fail> {
+    let folder = new_folder(&rt)?;
+    let image = numbered_image(rt.alloc())?;
+    make_files(&rt, &folder, TRACE, &image)?;
+    for name in ["made", "longer", "image"] {
+        expect_end(&rt, &folder, ("trace", "image", Some(name)), RECORDS, 0)?;
+        expect_held(&rt, &folder, name, &image)?;
+    }
+    Ok(fs::remove_dir_all(&rt, &folder)?)
+}
+
+/// What a guest wrote stands in the file that is saved to, and in the image's own only where that is the
+/// one.
+#[test]
+fn a_sector_that_a_guest_wrote_is_saved(rt: HostRuntime) -> Result<(), Fail> {
+    let folder = new_folder(&rt)?;
+    let image = numbered_image(rt.alloc())?;
+    let after = written_image(rt.alloc())?;
+    make_files(&rt, &folder, WRITING, &image)?;
+    expect_end(&rt, &folder, ("trace", "image", Some("made")), WRITTEN, 0)?;
+    expect_held(&rt, &folder, "made", &after)?;
+    expect_held(&rt, &folder, "image", &image)?;
+    expect_end(&rt, &folder, ("trace", "image", Some("image")), WRITTEN, 0)?;
+    expect_held(&rt, &folder, "image", &after)?;
+    Ok(fs::remove_dir_all(&rt, &folder)?)
 }

@@ -1,0 +1,89 @@
+//! Calls of the program over files in memory, as plain values, and what comes of them.
+
+use super::disk::{Disk, Held};
+use super::machine::Machine;
+use super::{TRACE, numbered_image, words_of};
+use crate::program::program_in;
+use std::alloc::Allocator;
+use std::process::Abort;
+use std::test::Fail;
+
+/// A call with these words: what is on its input, what the files `trace` and `image` hold, from which call
+/// on the files fail, and how many bytes the output takes.
+#[derive(Clone, Copy)]
+pub struct Call<'a> {
+    pub words: &'a [&'a str],
+    pub input: &'a [u8],
+    pub trace: &'a [u8],
+    pub image: Image,
+    pub fails_from: u32,
+    pub room: usize,
+}
+
+/// What a file holds in which an image is sought.
+#[derive(Clone, Copy)]
+pub enum Image {
+    /// Eight sectors, in which each byte of sector k is hex 10 + k.
+    Numbered,
+    /// 513 zeros.
+    Ragged,
+}
+
+/// A replay over files that saves, of which nothing fails.
+pub const SAVING: Call<'static> = Call {
+    words: &["trace", "image", "--save", "saved"],
+    input: b"",
+    trace: TRACE,
+    image: Image::Numbered,
+    fails_from: u32::MAX,
+    room: 1000,
+};
+
+/// What came of a call: its output, its status, and what the files then hold.
+#[derive(Drop)]
+pub struct Done {
+    pub output: Vec<u8>,
+    pub status: u8,
+    pub held: Held,
+}
+
+/// Makes the call, with the memory for all but the words from this heap.
+pub fn made<A: Allocator + Copy>(
+    rt: &impl AllocGlobal,
+    heap: A,
+    call: Call<'_>,
+) -> Result<Done, Fail> {
+    let image = match call.image {
+        Image::Numbered => numbered_image(rt.alloc())?,
+        Image::Ragged => vec![in rt.alloc(); 0; 513]?,
+    };
+    let disk = Disk::new(rt.alloc(), call.trace, &image, call.fails_from)?;
+    let machine = Machine::new(rt.alloc(), call.input, call.room, &disk);
+    let words = words_of(rt.alloc(), call.words)?;
+    let status = program_in(&machine, heap, words.as_slice());
+    let output = machine.into_output();
+    Ok(Done {
+        output,
+        status,
+        held: disk.into_held(),
+    })
+}
+
+/// The end of a call that saves nothing: its output, its status, and how many calls of the files there were.
+pub type End<'a> = (&'a [u8], u8, u32);
+
+/// The call ends so, and `saved` is as it was.
+pub fn expect_end(
+    rt: &(impl Abort + AllocGlobal),
+    call: Call<'_>,
+    end: End<'_>,
+) -> Result<(), Fail> {
+    let words = call.words;
+    let (output, status, calls) = end;
+    let done = made(rt, rt.alloc(), call)?;
+    assert_eq!(rt; done.output.as_slice(), output, "{words:?}");
+    assert_eq!(rt; done.status, status, "{words:?}");
+    assert_eq!(rt; done.held.calls, calls, "{words:?}");
+    assert_eq!(rt; done.held.saved.as_slice(), b"kept".as_slice(), "{words:?}");
+    Ok(())
+}

@@ -1,0 +1,121 @@
+//! A guest writes a sector, and what is saved.
+
+use super::calls::{Call, SAVING, made};
+use super::numbered_image;
+use std::alloc::{AllocError, Global};
+use std::test::Fail;
+
+/// A driver sets a split queue of four up and writes sector 2 from its memory: a header of 16 bytes, 512 bytes
+/// of data of which the first four and the last are no zeros, and the status.
+pub const WRITING: &[u8] = b"vreplay 1\n\
+cache 8\n\
+slot 80000000 10000 0 8 rw 50 19\n\
+w 0 b 070 4 00000000\n\
+w 0 b 070 4 00000001\n\
+w 0 b 070 4 00000003\n\
+w 0 b 024 4 00000000\n\
+w 0 b 020 4 00000000\n\
+w 0 b 024 4 00000001\n\
+w 0 b 020 4 00000001\n\
+w 0 b 070 4 0000000b\n\
+w 0 b 030 4 00000000\n\
+w 0 b 038 4 00000004\n\
+w 0 b 080 4 80001000\n\
+w 0 b 084 4 00000000\n\
+w 0 b 090 4 80002000\n\
+w 0 b 094 4 00000000\n\
+w 0 b 0a0 4 80003000\n\
+w 0 b 0a4 4 00000000\n\
+w 0 b 044 4 00000001\n\
+w 0 b 070 4 0000000f\n\
+mw 0 80001000 00400080000000001000000001000100\n\
+mw 0 80001010 00500080000000000002000001000200\n\
+mw 0 80001020 00600080000000000100000002000000\n\
+mw 0 80002000 000001000000\n\
+mw 0 80004000 01000000000000000200000000000000\n\
+mw 0 80005000 41424344\n\
+mw 0 800051ff 7a\n\
+mw 0 80006000 ff\n\
+w 0 b 050 4 00000000\n\
+mr 0 80003000 c\n\
+mr 0 80006000 1\n";
+
+/// Its records: what was set up and filled in, the notification, the used ring with one byte written, and the
+/// status.
+pub const WRITTEN: &[u8] = b"0 done - 0 0\n\
+0 done - 0 0\n\
+0 done - 0 0\n\
+0 done - 0 0\n\
+0 done - 0 0\n\
+0 done - 0 0\n\
+0 done - 0 0\n\
+0 done - 0 0\n\
+0 done - 0 0\n\
+0 done - 0 0\n\
+0 done - 0 0\n\
+0 done - 0 0\n\
+0 done - 0 0\n\
+0 done - 0 0\n\
+0 done - 0 0\n\
+0 done - 0 0\n\
+0 done - 0 0\n\
+0 done - 0 0\n\
+0 done - 0 0\n\
+0 done - 0 0\n\
+0 done - 0 0\n\
+0 done - 0 0\n\
+0 done - 0 0\n\
+0 done - 0 0\n\
+0 done - 0 0\n\
+0 done - 0 0\n\
+0 done - 1 0\n\
+0 b:000001000000000001000000 - 1 0\n\
+0 b:00 - 1 0\n";
+
+/// The numbered image with that sector in it.
+pub fn written_image(heap: Global) -> Result<Vec<u8>, AllocError> {
+    let mut bytes = Vec::new(heap);
+    bytes.extend_from_slice(&[0x10; 512])?;
+    bytes.extend_from_slice(&[0x11; 512])?;
+    bytes.extend_from_slice(b"ABCD")?;
+    bytes.extend_from_slice(&[0; 507])?;
+    bytes.push(b'z')?;
+    for sector in 0x13..0x18 {
+        bytes.extend_from_slice(&[sector; 512])?;
+    }
+    Ok(bytes)
+}
+
+/// FILE holds the image as the guest left it, and IMAGE what it held before.
+#[test]
+fn what_a_guest_wrote_is_saved(rt: HostRuntime) -> Result<(), Fail> {
+    let call = Call {
+        trace: WRITING,
+        ..SAVING
+    };
+    let done = made(&rt, rt.alloc(), call)?;
+    assert_eq!(rt; done.output.as_slice(), WRITTEN);
+    assert_eq!(rt; done.status, 0);
+    let before = numbered_image(rt.alloc())?;
+    let after = written_image(rt.alloc())?;
+    assert_eq!(rt; done.held.saved.as_slice(), after.as_slice());
+    assert_eq!(rt; done.held.image.as_slice(), before.as_slice());
+    Ok(())
+}
+
+/// FILE may be IMAGE.
+#[test]
+fn the_image_itself_is_saved_to(rt: HostRuntime) -> Result<(), Fail> {
+    let call = Call {
+        words: &["trace", "image", "--save", "image"],
+        trace: WRITING,
+        ..SAVING
+    };
+    let done = made(&rt, rt.alloc(), call)?;
+    assert_eq!(rt; done.output.as_slice(), WRITTEN);
+    assert_eq!(rt; done.status, 0);
+    let after = written_image(rt.alloc())?;
+    assert_eq!(rt; done.held.image.as_slice(), after.as_slice());
+    assert_eq!(rt; done.held.saved.as_slice(), b"kept".as_slice());
+    Ok(())
+}
