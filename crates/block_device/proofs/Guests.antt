@@ -43,7 +43,7 @@ does_anywhere Way device = record {
   lacks_memory = λ s t readable w same h. h;
 }
 
-notified_anywhere : (Way : Request → List ℕ → Disk → Outcome → Type 0) (device : BlockDevice) (queue : Option Queue) (old new : Memory) (before after : WindowState) (s t : Disk) → IsNotified (device_by Way device) 0 queue old new before after s t → IsNotified (device_by Way (guest_device device)) 0 queue old new before after s t
+pub notified_anywhere : (Way : Request → List ℕ → Disk → Outcome → Type 0) (device : BlockDevice) (queue : Option Queue) (old new : Memory) (before after : WindowState) (s t : Disk) → IsNotified (device_by Way device) 0 queue old new before after s t → IsNotified (device_by Way (guest_device device)) 0 queue old new before after s t
 notified_anywhere Way device queue old new before after s t h =
     let n : NotifiedAs (device_by Way (guest_device device)) Same 0 queue h.ending old new before after t s =
     notified_as (device_by Way device) (device_by Way (guest_device device)) Same (does_anywhere Way device) 0 queue h.ending old new before after s t s refl h.notified in

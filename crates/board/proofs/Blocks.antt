@@ -17,16 +17,19 @@ use Rattle.mmio_window.specs.Window.{WindowState, queue_at}
 use Rattle.mmio_window.specs.Writing.{action_of, written}
 use Rattle.block_device.specs.declared.device.BlockDevice.{BlockDevice}
 use Rattle.block_device.specs.declared.extent.Extent.{Extent}
-use Rattle.block_device.specs.Device.{block_device, exact_device}
-use Rattle.block_device.specs.Extent.{LiesIn, extent_disk}
-use Rattle.block_device.specs.Serving.{Notified}
+use Rattle.block_device.specs.Device.{block_device, device_by, exact_device}
+use Rattle.block_device.specs.Outcome.{Outcome}
+use Rattle.block_device.specs.declared.request.Request.{Request}
+use Rattle.block_device.specs.Extent.{IsWithin, extent_disk}
 use Rattle.board.specs.declared.event.EventKind.TheVariants.{Read, Write}
 use Rattle.board.specs.declared.reply.Reply.TheVariants.{Value, Done}
 use Rattle.board.specs.Image.{Health, Tells, bytes_of, health_of, sectors_of, disk_with}
 use Rattle.board.specs.Machine.{replies, register, device_of, with_write, IsBlockService, Finishes, Writes}
 use Rattle.board.specs.Slot.{SlotState, BoardSlot, state_of}
 use Rattle.board.specs.World.{MayGive}
-use Rattle.board.proofs.Guests.{disk_of_parts, guest_device, block_for_guest, exact_for_guest}
+use Rattle.block_device.proofs.Guests.{notified_anywhere}
+use Rattle.mmio_window.specs.Serving.{IsNotified}
+use Rattle.board.proofs.Guests.{disk_of_parts}
 
 -- ---- the extent as its guest sees it
 
@@ -37,7 +40,7 @@ count_at extent (Some bytes) sectors tells whole lies =
     omega (arith, long)
 
 -- the extent's bytes fill its sectors
-pub count_of : (extent : Extent) (disk : Disk) → Tells disk → IsWhole disk → LiesIn disk extent → sectors_of (extent_of (bytes_of disk) extent.start extent.count) ≡ extent.count
+pub count_of : (extent : Extent) (disk : Disk) → Tells disk → IsWhole disk → IsWithin disk.sector_count extent → sectors_of (extent_of (bytes_of disk) extent.start extent.count) ≡ extent.count
 count_of extent disk tells whole lies = count_at extent disk.told disk.sector_count tells whole lies
 
 told_at : (extent : Extent) (told : Option (List ℕ)) → IsSome told → option_map (λ bytes. extent_of bytes extent.start extent.count) told ≡ Some (extent_of (unwrap_or told []) extent.start extent.count)
@@ -45,7 +48,7 @@ told_at extent None tells = absurd (cc)
 told_at extent (Some bytes) tells = refl
 
 -- and are the disk that the device shows
-seen_disk : (extent : Extent) (disk : Disk) → Tells disk → IsWhole disk → LiesIn disk extent → extent_disk extent disk ≡ disk_with (extent_of (bytes_of disk) extent.start extent.count) (health_of disk)
+seen_disk : (extent : Extent) (disk : Disk) → Tells disk → IsWhole disk → IsWithin disk.sector_count extent → extent_disk extent disk ≡ disk_with (extent_of (bytes_of disk) extent.start extent.count) (health_of disk)
 seen_disk extent disk tells whole lies =
     disk_of_parts disk.failures disk.mark _ _ extent.count (sectors_of (extent_of (bytes_of disk) extent.start extent.count))
     (told_at extent disk.told tells) (sym (count_of extent disk tells whole lies))
@@ -62,18 +65,18 @@ counted_device read_only count = record { extent = record { start = 0; count = c
 -- what was served of the slot, with its extent as a disk of its own
 record SeenService (device : Device Disk) (slot after : BoardSlot) (before block : WindowState) (old new : Disk) : Type 0 where
   notified :
-      Notified device (queue_at 0 before) slot.memory after.memory before block
+      IsNotified device 0 (queue_at 0 before) slot.memory after.memory before block
       (disk_with (extent_of (bytes_of old) slot.extent.start slot.extent.count) (health_of old))
       (disk_with (extent_of (bytes_of new) slot.extent.start slot.extent.count) (health_of new))
 
-seen_service : (device : Device Disk) (slot after : BoardSlot) (before : WindowState) (old new : Disk) → Tells old → Tells new → IsWhole old → IsWhole new → LiesIn old slot.extent → LiesIn new slot.extent
-    → Notified device (queue_at 0 before) slot.memory after.memory before after.block (extent_disk slot.extent old) (extent_disk slot.extent new)
+seen_service : (device : Device Disk) (slot after : BoardSlot) (before : WindowState) (old new : Disk) → Tells old → Tells new → IsWhole old → IsWhole new → IsWithin old.sector_count slot.extent → IsWithin new.sector_count slot.extent
+    → IsNotified device 0 (queue_at 0 before) slot.memory after.memory before after.block (extent_disk slot.extent old) (extent_disk slot.extent new)
     → SeenService device slot after before after.block old new
 seen_service device slot after before old new tells tells' whole whole' lies lies' h = record {
   notified =
-      subst (λ (d : Disk). Notified device (queue_at 0 before) slot.memory after.memory before after.block d (disk_with (extent_of (bytes_of new) slot.extent.start slot.extent.count) (health_of new)))
+      subst (λ (d : Disk). IsNotified device 0 (queue_at 0 before) slot.memory after.memory before after.block d (disk_with (extent_of (bytes_of new) slot.extent.start slot.extent.count) (health_of new)))
       (seen_disk slot.extent old tells whole lies)
-      (subst (λ (d : Disk). Notified device (queue_at 0 before) slot.memory after.memory before after.block (extent_disk slot.extent old) d)
+      (subst (λ (d : Disk). IsNotified device 0 (queue_at 0 before) slot.memory after.memory before after.block (extent_disk slot.extent old) d)
       (seen_disk slot.extent new tells' whole' lies') h);
 }
 
@@ -85,36 +88,22 @@ block_served slot memory block = record slot { memory = memory; block = block }
 abbrev mid : ℕ → ℕ → ℕ → BoardSlot → WindowState
 mid offset width value slot = written offset width value slot.memory slot.block
 
--- A notification of the block device, where the device of the whole image does as its guest's own does:
--- the device that may fail, and the one that never does.
-notified_by : (device_by : BlockDevice → Device Disk)
-    → ((device : BlockDevice) (queue : Option Queue) (old new : Memory) (before after : WindowState) (s t : Disk) → Notified (device_by device) queue old new before after s t → Notified (device_by (guest_device device)) queue old new before after s t)
-    → (slot : BoardSlot) (offset width value : ℕ) (memory : Memory) (block : WindowState) (old new : Disk) → Tells old → Tells new → IsWhole old → IsWhole new → LiesIn old slot.extent → LiesIn new slot.extent
+-- a notification of the block device: of the one that may fail, and of the one that never does
+pub notified_writes : (Way : Request → List ℕ → Disk → Outcome → Type 0) (slot : BoardSlot) (offset width value : ℕ) (memory : Memory) (block : WindowState) (old new : Disk)
+    → Tells old → Tells new → IsWhole old → IsWhole new → IsWithin old.sector_count slot.extent → IsWithin new.sector_count slot.extent
     → action_of offset width value slot.block ≡ action.Notify 0
-    → Notified (device_by (slot_device slot)) (queue_at 0 (mid offset width value slot)) slot.memory memory (mid offset width value slot) block (extent_disk slot.extent old) (extent_disk slot.extent new)
-    → Writes (device_by (device_of (state_of (bytes_of old) slot))) (state_of (bytes_of old) slot) Block offset width value (health_of old) (health_of new) (state_of (bytes_of new) (block_served slot memory block))
-notified_by device_by for_guest slot offset width value memory block old new tells tells' whole whole' lies lies' notify h =
+    → IsNotified (device_by Way (slot_device slot)) 0 (queue_at 0 (mid offset width value slot)) slot.memory memory (mid offset width value slot) block (extent_disk slot.extent old) (extent_disk slot.extent new)
+    → Writes (device_by Way (device_of (state_of (bytes_of old) slot))) (state_of (bytes_of old) slot) Block offset width value (health_of old) (health_of new) (state_of (bytes_of new) (block_served slot memory block))
+notified_writes Way slot offset width value memory block old new tells tells' whole whole' lies lies' notify h =
     let start = state_of (bytes_of old) slot in
     let last = state_of (bytes_of new) (block_served slot memory block) in
     let before = mid offset width value slot in
     let count : slot.extent.count ≡ sectors_of start.extent = sym (count_of slot.extent old tells whole lies) in
-    let guest = for_guest (slot_device slot) (queue_at 0 before) slot.memory memory before block (extent_disk slot.extent old) (extent_disk slot.extent new) h in
-    let own = subst (λ c. Notified (device_by (counted_device slot.read_only c)) (queue_at 0 before) slot.memory memory before block (extent_disk slot.extent old) (extent_disk slot.extent new)) count guest in
-    let seen = seen_service (device_by (device_of start)) slot (block_served slot memory block) before old new tells tells' whole whole' lies lies' own in
-    let service : IsBlockService (device_by (device_of start)) (with_write Block offset width value start) last (health_of old) (health_of new) = record { notified = seen.notified; rest = refl } in
-    subst (λ (a : Action). Finishes (device_by (device_of start)) Block a (with_write Block offset width value start) last (health_of old) (health_of new)) (sym notify) service
-
-pub notified_writes : (slot : BoardSlot) (offset width value : ℕ) (memory : Memory) (block : WindowState) (old new : Disk) → Tells old → Tells new → IsWhole old → IsWhole new → LiesIn old slot.extent → LiesIn new slot.extent
-    → action_of offset width value slot.block ≡ action.Notify 0
-    → Notified (block_device (slot_device slot)) (queue_at 0 (mid offset width value slot)) slot.memory memory (mid offset width value slot) block (extent_disk slot.extent old) (extent_disk slot.extent new)
-    → Writes (block_device (device_of (state_of (bytes_of old) slot))) (state_of (bytes_of old) slot) Block offset width value (health_of old) (health_of new) (state_of (bytes_of new) (block_served slot memory block))
-notified_writes = notified_by block_device block_for_guest
-
-pub notified_writes_exactly : (slot : BoardSlot) (offset width value : ℕ) (memory : Memory) (block : WindowState) (old new : Disk) → Tells old → Tells new → IsWhole old → IsWhole new → LiesIn old slot.extent → LiesIn new slot.extent
-    → action_of offset width value slot.block ≡ action.Notify 0
-    → Notified (exact_device (slot_device slot)) (queue_at 0 (mid offset width value slot)) slot.memory memory (mid offset width value slot) block (extent_disk slot.extent old) (extent_disk slot.extent new)
-    → Writes (exact_device (device_of (state_of (bytes_of old) slot))) (state_of (bytes_of old) slot) Block offset width value (health_of old) (health_of new) (state_of (bytes_of new) (block_served slot memory block))
-notified_writes_exactly = notified_by exact_device exact_for_guest
+    let guest = notified_anywhere Way (slot_device slot) (queue_at 0 before) slot.memory memory before block (extent_disk slot.extent old) (extent_disk slot.extent new) h in
+    let own = subst (λ c. IsNotified (device_by Way (counted_device slot.read_only c)) 0 (queue_at 0 before) slot.memory memory before block (extent_disk slot.extent old) (extent_disk slot.extent new)) count guest in
+    let seen = seen_service (device_by Way (device_of start)) slot (block_served slot memory block) before old new tells tells' whole whole' lies lies' own in
+    let service : IsBlockService (device_by Way (device_of start)) (with_write Block offset width value start) last (health_of old) (health_of new) = record { notified = seen.notified; rest = refl } in
+    subst (λ (a : Action). Finishes (device_by Way (device_of start)) Block a (with_write Block offset width value start) last (health_of old) (health_of new)) (sym notify) service
 
 -- ---- no service
 

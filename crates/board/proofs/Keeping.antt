@@ -5,12 +5,11 @@ use Rattle.std.specs.List.{slice_get}
 use Rattle.std.specs.Option.{option_map}
 use Rattle.std.proofs.lemmas.Bool.Decides.{nat_tests}
 use Rattle.guest_memory.specs.Memory.{Memory, SameRange, put, put_num}
-use Rattle.guest_memory.proofs.Ranges.{put_range}
+use Rattle.guest_memory.proofs.Ranges.{put_range, same_trans}
 use Rattle.byteorder.specs.Endian.{little_bytes}
 use Rattle.chain.specs.declared.fault.Fault.{Fault}
 use Rattle.chain.specs.Bytes.{readable_of, writable_of}
-use Rattle.chain.specs.Service.{Entry, Given, Site, Served, Ending, Spent, Faulted, Refused, scattered, used_len, wrote, after, Passes, stop, Works, open_site, IsService}
-use Rattle.chain.proofs.Scattering.{same_trans}
+use Rattle.chain.specs.Service.{Entry, Given, Site, Served, Ending, Spent, Faulted, Refused, scattered, used_len, wrote, after, ServesAll, stop, Works, open_site, IsService}
 use Rattle.sector_cache.specs.Disk.{Disk}
 use Rattle.mmio_window.specs.declared.action.Action.{Action}
 use Rattle.mmio_window.specs.declared.action.Action.TheVariants as action
@@ -27,7 +26,7 @@ use Rattle.block_device.specs.declared.request.Request.TheVariants.{Rejected, Re
 use Rattle.block_device.specs.Request.{are_sectors, out_request_of, in_request_of, get_id_request_of, typed_request, request_of, payload_of, type_of, sector_in}
 use Rattle.block_device.specs.Outcome.{Outcome, with_sectors, completed, Fails, Ends}
 use Rattle.block_device.specs.Device.{block_device, GivesBy}
-use Rattle.block_device.specs.Serving.{Notified}
+use Rattle.mmio_window.specs.Serving.{IsNotified}
 use Rattle.block_device.proofs.Requests.{gives_counted}
 use Rattle.board.specs.declared.event.Event.{Event}
 use Rattle.board.specs.declared.event.EventKind.{EventKind}
@@ -183,7 +182,7 @@ record Keeps (n : ℕ) (start now : Site Queue Disk) : Type 0 where
   range : SameRange start.memory now.memory
   many : TellsMany n now.state
 
-passes_keep : (n : ℕ) (device : BlockDevice) (start at : Site Queue Disk) (chains : List (Served Disk)) → 512 * device.extent.count ≤ n → TellsMany n start.state → Passes queue_kind (block_device device) start chains at → Keeps n start at
+passes_keep : (n : ℕ) (device : BlockDevice) (start at : Site Queue Disk) (chains : List (Served Disk)) → 512 * device.extent.count ≤ n → TellsMany n start.state → ServesAll queue_kind (block_device device) start chains at → Keeps n start at
 passes_keep n device start at [] small many p = subst (λ (s : Site Queue Disk). Keeps n start s) p (record { range = same_range start.memory; many = many })
 passes_keep n device start at (s ∷ chains) small many p =
     let next : Site Queue Disk = after queue_kind (block_device device) start s in
@@ -206,7 +205,7 @@ stop_keeps n device start at last Refused kept is = subst (λ (s : Site Queue Di
 works_keep : (n : ℕ) (device : BlockDevice) (fault : Option Fault) (start last : Site Queue Disk) (ending : Ending) → 512 * device.extent.count ≤ n → TellsMany n start.state → Works queue_kind (block_device device) fault start ending last → Keeps n start last
 works_keep n device (Some fault) start last ending small many h = subst (λ (s : Site Queue Disk). Keeps n start s) (sym h.1) (record { range = same_range start.memory; many = many })
 works_keep n device None start last ending small many h =
-    stop_keeps n device start h.at last ending (passes_keep n device start h.at h.chains small many h.passes) h.stands
+    stop_keeps n device start h.at last ending (passes_keep n device start h.at h.chains small many h.serves) h.stands
 
 service_keeps : (n : ℕ) (device : BlockDevice) (old new : Site Queue Disk) (ending : Ending) (wanted : Bool) → 512 * device.extent.count ≤ n → TellsMany n old.state → IsService queue_kind (block_device device) old new ending wanted → Keeps n old new
 service_keeps n device old new ending wanted small many h =
@@ -220,14 +219,15 @@ record KeepsNotified (n : ℕ) (old new : Memory) (disk : Disk) : Type 0 where
   range : SameRange old new
   many : TellsMany n disk
 
-notified_keeps : (n : ℕ) (device : BlockDevice) (queue : Option Queue) (old new : Memory) (before after : WindowState) (s t : Disk) → 512 * device.extent.count ≤ n → TellsMany n s → Notified (block_device device) queue old new before after s t → KeepsNotified n old new t
+notified_keeps : (n : ℕ) (device : BlockDevice) (queue : Option Queue) (old new : Memory) (before after : WindowState) (s t : Disk) → 512 * device.extent.count ≤ n → TellsMany n s → IsNotified (block_device device) 0 queue old new before after s t → KeepsNotified n old new t
 notified_keeps n device None old new before after s t small many h = record {
-  range = subst (λ (m : Memory). SameRange old m) (sym h.memory) (same_range old);
-  many = subst (λ (d : Disk). TellsMany n d) (sym h.state) many;
+  range = subst (λ (m : Memory). SameRange old m) (sym h.notified.1.memory) (same_range old);
+  many = subst (λ (d : Disk). TellsMany n d) (sym h.notified.1.state) many;
 }
 notified_keeps n device (Some queue) old new before after s t small many h =
-    let kept : Keeps n (record { memory = old; ring = queue; state = s }) (record { memory = new; ring = h.last; state = t }) =
-    service_keeps n device (record { memory = old; ring = queue; state = s }) (record { memory = new; ring = h.last; state = t }) h.ending h.wanted small many h.service in
+    let served = h.notified in
+    let kept : Keeps n (record { memory = old; ring = queue; state = s }) (record { memory = new; ring = served.last; state = t }) =
+    service_keeps n device (record { memory = old; ring = queue; state = s }) (record { memory = new; ring = served.last; state = t }) h.ending served.wanted small many served.service in
     record { range = kept.range; many = kept.many }
 
 -- ---- an event
@@ -297,7 +297,7 @@ failed_event_keeps {A} old new e written before after step rose here there =
     subst (λ (s : SlotState). KeepsBesideDisk before s) same (given_beside before e.what old.health new.health taken.outcome rose taken.given)
 
 -- each request counts one failure at most
-pub passes_counted : (device : BlockDevice) (start at : Site Queue Disk) (chains : List (Served Disk)) → Passes queue_kind (block_device device) start chains at → at.state.failures ≤ start.state.failures + length chains
+pub passes_counted : (device : BlockDevice) (start at : Site Queue Disk) (chains : List (Served Disk)) → ServesAll queue_kind (block_device device) start chains at → at.state.failures ≤ start.state.failures + length chains
 passes_counted device start at [] p = let same : start.state.failures ≡ at.state.failures = ap (λ (s : Site Queue Disk). s.state.failures) p in omega arith
 passes_counted device start at (s ∷ chains) p =
     let rest : at.state.failures ≤ s.given.state.failures + length chains = passes_counted device (after queue_kind (block_device device) start s) at chains p.1 in

@@ -1,4 +1,3 @@
-pub mod Simulating
 pub mod Guests
 pub mod OneRun
 pub mod Blocks

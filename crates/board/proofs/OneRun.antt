@@ -11,8 +11,8 @@ use Rattle.mmio_window.specs.declared.queue.Queue.{Queue}
 use Rattle.mmio_window.specs.Window.{WindowState, with_ring, queue_at}
 use Rattle.block_device.specs.declared.device.BlockDevice.{BlockDevice}
 use Rattle.block_device.specs.Device.{exact_device}
-use Rattle.block_device.specs.Serving.{Notified, after_service}
-use Rattle.block_device.proofs.OneService.{one_exact_service}
+use Rattle.mmio_window.specs.Serving.{IsNotified, after_service}
+use Rattle.block_device.proofs.OneService.{at_most_one_exact_service}
 use Rattle.board.specs.declared.event.EventKind.{EventKind}
 use Rattle.board.specs.declared.event.EventKind.TheVariants.{Read, Write, MemRead, MemWrite}
 use Rattle.board.specs.declared.reply.Record.{Record}
@@ -60,24 +60,26 @@ record SameEnd (m n : Memory) (v w : WindowState) (s t : Disk) : Type 0 where
   disk : s ≡ t
 
 notified_once : (device : BlockDevice) (queue : Option Queue) (old m n : Memory) (before v w : WindowState) (bytes : List ℕ) (disk s t : Disk) → disk.told ≡ Some bytes
-    → Notified (exact_device device) queue old m before v disk s → Notified (exact_device device) queue old n before w disk t → SameEnd m n v w s t
+    → IsNotified (exact_device device) 0 queue old m before v disk s → IsNotified (exact_device device) 0 queue old n before w disk t → SameEnd m n v w s t
 notified_once device None old m n before v w bytes disk s t told a b = record {
-  memory = a.memory ∙ sym b.memory;
-  window = a.window ∙ sym b.window;
-  disk = a.state ∙ sym b.state;
+  memory = a.notified.1.memory ∙ sym b.notified.1.memory;
+  window = a.notified.1.window ∙ sym b.notified.1.window;
+  disk = a.notified.1.state ∙ sym b.notified.1.state;
 }
 notified_once device (Some queue) old m n before v w bytes disk s t told a b =
+    let x = a.notified in
+    let y = b.notified in
     let start : Site Queue Disk = record { memory = old; ring = queue; state = disk } in
-    let one : Site Queue Disk = record { memory = m; ring = a.last; state = s } in
-    let other : Site Queue Disk = record { memory = n; ring = b.last; state = t } in
-    let same = one_exact_service device bytes start one other a.ending b.ending a.wanted b.wanted told a.service b.service in
-    let ring : a.last ≡ b.last = ap (λ (x : Site Queue Disk). x.ring) same.0 in
+    let one : Site Queue Disk = record { memory = m; ring = x.last; state = s } in
+    let other : Site Queue Disk = record { memory = n; ring = y.last; state = t } in
+    let same = at_most_one_exact_service device bytes start one other a.ending b.ending x.wanted y.wanted told x.service y.service in
+    let ring : x.last ≡ y.last = ap (λ (z : Site Queue Disk). z.ring) same.0 in
     record {
-      memory = ap (λ (x : Site Queue Disk). x.memory) same.0;
-      window = a.window ∙ (ap (λ (q : Queue). after_service a.ending a.wanted (with_ring 0 before q)) ring
-          ∙ (ap (λ (e : Ending). after_service e a.wanted (with_ring 0 before b.last)) same.1
-          ∙ (ap (λ (x : Bool). after_service b.ending x (with_ring 0 before b.last)) same.2 ∙ sym b.window)));
-      disk = ap (λ (x : Site Queue Disk). x.state) same.0;
+      memory = ap (λ (z : Site Queue Disk). z.memory) same.0;
+      window = x.window ∙ (ap (λ (q : Queue). after_service a.ending x.wanted (with_ring 0 before q)) ring
+          ∙ (ap (λ (e : Ending). after_service e x.wanted (with_ring 0 before y.last)) same.1
+          ∙ (ap (λ (z : Bool). after_service b.ending z (with_ring 0 before y.last)) same.2 ∙ sym y.window)));
+      disk = ap (λ (z : Site Queue Disk). z.state) same.0;
     }
 
 -- a slot with another memory, extent and block window

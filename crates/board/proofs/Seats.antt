@@ -17,7 +17,8 @@ use Rattle.board.specs.declared.reply.Reply.{Reply}
 use Rattle.board.specs.declared.reply.Reply.TheVariants.{BadSlot}
 use Rattle.board.specs.declared.reply.Record.{Record}
 use Rattle.block_device.specs.declared.extent.Extent.{Extent}
-use Rattle.board.specs.Extent.{has_sector, IsWithin, IsApart, outside_of}
+use Rattle.block_device.specs.Extent.{IsWithin}
+use Rattle.board.specs.Extent.{has_sector, IsApart, outside_of}
 use Rattle.board.specs.Machine.{block_irq, console_irq}
 use Rattle.board.specs.Image.{bytes_of, health_of}
 use Rattle.board.specs.Slot.{SlotState, BoardSlot, state_of}

@@ -10,7 +10,8 @@ use Rattle.board.specs.declared.fault.BoardFault.{BoardFault}
 use Rattle.board.specs.declared.fault.BoardFault.TheVariants.{NoSlots, TooManySlots, Memory, ExtentOutside, ExtentsOverlap, Cache}
 use Rattle.board.specs.declared.spec.SlotSpec.{SlotSpec}
 use Rattle.block_device.specs.declared.extent.Extent.{Extent}
-use Rattle.board.specs.Extent.{IsWithin, IsApart, AreSound}
+use Rattle.block_device.specs.Extent.{IsWithin}
+use Rattle.board.specs.Extent.{IsApart, AreSound}
 use Rattle.board.specs.Fault.{IsMemory, IsGoodSlot, GoodBelow, AreGood, IsFaultOf, Refuses, cache_refusal}
 use Rattle.board.specs.Slot.{opened}
 use Rattle.board.specs.World.{extents_of}

@@ -1,7 +1,8 @@
 -- Extents: which sectors of the backing image each slot has. A sector has 512 bytes (5.2.4).
-use Rattle.std.specs.Prelude.{◌≡◌, ℕ, ◌+◌, ◌/◌, ◌≤◌, ◌&&◌, Bool, false, IsTrue, nat_le, nat_lt, if◌then◌else◌, List, [], ◌∷◌, All, AllPairs}
+use Rattle.std.specs.Prelude.{◌≡◌, ℕ, ◌+◌, ◌/◌, ◌&&◌, Bool, false, IsTrue, nat_le, nat_lt, if◌then◌else◌, List, [], ◌∷◌, All, AllPairs}
 use Rattle.std.specs.List.{list_any}
 use Rattle.block_device.specs.declared.extent.Extent.{Extent}
+use Rattle.block_device.specs.Extent.{IsWithin}
 
 -- whether the sector is one of the extent's
 abbrev pub has_sector : Extent → ℕ → Bool
@@ -16,10 +17,6 @@ pub record Overlaps (one other : Extent) : Type 0 where
   pub sector : ℕ
   pub in_one : IsTrue (has_sector one sector)
   pub in_other : IsTrue (has_sector other sector)
-
--- the extent lies in an image of that many sectors
-abbrev pub IsWithin : ℕ → Extent → Type 0
-IsWithin sectors extent = extent.start + extent.count ≤ sectors
 
 -- these extents of one image can stand side by side: each lies in it, and no two share a sector
 pub record AreSound (sectors : ℕ) (extents : List Extent) : Type 0 where

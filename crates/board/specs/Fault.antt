@@ -9,7 +9,8 @@ use Rattle.sector_cache.specs.declared.fault.CacheFault.TheVariants.{BadCapacity
 use Rattle.board.specs.declared.fault.BoardFault.{BoardFault}
 use Rattle.board.specs.declared.fault.BoardFault.TheVariants.{NoSlots, TooManySlots, Memory, ExtentOutside, ExtentsOverlap, Cache, NoMemory}
 use Rattle.board.specs.declared.spec.SlotSpec.{SlotSpec}
-use Rattle.board.specs.Extent.{IsWithin, IsApart, Overlaps}
+use Rattle.block_device.specs.Extent.{IsWithin}
+use Rattle.board.specs.Extent.{IsApart, Overlaps}
 
 -- a guest may have a memory of this base and size
 pub record IsMemory (base len : ℕ) : Type 0 where

@@ -9,13 +9,13 @@ use Rattle.mmio_window.specs.declared.device_kind.DeviceKind.{DeviceKind}
 use Rattle.mmio_window.specs.declared.device_kind.DeviceKind.TheVariants.{Block, Console}
 use Rattle.mmio_window.specs.Interrupts.{interrupt_bits}
 use Rattle.mmio_window.specs.Reading.{read_value}
+use Rattle.mmio_window.specs.Serving.{IsNotified}
 use Rattle.mmio_window.specs.Window.{WindowState, queue_at}
 use Rattle.mmio_window.specs.Writing.{action_of, written}
 use Rattle.sector_cache.specs.Disk.{Disk}
 use Rattle.block_device.specs.declared.device.BlockDevice.{BlockDevice}
 use Rattle.block_device.specs.Config.{config_of}
 use Rattle.block_device.specs.Device.{exact_device}
-use Rattle.block_device.specs.Serving.{Notified}
 use Rattle.board.specs.declared.event.EventKind.{EventKind}
 use Rattle.board.specs.declared.event.EventKind.TheVariants.{Read, Write, MemRead, MemWrite}
 use Rattle.board.specs.declared.reply.Reply.{Reply}
@@ -99,7 +99,7 @@ device_of state = record {
 -- else: its window, memory and those sectors may change, and the rest of the slot stays.
 pub record IsBlockService (device : Device Disk) (old new : SlotState) (before after : Health) : Type 0 where
   pub notified :
-      Notified device (queue_at 0 old.block) old.memory new.memory old.block new.block
+      IsNotified device 0 (queue_at 0 old.block) old.memory new.memory old.block new.block
       (disk_with old.extent before) (disk_with new.extent after)
   pub rest : new ≡ record old { memory = new.memory; extent = new.extent; block = new.block }
 

@@ -2,7 +2,8 @@
 
 ghost use Rattle.std.specs.Prelude.{◌≡◌, ◌+◌, ◌<◌, ◌≤◌, ◌^◌, ◌↔◌, ℕ, All, IsTrue, OnOk, IfErr};
 ghost use Rattle.std.specs.Bool.{OnTrue, OnFalse};
-ghost use Rattle.board.specs.Extent.{IsWithin, IsApart, Overlaps};
+ghost use Rattle.block_device.specs.Extent.{IsWithin};
+ghost use Rattle.board.specs.Extent.{IsApart, Overlaps};
 ghost use Rattle.board.specs.Fault.{IsGoodSlot, AreGood, IsFaultOf, Refuses};
 
 use crate::fault::BoardFault;

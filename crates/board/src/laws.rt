@@ -2,7 +2,7 @@
 
 ghost use Rattle.std.specs.Prelude.{◌≡◌, ℕ, ◌+◌, ◌<◌, ◌≤◌, List, [], ◌∷◌, ◌++◌, Some, length};
 ghost use Rattle.std.specs.List.{slice_get};
-ghost use Rattle.chain.specs.Service.{Passes, Served, Site};
+ghost use Rattle.chain.specs.Service.{Served, ServesAll, Site};
 ghost use Rattle.sector_cache.specs.Disk.{Disk};
 ghost use Rattle.mmio_window.specs.declared.queue.Queue.{Queue};
 ghost use Rattle.mmio_window.specs.Queue.{queue_kind};
@@ -42,7 +42,8 @@ pub fn refusals_are_noted<A: Allocator>()
         IsLine old moves new → IsNoted g old moves new }
 {}
 
-/// The one-slot machine is deterministic: an event has one outcome.
+/// The one-slot machine is deterministic: an event has at most one outcome. That it has one is seen where
+/// a board handles it.
 pub fn one_outcome<A: Allocator>()
     ensures { (state : SlotState) (what : EventKind A) (one other : Outcome A) →
         IsNext state what one → IsNext state what other → one ≡ other }
@@ -84,6 +85,6 @@ pub fn a_failed_event_keeps_the_rest<A: Allocator>()
         slice_get old.slots event.slot ≡ Some before → slice_get new.slots event.slot ≡ Some after →
         KeepsBesideDisk before after }
     ensures failures { (device : BlockDevice) (start at : Site Queue Disk) (requests : List (Served Disk)) →
-        Passes queue_kind (block_device device) start requests at →
+        ServesAll queue_kind (block_device device) start requests at →
         at.state.failures ≤ start.state.failures + length requests }
 {}

@@ -5,7 +5,7 @@
 //! those of its devices' windows.
 
 ghost use Rattle.std.specs.Prelude.{◌≡◌, ◌≢◌, ◌<◌, ◌≤◌, ◌||◌, ℕ, List, All, map, nat_lt, IfOk};
-ghost use Rattle.block_device.specs.Extent.{LiesIn, KeepsOutside};
+ghost use Rattle.block_device.specs.Extent.{IsWithin, KeepsOutside};
 ghost use Rattle.board.specs.Fault.{IsMemory};
 ghost use Rattle.board.specs.Image.{Tells, bytes_of, health_of};
 ghost use Rattle.board.specs.Machine.{replies, block_irq, console_irq};
@@ -95,7 +95,7 @@ impl<A: Allocator + Copy> Slot<A> {
         cache: &mut SectorCache<I, A>,
         out: &mut Vec<u8, A>,
     ) -> Reply<A>
-        requires lies { LiesIn (I.disk cache.old) self.old.extent }
+        requires lies { IsWithin (I.disk cache.old).sector_count self.old.extent }
         ensures serves { Tells (I.disk cache.old) →
             Serves (state_of (bytes_of (I.disk cache.old)) self.old) what.now
             (health_of (I.disk cache.old)) (health_of (I.disk cache.new))
@@ -128,7 +128,7 @@ impl<A: Allocator + Copy> Slot<A> {
         what: &EventKind<A>,
         cache: &mut SectorCache<I, A>,
     ) -> Answer<A>
-        requires lies { LiesIn (I.disk cache.old) self.old.extent }
+        requires lies { IsWithin (I.disk cache.old).sector_count self.old.extent }
         ensures given { Tells (I.disk cache.old) →
             MayGive (state_of (bytes_of (I.disk cache.old)) self.old) what.now
             (health_of (I.disk cache.old)) (health_of (I.disk cache.new))

@@ -2,7 +2,7 @@
 
 ghost use Rattle.std.specs.Prelude.{◌≡◌, ◌≤◌, ℕ, List, nat_lt};
 ghost use Rattle.block_device.specs.Device.{block_device, exact_device};
-ghost use Rattle.block_device.specs.Extent.{LiesIn, KeepsOutside};
+ghost use Rattle.block_device.specs.Extent.{IsWithin, KeepsOutside};
 ghost use Rattle.mmio_window.specs.declared.device_kind.DeviceKind.{DeviceKind};
 ghost use Rattle.board.specs.Image.{Tells, bytes_of, health_of, sectors_of};
 ghost use Rattle.board.specs.Machine.{Writes, device_of, register, console_config};
@@ -40,7 +40,7 @@ impl<A: Allocator + Copy> Slot<A> {
         value: u32,
         cache: &mut SectorCache<I, A>,
     ) -> bool
-        requires lies { LiesIn (I.disk cache.old) self.old.extent }
+        requires lies { IsWithin (I.disk cache.old).sector_count self.old.extent }
         ensures written { Tells (I.disk cache.old) →
             Writes (block_device (device_of (state_of (bytes_of (I.disk cache.old)) self.old)))
             (state_of (bytes_of (I.disk cache.old)) self.old) window offset width value
@@ -75,7 +75,7 @@ impl<A: Allocator + Copy> Slot<A> {
         value: u32,
         cache: &mut SectorCache<I, A>,
     ) -> bool
-        requires lies { LiesIn (I.disk cache.old) self.old.extent }
+        requires lies { IsWithin (I.disk cache.old).sector_count self.old.extent }
         ensures written { Tells (I.disk cache.old) →
             Writes (block_device (device_of (state_of (bytes_of (I.disk cache.old)) self.old)))
             (state_of (bytes_of (I.disk cache.old)) self.old) DeviceKind.Block offset width value

@@ -1,9 +1,10 @@
 use Rattle.std.proofs.Common.{◌≡◌, sym, ap, subst, ◌∙◌, arith}
 use Rattle.mmio_window.specs.declared.action.Action.TheVariants.{Notify}
 use Rattle.mmio_window.specs.Writing.{action_of}
-use Rattle.block_device.specs.Extent.{LiesIn}
+use Rattle.block_device.specs.Extent.{IsWithin}
+use Rattle.block_device.specs.Outcome.{Completes, Ends}
 use Rattle.board.specs.Slot.{BoardSlot}
-use Rattle.board.proofs.Blocks.{notified_writes, notified_writes_exactly}
+use Rattle.board.proofs.Blocks.{notified_writes}
 use Rattle.board.proofs.Outside.{outside_kept}
 use Rattle.board.proofs.slot.Slot.write_block.Goals as goal
 
@@ -20,8 +21,8 @@ slot_of g c = record {
   disturbed = c.self.inside.disturbed;
 }
 
-lies : (g : _) (c : goal.After-serve g) → LiesIn (g.I.Image.disk c.args.cache.now) (slot_of g c).extent
-lies g c = subst (λ (slot : BoardSlot). LiesIn (g.I.Image.disk c.args.cache.now) slot.extent) (sym c.self.view_is) c.requires.lies
+lies : (g : _) (c : goal.After-serve g) → IsWithin (g.I.Image.disk c.args.cache.now).sector_count (slot_of g c).extent
+lies g c = subst (λ (slot : BoardSlot). IsWithin (g.I.Image.disk c.args.cache.now).sector_count slot.extent) (sym c.self.view_is) c.requires.lies
 
 notify : (g : _) (c : goal.After-serve g) → action_of c.args.offset c.args.width c.args.value c.self.inside.block ≡ Notify 0
 notify g c = sym c.write.ensures.action ∙ (c.in-Notify-eq0.is ∙ ap (λ q. Notify q) c.in-Notify-eq0.field-0-test)
@@ -31,9 +32,9 @@ returns-in-Notify-eq0-clause-written g c = λ tells.
     let old = g.I.Image.disk c.args.cache.now in
     let new = g.I.Image.disk c.serve.new.cache in
     let kept = outside_kept c.self.inside.device.extent old.told new.told tells c.serve.ensures.outside.told in
-    let lies' : LiesIn new (slot_of g c).extent = omega (arith, lies g c, c.serve.ensures.outside.sectors) in
+    let lies' : IsWithin new.sector_count (slot_of g c).extent = omega (arith, lies g c, c.serve.ensures.outside.sectors) in
     rw (← c.self.view_is)
-    (notified_writes (slot_of g c) c.args.offset c.args.width c.args.value c.serve.new.mem c.serve.new.window old new tells kept.tells
+    (notified_writes Ends (slot_of g c) c.args.offset c.args.width c.args.value c.serve.new.mem c.serve.new.window old new tells kept.tells
     (g.met.I.Image.whole c.args.cache.now) (g.met.I.Image.whole c.serve.new.cache) (lies g c) lies' (notify g c) (rw c.write.ensures.written at c.serve.ensures.served))
 
 pub returns-in-Notify-eq0-clause-exact : goal.returns-in-Notify-eq0-clause-exact
@@ -41,7 +42,7 @@ returns-in-Notify-eq0-clause-exact g c = λ stood tells.
     let old = g.I.Image.disk c.args.cache.now in
     let new = g.I.Image.disk c.serve.new.cache in
     let kept = outside_kept c.self.inside.device.extent old.told new.told tells c.serve.ensures.outside.told in
-    let lies' : LiesIn new (slot_of g c).extent = omega (arith, lies g c, c.serve.ensures.outside.sectors) in
+    let lies' : IsWithin new.sector_count (slot_of g c).extent = omega (arith, lies g c, c.serve.ensures.outside.sectors) in
     rw (← c.self.view_is)
-    (notified_writes_exactly (slot_of g c) c.args.offset c.args.width c.args.value c.serve.new.mem c.serve.new.window old new tells kept.tells
+    (notified_writes Completes (slot_of g c) c.args.offset c.args.width c.args.value c.serve.new.mem c.serve.new.window old new tells kept.tells
     (g.met.I.Image.whole c.args.cache.now) (g.met.I.Image.whole c.serve.new.cache) (lies g c) lies' (notify g c) (rw c.write.ensures.written at (c.serve.ensures.exact stood)))
