@@ -64,7 +64,7 @@ fn split_driver_sets_flags(rt: HostRuntime) -> Result<(), Fail> {
     for (flags, event_idx, used_event, count, wanted) in SPLIT_FLAGS {
         assert!(rt; mem.put_u16(AREA, flags));
         assert!(rt; mem.put_u16(AREA + 12, used_event));
-        assert!(rt; mem.holds(AREA, 14));
+        assert!(rt; count <= 4 && mem.holds(AREA, 14));
         let wants = split_wants(&mem, AREA, 4, event_idx, 7, count);
         assert_eq!(rt;
             wants,
@@ -124,7 +124,7 @@ fn packed_driver_asks(rt: HostRuntime) -> Result<(), Fail> {
     for (event, flags, event_idx, from, passed, wanted) in PACKED {
         assert!(rt; mem.put_u16(AREA, event));
         assert!(rt; mem.put_u16(AREA + 2, flags));
-        assert!(rt; mem.holds(AREA, 4));
+        assert!(rt; from < 6 && passed < 6 && mem.holds(AREA, 4));
         let wants = packed_wants(&mem, AREA, 3, event_idx, from, passed);
         assert_eq!(rt;
             wants,
