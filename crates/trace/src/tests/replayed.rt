@@ -95,7 +95,7 @@ pub struct SmallWriter {
 
 impl SmallWriter {
     /// One with room for so many bytes.
-    pub fn new(heap: Global, room: usize) -> SmallWriter {
+    pub(super) fn new(heap: Global, room: usize) -> SmallWriter {
         SmallWriter {
             held: Vec::new(heap),
             room,

@@ -31,25 +31,31 @@ fn path_of(rt: &impl AllocGlobal, folder: &str, name: &str) -> Result<String, Fa
     Ok(format!(in rt.alloc(); "{folder}/{name}")?)
 }
 
-/// Writes the files of which each test needs some, and the trace.
+/// Writes a file in the folder.
+fn put(
+    rt: &(impl AllocGlobal + Files),
+    folder: &str,
+    name: &str,
+    bytes: &[u8],
+) -> Result<(), Fail> {
+    let path = path_of(rt, folder, name)?;
+    Ok(fs::write(rt, &path, bytes)?)
+}
+
+/// Writes the trace, the image and the other files of which a test needs some.
 fn make_files(
     rt: &(impl AllocGlobal + Files),
     folder: &str,
     trace: &[u8],
     image: &[u8],
 ) -> Result<(), Fail> {
-    for (name, bytes) in [
-        ("trace", trace),
-        ("image", image),
-        ("no_text", b"vreplay 1\ncache 1\n\xff\xfe\n"),
-        ("ragged", &[0; 513]),
-        ("empty", b""),
-        ("saved", b"kept"),
-        ("longer", &[7; 5000]),
-    ] {
-        fs::write(rt, &path_of(rt, folder, name)?, bytes)?;
-    }
-    Ok(())
+    put(rt, folder, "trace", trace)?;
+    put(rt, folder, "image", image)?;
+    put(rt, folder, "no_text", b"vreplay 1\ncache 1\n\xff\xfe\n")?;
+    put(rt, folder, "ragged", &[0; 513])?;
+    put(rt, folder, "empty", b"")?;
+    put(rt, folder, "saved", b"kept")?;
+    put(rt, folder, "longer", &[7; 5000])
 }
 
 /// The names of the trace, the image and the file to save to.

@@ -73,7 +73,7 @@ pub const WRITTEN: &[u8] = b"0 done - 0 0\n\
 0 b:00 - 1 0\n";
 
 /// The numbered image with that sector in it.
-pub fn written_image(heap: Global) -> Result<Vec<u8>, AllocError> {
+pub(super) fn written_image(heap: Global) -> Result<Vec<u8>, AllocError> {
     let mut bytes = Vec::new(heap);
     bytes.extend_from_slice(&[0x10; 512])?;
     bytes.extend_from_slice(&[0x11; 512])?;
