@@ -9,7 +9,6 @@ use Rattle.chain.specs.Service.{Device}
 use Rattle.sector_cache.specs.Disk.{Disk, IsWhole}
 use Rattle.sector_cache.specs.Sector.{extent_of}
 use Rattle.mmio_window.specs.declared.action.Action.{Action}
-use Rattle.mmio_window.specs.declared.queue.Queue.{Queue}
 use Rattle.mmio_window.specs.declared.action.Action.TheVariants as action
 use Rattle.mmio_window.specs.declared.device_kind.DeviceKind.{DeviceKind}
 use Rattle.mmio_window.specs.declared.device_kind.DeviceKind.TheVariants.{Block, Console}

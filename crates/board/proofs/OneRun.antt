@@ -51,7 +51,7 @@ next_of state (Write window offset width value) before after outcome h =
 next_of state (MemRead addr len) before after outcome h = record { after = at_rest; gives = record { alike = h.alike; image = refl } }
 next_of state (MemWrite addr bytes) before after outcome h = record { after = at_rest; gives = record { alike = h.alike; image = refl } }
 
--- ---- there is one outcome
+-- ---- there is at most one outcome
 
 -- what two services leave is the same
 record SameEnd (m n : Memory) (v w : WindowState) (s t : Disk) : Type 0 where
@@ -107,7 +107,7 @@ finishes_once device Console action.Reset old one other h k a b = a.state ∙ sy
 finishes_once device Console (action.ConfigWrite offset width value) old one other h k a b = a.state ∙ sym b.state
 finishes_once device Console action.None old one other h k a b = a.state ∙ sym b.state
 
--- an event has one outcome
+-- an event has at most one outcome
 pub next_once : {A : Type 0} (state : SlotState) (what : EventKind A) (one other : Outcome A) → IsNext state what one → IsNext state what other → one ≡ other
 next_once state (Read window offset width) one other a b = a.gives.alike ∙ sym b.gives.alike
 next_once state (Write window offset width value) one other a b =
