@@ -35,7 +35,7 @@ fn next_call(numbers: &mut Numbers) -> Call {
     let sector = numbers.of_bits(6);
     match numbers.of_bits(3) {
         0 => Call::Flush,
-        1 | 2 | 3 => Call::Write(sector, numbers.of_bits(8) as u8),
+        1 | 2 | 3 => Call::Write(sector, (numbers.of_bits(8) % 256) as u8),
         _ => Call::Read(sector),
     }
 }
