@@ -5,6 +5,10 @@ use Rattle.sector_cache.specs.Sector.{extent_of}
 use Rattle.sector_cache.specs.Disk.{Disk}
 use Rattle.block_device.specs.declared.extent.Extent.{Extent}
 
+-- how many bytes a sector has (5.2.4)
+abbrev pub sector_len : ℕ
+sector_len = 512
+
 -- the extent lies in an image of that many sectors
 abbrev pub IsWithin : ℕ → Extent → Type 0
 IsWithin sectors extent = extent.start + extent.count ≤ sectors
@@ -19,8 +23,8 @@ extent_disk extent disk = record disk {
 
 -- bytes that differ within the extent alone: those before it and those behind it are the same
 pub record SameOutside (extent : Extent) (old new : List ℕ) : Type 0 where
-  pub before : take (512 * extent.start) new ≡ take (512 * extent.start) old
-  pub behind : drop (512 * (extent.start + extent.count)) new ≡ drop (512 * (extent.start + extent.count)) old
+  pub before : take (sector_len * extent.start) new ≡ take (sector_len * extent.start) old
+  pub behind : drop (sector_len * (extent.start + extent.count)) new ≡ drop (sector_len * (extent.start + extent.count)) old
   pub size : length new ≡ length old
 
 -- the same of what is told, where anything is

@@ -8,6 +8,7 @@ use Rattle.block_device.specs.declared.request.RequestStatus.{RequestStatus}
 use Rattle.block_device.specs.declared.request.RequestStatus.TheVariants.{Success, IoError}
 use Rattle.block_device.specs.declared.request.Request.{Request}
 use Rattle.block_device.specs.declared.request.Request.TheVariants.{Rejected, Read, Write, Flush, GetId}
+use Rattle.block_device.specs.Extent.{sector_len}
 
 -- the disk after a request, the bytes that are put in the first writable places, and the status
 pub record Outcome : Type 0 where
@@ -17,7 +18,7 @@ pub record Outcome : Type 0 where
 
 -- the bytes with new ones in place of those from a sector on
 abbrev pub with_sectors : List ℕ → ℕ → List ℕ → List ℕ
-with_sectors bytes sector new = take (512 * sector) bytes ++ (new ++ drop (512 * sector + length new) bytes)
+with_sectors bytes sector new = take (sector_len * sector) bytes ++ (new ++ drop (sector_len * sector + length new) bytes)
 
 -- the mark once these bytes were written: no write is tried where there are none
 abbrev pub marked : List ℕ → Bool → Bool
@@ -33,7 +34,7 @@ filled sector new disk = record disk {
 
 -- these bytes were read of `count` sectors from a sector on: they are the disk's, as far as it tells any
 pub record AreAsTold (disk : Disk) (sector count : ℕ) (found : List ℕ) : Type 0 where
-  pub size : length found ≡ 512 * count
+  pub size : length found ≡ sector_len * count
   pub told : IfSome disk.told (λ bytes. found ≡ extent_of bytes sector count)
 
 -- the 20 bytes that GET_ID gives: a text, and zeros behind it
@@ -76,8 +77,8 @@ pub record WriteFails (sector count : ℕ) (payload : List ℕ) (disk : Disk) (o
   pub done : ℕ
   pub sooner : done < count
   pub torn : List ℕ
-  pub whole : length torn ≡ 512
-  pub is : outcome ≡ record { disk = failed (filled sector (take (512 * done) payload ++ torn) disk); found = []; status = IoError }
+  pub whole : length torn ≡ sector_len
+  pub is : outcome ≡ record { disk = failed (filled sector (take (sector_len * done) payload ++ torn) disk); found = []; status = IoError }
 
 -- OUT fails at its flush: all sectors were written
 abbrev pub FlushFails : ℕ → List ℕ → Disk → Outcome → Type 0

@@ -10,12 +10,13 @@ use Rattle.block_device.specs.declared.request.Request.{Request}
 use Rattle.block_device.specs.declared.request.Request.TheVariants.{Rejected, Read, Write, Flush, GetId}
 use Rattle.block_device.specs.Request.{payload_of}
 use Rattle.block_device.specs.Outcome.{Ends}
+use Rattle.block_device.specs.Extent.{sector_len}
 
 -- what the checks have shown of a request, with these many bytes handed over and this much room
 abbrev pub IsServable : ℕ → Request → ℕ → ℕ → Type 0
 IsServable capacity (Rejected status) len room = Unit {0}
-IsServable capacity (Read sector count) len room = (sector + count ≤ capacity) × (room ≡ 512 * count)
-IsServable capacity (Write sector count) len room = (sector + count ≤ capacity) × (len ≡ 512 * count)
+IsServable capacity (Read sector count) len room = (sector + count ≤ capacity) × (room ≡ sector_len * count)
+IsServable capacity (Write sector count) len room = (sector + count ≤ capacity) × (len ≡ sector_len * count)
 IsServable capacity Flush len room = Unit {0}
 IsServable capacity GetId len room = 20 ≤ room
 

@@ -7,6 +7,7 @@ use Rattle.block_device.specs.declared.request.RequestStatus.{RequestStatus}
 use Rattle.block_device.specs.declared.request.RequestStatus.TheVariants.{Success, IoError, Unsupported}
 use Rattle.block_device.specs.declared.request.Request.{Request}
 use Rattle.block_device.specs.declared.request.Request.TheVariants.{Rejected, Read, Write, Flush, GetId}
+use Rattle.block_device.specs.Extent.{sector_len}
 
 -- The header is the first 16 readable bytes: the type in 4, 4 that are reserved, the sector in 8.
 abbrev pub header_of : List ℕ → List ℕ
@@ -24,18 +25,18 @@ payload_of readable = drop 16 readable
 
 -- these many bytes are whole sectors, and from this sector on none of them is behind the last one
 abbrev pub are_sectors : ℕ → ℕ → ℕ → Bool
-are_sectors capacity sector len = (len % 512 == 0) && nat_le (sector + len / 512) capacity
+are_sectors capacity sector len = (len % sector_len == 0) && nat_le (sector + len / sector_len) capacity
 
 -- IN fills all writable bytes before the status.
 abbrev pub in_request_of : BlockDevice → ℕ → ℕ → Request
 in_request_of device sector room =
-    if are_sectors device.extent.count sector room then Read sector (room / 512) else Rejected IoError
+    if are_sectors device.extent.count sector room then Read sector (room / sector_len) else Rejected IoError
 
 -- OUT writes all readable bytes behind the header, and nothing on a read-only device (5.2.6.2).
 abbrev pub out_request_of : BlockDevice → ℕ → ℕ → Request
 out_request_of device sector len =
     if device.read_only then Rejected IoError
-    else if are_sectors device.extent.count sector len then Write sector (len / 512)
+    else if are_sectors device.extent.count sector len then Write sector (len / sector_len)
     else Rejected IoError
 
 -- GET_ID wants room for the 20 bytes of the identity.

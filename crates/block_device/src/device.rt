@@ -4,13 +4,14 @@ ghost use Rattle.std.specs.Prelude.{◌≡◌};
 ghost use Rattle.block_device.specs.Config.{config_of};
 
 use crate::extent::Extent;
+use crate::request::SECTOR_LEN;
 use byteorder::{ByteOrder, LittleEndian};
 
 /// How many segments a request may have, next to its header and its status.
 const SEG_MAX: u32 = 126;
 
-/// The size of a block, in bytes.
-const BLK_SIZE: u32 = 512;
+/// The size of a block, in bytes: a sector is one.
+const BLK_SIZE: u32 = SECTOR_LEN as u32;
 
 /// A block device over an extent of an image.
 #[derive(Clone, Copy, Debug, PartialEq, Eq)]

@@ -18,7 +18,7 @@ mod transfer;
 pub use device::BlockDevice;
 pub use extent::Extent;
 pub use laws::{
-    a_service_without_failure_is_exact, at_most_one_exact_service, no_service_is_refused, one_answer,
-    one_failure_at_most,
+    a_service_without_failure_is_exact, at_most_one_exact_service, no_service_is_refused,
+    one_answer, one_failure_at_most,
 };
 pub use request::{Request, RequestStatus};

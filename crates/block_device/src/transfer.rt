@@ -6,7 +6,7 @@ ghost use Rattle.guest_memory.specs.Memory.{SameRange};
 ghost use Rattle.chain.specs.Buffers.{Within};
 ghost use Rattle.chain.specs.Bytes.{readable_of, writable_of};
 ghost use Rattle.block_device.specs.declared.request.Request.TheVariants.{Read, Write};
-ghost use Rattle.block_device.specs.Extent.{IsWithin, KeepsOutside, extent_disk};
+ghost use Rattle.block_device.specs.Extent.{IsWithin, KeepsOutside, extent_disk, sector_len};
 ghost use Rattle.block_device.specs.Request.{payload_of};
 ghost use Rattle.block_device.specs.Progress.{IsDone};
 
@@ -56,18 +56,18 @@ impl BlockDevice {
         requires inside { All (Within mem.old) chain.now }
         requires lies { IsWithin (I.disk cache.old).sector_count self.now.extent }
         requires sectors { sector + count ≤ self.now.extent.count }
-        requires room { 512 * count ≤ length (writable_of chain.now) }
-        requires fits { 512 * count < 2 ^ 64 }
+        requires room { sector_len * count ≤ length (writable_of chain.now) }
+        requires fits { sector_len * count < 2 ^ 64 }
         ensures done { IsDone (Read sector count) chain.now mem.old mem.new
             (extent_disk self.now.extent (I.disk cache.old))
             (extent_disk self.now.extent (I.disk cache.new)) result.len result.status }
-        ensures len { result.len ≤ 512 * count }
+        ensures len { result.len ≤ sector_len * count }
         ensures counted { (I.disk cache.new).failures ≡
             (I.disk cache.old).failures + (if result.failed then 1 else 0) }
         ensures outside { KeepsOutside self.now.extent (I.disk cache.old) (I.disk cache.new) }
         ensures range { SameRange mem.old mem.new }
     {
-        let mut bytes = [0; 512];
+        let mut bytes = [0; SECTOR_LEN as usize];
         for done in 0..count {
             match cache.read(self.extent.start + sector + done, &mut bytes) {
                 Ok(()) => chain.write_at(mem, SECTOR_LEN * done, &bytes),
@@ -99,8 +99,8 @@ impl BlockDevice {
         requires inside { All (Within mem.now) chain.now }
         requires lies { IsWithin (I.disk cache.old).sector_count self.now.extent }
         requires sectors { sector + count ≤ self.now.extent.count }
-        requires payload { length (payload_of (readable_of mem.now chain.now)) ≡ 512 * count }
-        requires fits { 512 * count + 16 < 2 ^ 64 }
+        requires payload { length (payload_of (readable_of mem.now chain.now)) ≡ sector_len * count }
+        requires fits { sector_len * count + 16 < 2 ^ 64 }
         ensures done { IsDone (Write sector count) chain.now mem.now mem.now
             (extent_disk self.now.extent (I.disk cache.old))
             (extent_disk self.now.extent (I.disk cache.new)) result.len result.status }
@@ -109,7 +109,7 @@ impl BlockDevice {
             (I.disk cache.old).failures + (if result.failed then 1 else 0) }
         ensures outside { KeepsOutside self.now.extent (I.disk cache.old) (I.disk cache.new) }
     {
-        let mut bytes = [0; 512];
+        let mut bytes = [0; SECTOR_LEN as usize];
         for done in 0..count {
             chain.read_at(mem, HEADER_LEN + SECTOR_LEN * done, &mut bytes);
             match cache.write(self.extent.start + sector + done, &bytes) {

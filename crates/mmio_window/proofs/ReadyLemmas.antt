@@ -83,7 +83,7 @@ Stays-register_written register value m w =
     (Stays-status_written value w (value == 0))
     (record { kind = refl; generation = refl; queue_0 = λ was is. refl; queue_1 = λ was is. refl })
     (λ (device_sel driver_sel queue_sel shm_sel : ℕ) (interrupts : Interrupts).
-        record { kind = refl; generation = refl; queue_0 = λ was is. refl; queue_1 = λ was is. refl })
+    record { kind = refl; generation = refl; queue_0 = λ was is. refl; queue_1 = λ was is. refl })
     (Stays-self w) register
 
 Stays-written : (answered : Bool) (register : Option Register) (value : ℕ) (m : Memory) (w : WindowState)

@@ -4,7 +4,7 @@ use Rattle.std.proofs.Common.{◌≡◌, ◌≢◌, ℕ, Bool, true, false, Opti
 use Rattle.std.specs.Prelude.{if◌then◌else◌, is_some}
 use Rattle.guest_memory.specs.Memory.{Memory}
 use Rattle.chain.specs.declared.fault.Fault.{Fault}
-use Rattle.chain.specs.Service.{Device, Ending, Spent, Refused, Site, IsService, IsRefusedService, IsExactUnless}
+use Rattle.chain.specs.Service.{Device, Ending, Refused, Site, IsService, IsRefusedService, IsExactUnless}
 use Rattle.chain.proofs.Servicing.{exact_service, never_refused, refused_service}
 use Rattle.chain.proofs.Simulating.{DoesAs, ServedAs, service_as}
 use Rattle.mmio_window.specs.declared.queue.Queue.{Queue}

@@ -132,7 +132,7 @@ IsSound-register_written register value m w sound =
     (λ (r : Register). IsSound-queue_written r value m w sound)
     (status_by_test value m w (value == 0) refl sound)
     (IsSound-negotiation m w (with_features_written w.driver_features_sel value w.negotiation)
-        (Keeps-changed w.negotiation (FeaturesWritten w.driver_features_sel value) refl) sound)
+    (Keeps-changed w.negotiation (FeaturesWritten w.driver_features_sel value) refl) sound)
     (λ (device_sel driver_sel queue_sel shm_sel : ℕ) (interrupts : Interrupts). record { queue_0 = sound.queue_0; queue_1 = sound.queue_1 })
     sound register
 

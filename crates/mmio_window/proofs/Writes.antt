@@ -16,7 +16,7 @@ pub written_by_cases : (P : WindowState → Type 0) (value : ℕ) (m : Memory) (
     → P (status_written value w)
     → P (record w { negotiation = with_features_written w.driver_features_sel value w.negotiation })
     → ((device_sel driver_sel queue_sel shm_sel : ℕ) (interrupts : Interrupts)
-        → P (record w { device_features_sel = device_sel; driver_features_sel = driver_sel; queue_sel = queue_sel; shm_sel = shm_sel; interrupts = interrupts }))
+    → P (record w { device_features_sel = device_sel; driver_features_sel = driver_sel; queue_sel = queue_sel; shm_sel = shm_sel; interrupts = interrupts }))
     → P w → (register : Register) → P (register_written register value m w)
 written_by_cases P value m w queue status features aside same DeviceFeaturesSel = aside value w.driver_features_sel w.queue_sel w.shm_sel w.interrupts
 written_by_cases P value m w queue status features aside same DriverFeatures = features

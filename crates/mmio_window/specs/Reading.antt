@@ -10,6 +10,10 @@ use Rattle.mmio_window.specs.Interrupts.{interrupt_bits}
 use Rattle.mmio_window.specs.Registers.{register_at}
 use Rattle.mmio_window.specs.Window.{WindowState, registers_of, ring_at}
 
+-- the largest size of a queue
+abbrev pub queue_num_max : ℕ
+queue_num_max = 256
+
 -- what a register shows; one that can't be read shows 0
 abbrev pub shown : Register → WindowState → ℕ
 shown MagicValue w = 0x74726976
@@ -17,7 +21,7 @@ shown Version w = 2
 shown DeviceId w = device_id_of w.kind
 shown VendorId w = 0x4f424d56
 shown DeviceFeatures w = feature_word w.device_features_sel w.negotiation.offered
-shown QueueNumMax w = if is_some (registers_of w.queue_sel w) then 256 else 0
+shown QueueNumMax w = if is_some (registers_of w.queue_sel w) then queue_num_max else 0
 shown QueueReady w = if is_some (ring_at w.queue_sel w) then 1 else 0
 shown InterruptStatus w = interrupt_bits w.interrupts
 shown Status w = w.negotiation.status

@@ -1,6 +1,6 @@
 -- Writing a window's registers (4.2.2), by cases in the order of their table, and what is left for the device to
 -- do.
-use Rattle.std.specs.Prelude.{ℕ, ◌%◌, ◌^◌, ◌==◌, ◌&&◌, nat_lt, if◌then◌else◌, is_some}
+use Rattle.std.specs.Prelude.{ℕ, ◌==◌, ◌&&◌, nat_lt, if◌then◌else◌, is_some}
 use Rattle.std.specs.Option.{option_map_or}
 use Rattle.guest_memory.specs.Memory.{Memory}
 use Rattle.negotiation.specs.Features.{notification_data}
@@ -48,7 +48,7 @@ register_written _ value m w = w
 
 -- the queue that a value names in QueueNotify: with NOTIFICATION_DATA its low half does (4.2.3.3)
 abbrev pub notified_queue : ℕ → WindowState → ℕ
-notified_queue value w = if has (negotiated_of w.negotiation) notification_data then value % 2 ^ 16 else value
+notified_queue value w = if has (negotiated_of w.negotiation) notification_data then narrowed 2 value else value
 
 -- what a write to a register leaves for the device to do: a notification of a queue that is ready in a live
 -- window (2.1.2), or its part of a reset

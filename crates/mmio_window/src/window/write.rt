@@ -75,7 +75,7 @@ impl Window {
             .negotiated()
             .contains(Features::NOTIFICATION_DATA)
         {
-            value % 0x1_0000
+            narrowed(2, value)
         } else {
             value
         };
