@@ -105,8 +105,7 @@ impl<I: Image, A: Allocator + Copy> Board<I, A> {
         ensures outside { Tells (I.disk self.old.image) →
             (world_of I.disk self.new).outside ≡ (world_of I.disk self.old).outside }
         ensures extents { extents_of self.new.slots ≡ extents_of self.old.slots }
-        ensures sectors {
-            (I.disk self.new.image).sector_count ≡ (I.disk self.old.image).sector_count }
+        ensures sectors { (I.disk self.new.image).sector_count ≡ (I.disk self.old.image).sector_count }
         ensures rises { (I.disk self.old.image).failures ≤ (I.disk self.new.image).failures }
 
         // a refusal, of memory or of the image, is noted for the event's slot
@@ -144,8 +143,7 @@ impl<I: Image, A: Allocator + Copy> Board<I, A> {
         ensures outside { Tells (I.disk self.old.image) →
             (world_of I.disk self.new).outside ≡ (world_of I.disk self.old).outside }
         ensures extents { extents_of self.new.slots ≡ extents_of self.old.slots }
-        ensures sectors {
-            (I.disk self.new.image).sector_count ≡ (I.disk self.old.image).sector_count }
+        ensures sectors { (I.disk self.new.image).sector_count ≡ (I.disk self.old.image).sector_count }
         ensures rises { (I.disk self.old.image).failures ≤ (I.disk self.new.image).failures }
     {
         for (done, event) in events.iter().enumerate() {
@@ -180,8 +178,7 @@ impl<I: Image, A: Allocator + Copy> Board<I, A> {
         ensures outside { Tells (I.disk self.old.image) →
             (world_of I.disk self.new).outside ≡ (world_of I.disk self.old).outside }
         ensures extents { extents_of self.new.slots ≡ extents_of self.old.slots }
-        ensures sectors {
-            (I.disk self.new.image).sector_count ≡ (I.disk self.old.image).sector_count }
+        ensures sectors { (I.disk self.new.image).sector_count ≡ (I.disk self.old.image).sector_count }
         ensures rises { (I.disk self.old.image).failures ≤ (I.disk self.new.image).failures }
         ensures noted { disturbed_of self.new.slots ≡ noted slot
             (met_refusal result.reply (I.disk self.old.image).failures (I.disk self.new.image).failures)
