@@ -135,7 +135,7 @@ module _ (kind : TableKind) (one : HasOneTable kind) where
               | inr stopped ↦ inr (
                 stopped.0,
                 list_table_refused kind negotiated m t n h buffers count i d stopped.0 refl room below is
-                (table_faulty kind negotiated m t n h buffers stopped.1 count d stopped.0 known apart stopped.2) r,
+                    (table_faulty kind negotiated m t n h buffers stopped.1 count d stopped.0 known apart stopped.2) r,
               )
             ]
           ]
