@@ -10,6 +10,9 @@ use std::test::Fail;
 
 const BASE: u64 = 0x8000_0000;
 
+/// The address and length of one more buffer, whether it is writable, and what comes of it.
+type Push = (u64, u32, bool, Result<(), Fault>);
+
 const fn readable(addr: u64, len: u32) -> Buffer {
     Buffer {
         segment: Segment { addr, len },
@@ -22,6 +25,30 @@ const fn writable(addr: u64, len: u32) -> Buffer {
         segment: Segment { addr, len },
         writable: true,
     }
+}
+
+/// Pushes one buffer after another, and names the first whose answer isn't the one that is wanted.
+fn first_other<A: Allocator>(
+    chain: &mut Chain,
+    mem: &GuestMemory<A>,
+    rows: &[Push],
+) -> Option<Push> {
+    for row in rows {
+        let (addr, len, writable, want) = *row;
+        if chain.push(mem, addr, len, writable) != want {
+            return Some(*row);
+        }
+    }
+    None
+}
+
+/// How many buffers, readable and writable bytes there are.
+fn counts(chain: &Chain) -> (usize, u64, u64) {
+    (
+        chain.buffers().len(),
+        chain.readable_len(),
+        chain.writable_len(),
+    )
 }
 
 /// A chain of these buffers, which all lie in the memory.
@@ -42,28 +69,18 @@ fn a_chain_has_at_most_256_buffers_and_2_to_the_32_less_1_bytes(
 ) -> Result<(), Fail> {
     let mem = GuestMemory::new(rt.alloc(), BASE, 0x100_0000)?;
     let mut chain = Chain::new();
-    for _ in 0..255 {
-        chain.push(&mem, BASE, 0x100_0000, true)?;
-    }
-    assert_eq!(rt;
-        chain.push(&mem, BASE, 0x100_0000, false),
-        Err(Fault::TooLong)
-    );
-    chain.push(&mem, BASE, 0xff_ffff, false)?;
-    assert_eq!(rt; chain.push(&mem, BASE, 0, true), Err(Fault::TooMany));
-    assert_eq!(rt; chain.push(&mem, BASE - 1, 0, true), Err(Fault::Range));
-    assert_eq!(rt; chain.buffers().len(), 256);
-    assert_eq!(rt; chain.writable_len(), 0xff00_0000);
-    assert_eq!(rt; chain.readable_len(), 0xff_ffff);
+    let large = [(BASE, 0x100_0000, true, Ok(())); 255];
+    let last = [
+        (BASE, 0x100_0000, false, Err(Fault::TooLong)),
+        (BASE, 0xff_ffff, false, Ok(())),
+        (BASE, 0, true, Err(Fault::TooMany)),
+        (BASE - 1, 0, true, Err(Fault::Range)),
+    ];
+    assert_eq!(rt; first_other(&mut chain, &mem, &large), None);
+    assert_eq!(rt; first_other(&mut chain, &mem, &last), None);
+    assert_eq!(rt; counts(&chain), (256, 0xff_ffff, 0xff00_0000));
     chain.clear();
-    assert_eq!(rt;
-        (
-            chain.buffers().len(),
-            chain.writable_len(),
-            chain.readable_len()
-        ),
-        (0, 0, 0)
-    );
+    assert_eq!(rt; counts(&chain), (0, 0, 0));
     Ok(())
 }
 
@@ -71,28 +88,25 @@ fn a_chain_has_at_most_256_buffers_and_2_to_the_32_less_1_bytes(
 fn zero_lengths_count_and_must_lie_in_memory(rt: HostRuntime) -> Result<(), Fail> {
     let mem = GuestMemory::new(rt.alloc(), BASE, 0x1_0000)?;
     let mut chain = Chain::new();
-    chain.push(&mem, BASE + 0x1_0000, 0, true)?;
-    assert_eq!(rt;
-        chain.push(&mem, BASE + 0x1_0001, 0, true),
-        Err(Fault::Range)
-    );
-    assert_eq!(rt;
-        chain.push(&mem, BASE + 0xfff0, 0x11, false),
-        Err(Fault::Range)
-    );
-    assert_eq!(rt; chain.push(&mem, u64::MAX, 2, false), Err(Fault::Range));
-    for _ in 0..255 {
-        chain.push(&mem, BASE, 0, false)?;
-    }
-    assert_eq!(rt; chain.push(&mem, BASE, 0, false), Err(Fault::TooMany));
+    let first = [
+        (BASE + 0x1_0000, 0, true, Ok(())),
+        (BASE + 0x1_0001, 0, true, Err(Fault::Range)),
+        (BASE + 0xfff0, 0x11, false, Err(Fault::Range)),
+        (u64::MAX, 2, false, Err(Fault::Range)),
+    ];
+    let empty = [(BASE, 0, false, Ok(())); 255];
+    let last = [(BASE, 0, false, Err(Fault::TooMany))];
+    assert_eq!(rt; first_other(&mut chain, &mem, &first), None);
+    assert_eq!(rt; first_other(&mut chain, &mem, &empty), None);
+    assert_eq!(rt; first_other(&mut chain, &mem, &last), None);
     Ok(())
 }
 
 #[test]
 fn reading_joins_what_is_readable(rt: HostRuntime) -> Result<(), Fail> {
     let mut mem = GuestMemory::new(rt.alloc(), BASE, 4096)?;
-    assert!(rt; mem.put_u32(BASE, 0x6463_6261));
-    assert!(rt; mem.put_u32(BASE + 0x100, 0x6867_6665));
+    let _ = mem.put_u32(BASE, 0x6463_6261);
+    let _ = mem.put_u32(BASE + 0x100, 0x6867_6665);
     let buffers = [
         writable(BASE, 4),
         readable(BASE + 1, 2),
@@ -103,39 +117,33 @@ fn reading_joins_what_is_readable(rt: HostRuntime) -> Result<(), Fail> {
     let chain = chain_of(&mem, &buffers)?;
     assert!(rt; chain.readable_len() == 6 && chain.writable_len() == 5);
     let mut all = [0; 6];
-    chain.read_at(&mem, 0, &mut all);
-    assert_eq!(rt; all.as_slice(), b"bcefgh".as_slice());
     let mut part = [0; 3];
+    chain.read_at(&mem, 0, &mut all);
     chain.read_at(&mem, 1, &mut part);
-    assert_eq!(rt; part.as_slice(), b"cef".as_slice());
     chain.read_at(&mem, 6, &mut []);
+    assert_eq!(rt; (all, part), (*b"bcefgh", *b"cef"));
     Ok(())
 }
 
 #[test]
-fn the_later_byte_stands_where_segments_overlap(rt: HostRuntime) -> Result<(), Fail> {
+fn a_write_may_begin_at_any_place_and_the_later_byte_stands(rt: HostRuntime) -> Result<(), Fail> {
     let mut mem = GuestMemory::new(rt.alloc(), BASE, 4096)?;
-    let buffers = [
-        writable(BASE, 3),
+    let apart = [writable(BASE, 2), readable(BASE, 8), writable(BASE + 4, 3)];
+    let overlapping = [
+        writable(BASE + 8, 3),
         writable(BASE + 0x10, 0),
-        writable(BASE + 2, 2),
+        writable(BASE + 10, 2),
     ];
-    let chain = chain_of(&mem, &buffers)?;
-    assert!(rt; chain.writable_len() == 5);
-    chain.write_at(&mut mem, 0, b"abcde");
-    assert_eq!(rt; mem.get_u32(BASE), Some(0x6564_6261));
-    assert_eq!(rt; mem.get_u32(BASE + 4), Some(0));
-    Ok(())
-}
-
-#[test]
-fn a_write_may_begin_at_any_place(rt: HostRuntime) -> Result<(), Fail> {
-    let mut mem = GuestMemory::new(rt.alloc(), BASE, 4096)?;
-    let buffers = [writable(BASE, 2), readable(BASE, 8), writable(BASE + 4, 3)];
-    let chain = chain_of(&mem, &buffers)?;
+    let chain = chain_of(&mem, &apart)?;
     assert!(rt; chain.writable_len() == 5);
     chain.write_at(&mut mem, 1, b"xyz");
-    assert_eq!(rt; mem.get_u64(BASE), Some(0x7a79_0000_7800));
+    let chain = chain_of(&mem, &overlapping)?;
+    assert!(rt; chain.writable_len() == 5);
+    chain.write_at(&mut mem, 0, b"abcde");
+    assert_eq!(rt;
+        (mem.get_u64(BASE), mem.get_u64(BASE + 8)),
+        (Some(0x7a79_0000_7800), Some(0x6564_6261))
+    );
     Ok(())
 }
 
@@ -145,7 +153,6 @@ fn a_fault_says_what_is_wrong(rt: HostRuntime) -> Result<(), Fail> {
         format!(in rt.alloc(); "{}", Fault::Loop)?.as_str(),
         "a list of descriptors longer than its table"
     );
-    assert_eq!(rt; Fault::Jump as u8, 1);
-    assert_eq!(rt; Fault::TooLong as u8, 10);
+    assert_eq!(rt; (Fault::Jump as u8, Fault::TooLong as u8), (1, 10));
     Ok(())
 }

@@ -11,7 +11,7 @@ use Rattle.negotiation.specs.Features.{with_feature_word}
 use Rattle.negotiation.specs.Negotiation.{NegotiationState, IsSettled, fresh, settable_of, with_needs_reset}
 use Rattle.negotiation.specs.History.{Change, StatusWritten, FeaturesWritten, ResetAsked, WasReset, changed, after, is_reset, Keeps}
 use Rattle.negotiation.proofs.BitLemmas.{Has-bit_or, Has-self, Has-trans}
-use Rattle.negotiation.proofs.StatusLemmas.{IsSettled-written}
+use Rattle.negotiation.proofs.StatusLemmas.{settled_after_write}
 
 -- ---- FEATURES_OK is set only for features that are all offered and have VERSION_1
 
@@ -34,7 +34,7 @@ unset s e set = grind (arith, common_steps)
 settled_by_status : (zero_written : Bool) (s : NegotiationState) (value : ℕ) → IsSettled s
     → IsSettled (if zero_written then fresh s.offered else record s { status = bit_or s.status (bit_and value (settable_of s)) })
 settled_by_status true s value h = IsSettled-fresh s.offered
-settled_by_status false s value h = IsSettled-written s value h
+settled_by_status false s value h = settled_after_write s value h
 
 -- a write of features, by whether FEATURES_OK is set
 settled_by_features : (stands : Bool) (s : NegotiationState) (accepted : ℕ) → has s.status features_ok ≡ stands → IsSettled s

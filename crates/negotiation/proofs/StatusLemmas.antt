@@ -37,8 +37,8 @@ may_stand status value true false before after = before (sym (bit_and-bit_or-mas
 may_stand status value false b before after = before (sym (bit_and-bit_or-masked 8 135 status value refl) ∙ after)
 
 -- a write to the status leaves the features settled
-pub IsSettled-written : (s : NegotiationState) (value : ℕ) → IsSettled s → IsSettled (record s { status = bit_or s.status (bit_and value (settable_of s)) })
-IsSettled-written s value h =
+pub settled_after_write : (s : NegotiationState) (value : ℕ) → IsSettled s → IsSettled (record s { status = bit_or s.status (bit_and value (settable_of s)) })
+settled_after_write s value h =
     let tests : Has s.status features_ok → (IsTrue (has s.offered s.accepted)) × (IsTrue (has s.accepted version_1))
     = λ set. (eqb_from _ _ (h.offered set), eqb_from _ _ (h.version_1 set)) in
     let stands = may_stand s.status value (has s.offered s.accepted) (has s.accepted version_1) tests in
@@ -46,3 +46,11 @@ IsSettled-written s value h =
       offered = λ set. eqb-true _ _ (stands set).0;
       version_1 = λ set. eqb-true _ _ (stands set).1;
     }
+
+-- the same, of the numbers that a write gives one after another
+pub settled_by_write : (status offered accepted value written new : ℕ) (s : NegotiationState) → s ≡ record { status = status; offered = offered; accepted = accepted }
+    → IsSettled (record { status = status; offered = offered; accepted = accepted })
+    → written ≡ bit_and value (settable_of s) → new ≡ bit_or status written
+    → IsSettled (record { status = new; offered = offered; accepted = accepted })
+settled_by_write status offered accepted value written new s is settled masked set =
+    rw (set, masked, is) (settled_after_write (record { status = status; offered = offered; accepted = accepted }) value settled)

@@ -100,6 +100,7 @@ impl Negotiation {
     /// A write to Status, and whether it was a reset: 0 is one. Of any other value the driver's bits are
     /// set, FEATURES_OK only where the accepted features are all offered and have VERSION_1. All other
     /// bits of the value are ignored.
+    #[tactic(auto, using(crate::proofs::StatusLemmas::settled_by_write))]
     pub fn write_status(&mut self, value: u32) -> bool
         ensures reset { result ≡ (value == 0) }
         ensures written { self.new ≡ with_status_written value self.old }
