@@ -1,8 +1,8 @@
--- Extents: which sectors of the backing image each slot has. A sector has 512 bytes (5.2.4).
+-- Extents: which sectors of the backing image each slot has (5.2.4).
 use Rattle.std.specs.Prelude.{◌≡◌, ℕ, ◌+◌, ◌/◌, ◌&&◌, Bool, false, IsTrue, nat_le, nat_lt, if◌then◌else◌, List, [], ◌∷◌, All, AllPairs}
 use Rattle.std.specs.List.{list_any}
 use Rattle.block_device.specs.declared.extent.Extent.{Extent}
-use Rattle.block_device.specs.Extent.{IsWithin}
+use Rattle.block_device.specs.Extent.{IsWithin, sector_len}
 
 -- whether the sector is one of the extent's
 abbrev pub has_sector : Extent → ℕ → Bool
@@ -27,7 +27,7 @@ pub record AreSound (sectors : ℕ) (extents : List Extent) : Type 0 where
 abbrev pub outside_from : List Extent → ℕ → List ℕ → List ℕ
 outside_from extents i [] = []
 outside_from extents i (byte ∷ bytes) =
-    (if list_any (λ extent. has_sector extent (i / 512)) extents then 0 else byte)
+    (if list_any (λ extent. has_sector extent (i / sector_len)) extents then 0 else byte)
     ∷ outside_from extents (i + 1) bytes
 
 -- the image's bytes outside all of the extents, each in its place, and a zero for each byte inside

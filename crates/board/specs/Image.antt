@@ -1,6 +1,7 @@
 -- The image that all slots share, as it can be seen.
 use Rattle.std.specs.Prelude.{ℕ, ◌/◌, Bool, IsSome, List, [], length, Some, unwrap_or}
 use Rattle.sector_cache.specs.Disk.{Disk}
+use Rattle.block_device.specs.Extent.{sector_len}
 
 -- How the image fares: how many of its calls failed so far, and whether a write was tried since the
 -- last flush that succeeded.
@@ -21,7 +22,7 @@ health_of disk = record { failures = disk.failures; mark = disk.mark }
 
 -- how many sectors these bytes fill
 abbrev pub sectors_of : List ℕ → ℕ
-sectors_of bytes = length bytes / 512
+sectors_of bytes = length bytes / sector_len
 
 -- an image that tells these bytes and fares so
 abbrev pub disk_with : List ℕ → Health → Disk
