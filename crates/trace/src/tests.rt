@@ -1,5 +1,6 @@
 //! Worked texts from outside, and what stands where memory is refused.
 
+mod disturbed;
 mod faults;
 mod last_lines;
 mod one_sector;
