@@ -1,14 +1,12 @@
 //! The scenarios of a folder, one after another.
 
-ghost use Rattle.std.specs.Prelude.{◌≡◌, ◌≢◌, OnOk, IsErr};
+ghost use Rattle.std.specs.Prelude.{◌≡◌, IfOk, IsTrue, string_bytes};
 
 use crate::difference::first_difference;
-use crate::finding::Finding;
 use crate::page::{PAGE, names_of};
-use crate::replayed::replayed;
-use crate::scenario::{AFTER, RECORDS, Scenario};
-use crate::strays::strays_of;
-use std::alloc::Global;
+use crate::replayed::{Compared, outcome_of};
+use crate::scenario::Scenario;
+use crate::strays::has_no_strays;
 use std::io::Write;
 use std::rt::Files;
 use std::{fs, io};
@@ -20,21 +18,17 @@ pub(crate) fn check_folder<R: Files + AllocGlobal + Clone + Drop, W: Write>(
     folder: &str,
     out: &mut W,
 ) -> io::Result<bool> {
-    let page = format!(in rt.alloc(); "{folder}/{PAGE}")?;
-    let Ok(page) = fs::read_to_string(rt, &page) else {
-        writeln!(out, "{PAGE} can't be read")?;
+    let path = format!(in rt.alloc(); "{folder}/{PAGE}")?;
+    let Ok(page) = fs::read_to_string(rt, &path) else {
+        writeln!(out, "{path} can't be read")?;
         return Ok(false);
     };
     let names = names_of(rt.alloc(), page.as_str())?;
     let all_pass = check_all(rt, folder, &names, out)?;
-    let strays = strays_of(rt, folder, &names)?;
-    for file in &strays {
-        writeln!(out, "{file} belongs to no scenario")?;
-    }
-    Ok(all_pass && strays.is_empty())
+    Ok(has_no_strays(rt, folder, &names, out)? && all_pass)
 }
 
-// Checks these scenarios and writes a line for each. The answer is whether all pass.
+// Checks these scenarios. The answer is whether all pass, and each name stands there once.
 fn check_all<R: Files + AllocGlobal, W: Write>(
     rt: &R,
     folder: &str,
@@ -43,47 +37,55 @@ fn check_all<R: Files + AllocGlobal, W: Write>(
 ) -> io::Result<bool> {
     let mut all_pass = true;
     for (at, name) in names.iter().enumerate() {
-        let outcome = if names[..at].contains(name) {
-            Err(Finding::NamedTwice)
-        } else {
-            check(rt, folder, name)
-        };
-        match outcome {
-            Ok(()) => writeln!(out, "{name} ok")?,
-            Err(finding) => {
-                all_pass = false;
-                writeln!(out, "{name}{finding}")?;
-            }
+        if names[..at].contains(name) {
+            all_pass = false;
+            writeln!(out, "{name} is named twice")?;
+        } else if !passes(rt, folder, name, out)? {
+            all_pass = false;
         }
     }
     Ok(all_pass)
 }
 
-// Checks one scenario.
-fn check<R: Files + AllocGlobal>(rt: &R, folder: &str, name: &str) -> Result<(), Finding> {
+// Checks one scenario and writes its line. The answer is whether it passes.
+fn passes<R: Files + AllocGlobal, W: Write>(
+    rt: &R,
+    folder: &str,
+    name: &str,
+    out: &mut W,
+) -> io::Result<bool> {
     let path = format!(in rt.alloc(); "{folder}/{name}")?;
-    let scenario = Scenario::read(rt, path.as_str())?;
-    let outcome = replayed(rt.alloc(), &scenario)?;
-    compare(
-        rt.alloc(),
-        RECORDS,
-        scenario.records.as_str(),
-        outcome.records.as_str(),
-    )?;
-    compare(
-        rt.alloc(),
-        AFTER,
-        scenario.after.as_str(),
-        outcome.after.as_str(),
-    )
+    let scenario = Scenario::read(rt, path.as_str());
+    match outcome_of(rt.alloc(), &scenario) {
+        Ok(outcome) => agrees(name, &outcome, out),
+        Err(finding) => {
+            writeln!(out, "{name}{finding}")?;
+            Ok(false)
+        }
+    }
 }
 
-// Compares what a part says with what was found.
-fn compare(alloc: Global, part: &'static str, expected: &str, found: &str) -> Result<(), Finding>
-    ensures pass { OnOk result (expected.now ≡ found.now) }
+// Writes the scenario's line. The answer is whether all that was found is as it must be.
+fn agrees<W: Write>(name: &str, outcome: &[Compared<'_>], out: &mut W) -> io::Result<bool> {
+    for compared in outcome {
+        if !is_same(name, compared, out)? {
+            return Ok(false);
+        }
+    }
+    writeln!(out, "{name} ok")?;
+    Ok(true)
+}
+
+// Was found what must be? Writes where it differs.
+fn is_same<W: Write>(name: &str, compared: &Compared<'_>, out: &mut W) -> io::Result<bool>
+    ensures { IfOk result (λ same. IsTrue same → compared.now.expected.now ≡ string_bytes compared.now.found) }
 {
-    match first_difference(alloc, expected, found)? {
-        None => Ok(()),
-        Some(difference) => Err(Finding::Differs(part, difference)),
+    match first_difference(compared.expected, compared.found.as_str()) {
+        None => Ok(true),
+        Some(difference) => {
+            let part = compared.part;
+            writeln!(out, "{name}.{part} differs, {difference}")?;
+            Ok(false)
+        }
     }
 }

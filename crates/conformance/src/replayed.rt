@@ -1,33 +1,89 @@
 //! A scenario replayed over memory.
 
 use crate::finding::Finding;
-use crate::scenario::{BEFORE, Scenario};
+use crate::scenario::{AFTER, BEFORE, RECORDS, Scenario};
 use sector_cache::ScriptedImage;
 use std::alloc::{AllocError, Global};
 use trace::{finish, replay};
 
-/// What a replay came to, as a scenario's files say it: all that stands on the output, with the status behind it,
-/// and what has become of the image.
+/// A part that says what must be found, and what was found.
 #[derive(Drop)]
-pub(crate) struct Outcome {
-    pub records: String,
-    pub after: String,
+pub(crate) struct Compared<'a> {
+    pub part: &'static str,
+    pub expected: &'a str,
+    pub found: String,
 }
 
-/// Replays the scenario, as the program does over its streams.
-pub(crate) fn replayed(alloc: Global, scenario: &Scenario) -> Result<Outcome, Finding> {
-    let bytes = scenario.before.to_vec(alloc)?;
-    let Ok(image) = ScriptedImage::new(bytes, scenario.fails.to_vec(alloc)?) else {
-        return Err(Finding::Malformed(BEFORE));
-    };
+/// What a replay leaves.
+#[derive(Drop)]
+struct Replayed {
+    output: Vec<u8>,
+    status: u8,
+    image: ScriptedImage,
+}
+
+/// Replays the scenario: what must be found, and what was found, on the output and of the image.
+pub(crate) fn outcome_of(alloc: Global, scenario: &Scenario) -> Result<[Compared<'_>; 2], Finding> {
+    let records = scenario.records()?;
+    let after = scenario.after()?;
+    let trace = scenario.trace()?;
+    let before = scenario.before(alloc)?;
+    let image = image_of(alloc, scenario, &before)?;
+    let replayed = replay_over(alloc, trace, image);
+    Ok(beside(alloc, records, after, &before, &replayed)?)
+}
+
+// The image before, of whose calls some fail.
+fn image_of(alloc: Global, scenario: &Scenario, before: &[u8]) -> Result<ScriptedImage, Finding> {
+    let fails = scenario.fails(alloc)?;
+    match ScriptedImage::new(before.to_vec(alloc)?, fails) {
+        Ok(image) => Ok(image),
+        Err(_) => Err(Finding::Malformed(BEFORE)),
+    }
+}
+
+// Replays a trace over an image, as the program does over its streams.
+fn replay_over(alloc: Global, trace: &[u8], image: ScriptedImage) -> Replayed {
     let mut output = Vec::new(alloc);
-    let mut reader = scenario.trace.as_slice();
+    let mut reader = trace;
     let (image, outcome) = replay(alloc, &mut reader, &mut output, image);
     let status = finish(&outcome, &mut output);
-    let mut records = String::from_utf8_lossy(alloc, &output)?;
-    writeln!(records, "status {status}")?;
-    let after = became(alloc, &scenario.before, &image)?;
-    Ok(Outcome { records, after })
+    Replayed {
+        output,
+        status,
+        image,
+    }
+}
+
+// What was replayed, in the words of a scenario's files and beside them.
+fn beside<'a>(
+    alloc: Global,
+    records: &'a str,
+    after: &'a str,
+    before: &[u8],
+    replayed: &Replayed,
+) -> Result<[Compared<'a>; 2], AllocError> {
+    let output = records_of(alloc, &replayed.output, replayed.status)?;
+    let image = became(alloc, before, &replayed.image)?;
+    Ok([
+        Compared {
+            part: RECORDS,
+            expected: records,
+            found: output,
+        },
+        Compared {
+            part: AFTER,
+            expected: after,
+            found: image,
+        },
+    ])
+}
+
+// The output with the status behind it.
+fn records_of(alloc: Global, output: &[u8], status: u8) -> Result<String, AllocError> {
+    let mut text = String::from_utf8_lossy(alloc, output)?;
+    writeln!(text, "status {status}")?;
+    Ok(text)
 }
 
 // How often the image was flushed, and each sector that isn't as before.

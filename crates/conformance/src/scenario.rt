@@ -2,9 +2,9 @@
 
 use crate::finding::Finding;
 use std::alloc::{AllocError, Global};
-use std::fs;
 use std::io::ErrorKind;
 use std::rt::Files;
+use std::{fs, str};
 
 /// The file of the trace.
 const TRACE: &str = "trace";
@@ -27,72 +27,101 @@ pub(crate) const PARTS: [&str; 5] = [TRACE, RECORDS, BEFORE, FAILS, AFTER];
 /// What stands for an image that is neither changed nor flushed.
 const LEFT_ALONE: &str = "flushes 0\n";
 
-/// A worked scenario.
+/// What a file holds.
+#[derive(Drop)]
+enum Content {
+    Missing,
+    Unreadable,
+    Bytes(Vec<u8>),
+}
+
+/// The files of a worked scenario.
 #[derive(Drop)]
 pub(crate) struct Scenario {
-    pub trace: Vec<u8>,
-    pub records: String,
-    pub before: Vec<u8>,
-    pub fails: Vec<u64>,
-    pub after: String,
+    trace: Content,
+    records: Content,
+    before: Content,
+    fails: Content,
+    after: Content,
 }
 
 impl Scenario {
     /// Reads the files whose names begin so.
-    pub(crate) fn read<R: Files + AllocGlobal>(rt: &R, path: &str) -> Result<Scenario, Finding> {
-        let trace = bytes_of(rt, path, TRACE)?.ok_or(Finding::Missing(TRACE))?;
-        let records = text_of(rt, path, RECORDS)?.ok_or(Finding::Missing(RECORDS))?;
-        let before = match text_of(rt, path, BEFORE)? {
-            Some(text) => image_of(rt.alloc(), text.as_str())?,
-            None => eight_sectors(rt.alloc())?,
-        };
-        let fails = match text_of(rt, path, FAILS)? {
-            Some(text) => calls_of(rt.alloc(), text.as_str())?,
-            None => Vec::new(rt.alloc()),
-        };
-        let after = match text_of(rt, path, AFTER)? {
-            Some(text) => text,
-            None => String::from_str(rt.alloc(), LEFT_ALONE)?,
-        };
-        Ok(Scenario {
-            trace,
-            records,
-            before,
-            fails,
-            after,
-        })
+    pub(crate) fn read<R: Files + AllocGlobal>(rt: &R, path: &str) -> Scenario {
+        Scenario {
+            trace: content_of(rt, path, TRACE),
+            records: content_of(rt, path, RECORDS),
+            before: content_of(rt, path, BEFORE),
+            fails: content_of(rt, path, FAILS),
+            after: content_of(rt, path, AFTER),
+        }
+    }
+
+    /// The trace.
+    pub(crate) fn trace(&self) -> Result<&[u8], Finding> {
+        self.trace.bytes(TRACE)?.ok_or(Finding::Missing(TRACE))
+    }
+
+    /// What must stand on the output, and the status.
+    pub(crate) fn records(&self) -> Result<&str, Finding> {
+        self.records.text(RECORDS)?.ok_or(Finding::Missing(RECORDS))
+    }
+
+    /// What must have become of the image.
+    pub(crate) fn after(&self) -> Result<&str, Finding> {
+        Ok(self.after.text(AFTER)?.unwrap_or(LEFT_ALONE))
+    }
+
+    /// The bytes of the image before.
+    pub(crate) fn before(&self, alloc: Global) -> Result<Vec<u8>, Finding> {
+        match self.before.text(BEFORE)? {
+            Some(text) => image_of(alloc, text),
+            None => Ok(eight_sectors(alloc)?),
+        }
+    }
+
+    /// The numbers of the image's calls that fail.
+    pub(crate) fn fails(&self, alloc: Global) -> Result<Vec<u64>, Finding> {
+        match self.fails.text(FAILS)? {
+            Some(text) => calls_of(alloc, text),
+            None => Ok(Vec::new(alloc)),
+        }
     }
 }
 
-// The bytes of a part, where its file is there.
-fn bytes_of<R: Files + AllocGlobal>(
-    rt: &R,
-    path: &str,
-    part: &'static str,
-) -> Result<Option<Vec<u8>>, Finding> {
-    let file = format!(in rt.alloc(); "{path}.{part}")?;
+impl Content {
+    // The bytes, where there is a file.
+    fn bytes(&self, part: &'static str) -> Result<Option<&[u8]>, Finding> {
+        match self {
+            Content::Missing => Ok(None),
+            Content::Unreadable => Err(Finding::Unreadable(part)),
+            Content::Bytes(bytes) => Ok(Some(bytes.as_slice())),
+        }
+    }
+
+    // The same of a part that is a text.
+    fn text(&self, part: &'static str) -> Result<Option<&str>, Finding> {
+        match self.bytes(part)? {
+            Some(bytes) => match str::from_utf8(bytes) {
+                Ok(text) => Ok(Some(text)),
+                Err(_) => Err(Finding::Unreadable(part)),
+            },
+            None => Ok(None),
+        }
+    }
+}
+
+// What the file of a part holds.
+fn content_of<R: Files + AllocGlobal>(rt: &R, path: &str, part: &str) -> Content {
+    let Ok(file) = format!(in rt.alloc(); "{path}.{part}") else {
+        return Content::Unreadable;
+    };
     match fs::read(rt, &file) {
-        Ok(bytes) => Ok(Some(bytes)),
+        Ok(bytes) => Content::Bytes(bytes),
         Err(e) => match e.kind() {
-            ErrorKind::NotFound => Ok(None),
-            ErrorKind::OutOfMemory => Err(Finding::NoMemory),
-            _ => Err(Finding::Unreadable(part)),
+            ErrorKind::NotFound => Content::Missing,
+            _ => Content::Unreadable,
         },
-    }
-}
-
-// The same of a part that is a text.
-fn text_of<R: Files + AllocGlobal>(
-    rt: &R,
-    path: &str,
-    part: &'static str,
-) -> Result<Option<String>, Finding> {
-    match bytes_of(rt, path, part)? {
-        Some(bytes) => match String::from_utf8(bytes) {
-            Ok(text) => Ok(Some(text)),
-            Err(_) => Err(Finding::Unreadable(part)),
-        },
-        None => Ok(None),
     }
 }
 

@@ -2,48 +2,52 @@
 
 use crate::page::PAGE;
 use crate::scenario::PARTS;
-use std::alloc::AllocError;
+use std::io::Write;
 use std::rt::Files;
 use std::{fs, io};
 
-/// The files of the folder and of the folders in it that belong to none of these scenarios, in the order of their
-/// names.
-pub(crate) fn strays_of<R: Files + AllocGlobal + Clone + Drop>(
+/// Writes a line for each file of the folder, and of the folders in it, that belongs to none of these scenarios.
+/// The answer is whether there is none.
+pub(crate) fn has_no_strays<R: Files + AllocGlobal + Clone + Drop, W: Write>(
     rt: &R,
     folder: &str,
     names: &[&str],
-) -> io::Result<Vec<String>> {
-    let mut strays = Vec::new(rt.alloc());
+    out: &mut W,
+) -> io::Result<bool> {
+    let mut has_none = true;
     for entry in fs::read_dir(rt, folder)? {
         let entry = entry?;
+        let name = entry.file_name();
         if entry.file_type()?.is_dir() {
-            add_strays(rt, folder, entry.file_name(), names, &mut strays)?;
-        } else if entry.file_name() != PAGE {
-            strays.push(String::from_str(rt.alloc(), entry.file_name())?)?;
+            if !subject_has_none(rt, folder, name, names, out)? {
+                has_none = false;
+            }
+        } else if name != PAGE {
+            has_none = false;
+            writeln!(out, "{name} belongs to no scenario")?;
         }
     }
-    strays.sort()?;
-    Ok(strays)
+    Ok(has_none)
 }
 
-// Adds those of the folder of a subject.
-fn add_strays<R: Files + AllocGlobal + Clone + Drop>(
+// The same of the folder of a subject.
+fn subject_has_none<R: Files + AllocGlobal + Clone + Drop, W: Write>(
     rt: &R,
     folder: &str,
     subject: &str,
     names: &[&str],
-    strays: &mut Vec<String>,
-) -> io::Result<()> {
+    out: &mut W,
+) -> io::Result<bool> {
+    let mut has_none = true;
     let path = format!(in rt.alloc(); "{folder}/{subject}")?;
     for entry in fs::read_dir(rt, &path)? {
-        let entry = entry?;
-        let file = entry.file_name();
-        let file = format!(in rt.alloc(); "{subject}/{file}")?;
+        let file = format!(in rt.alloc(); "{subject}/{}", entry?.file_name())?;
         if !belongs(file.as_str(), names) {
-            strays.push(file)?;
+            has_none = false;
+            writeln!(out, "{file} belongs to no scenario")?;
         }
     }
-    Ok(())
+    Ok(has_none)
 }
 
 // Is this a file of one of the scenarios?

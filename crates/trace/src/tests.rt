@@ -2,6 +2,7 @@
 //!
 //! What a test compares stands in tables of plain values, a row for each case.
 
+mod disturbed;
 mod faults;
 mod last_lines;
 mod printed;

@@ -1,10 +1,10 @@
 //! Each call of the image refused in turn, between two guests: which of them is told to be disturbed.
 
+use crate::read_trace;
 use board::{Board, Event};
 use sector_cache::ScriptedImage;
 use std::process::Abort;
 use std::test::Fail;
-use trace::read_trace;
 
 /// Two guests come up. The first writes its sectors 0 and 1, calls 0 and 1, and the write flushes, call 2. The
 /// second reads its sectors 0 and 1, calls 3 and 4.
