@@ -1,3 +1,4 @@
 pub mod Config
 pub mod Console
+pub mod Device
 pub mod Input

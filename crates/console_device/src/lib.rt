@@ -5,6 +5,9 @@
 mod device;
 mod no_memory;
 mod pending;
+mod receive;
+mod stream;
+mod transmit;
 
 pub use device::ConsoleDevice;
 pub use no_memory::NoMemory;
