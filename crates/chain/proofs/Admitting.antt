@@ -1,14 +1,16 @@
 -- Which buffers may stand behind others: one by one, and all at once.
-use Rattle.std.proofs.Common.{◌≡◌, List, [], ◌∷◌, ◌++◌, refl, arith, append_assoc, length-append}
+use Rattle.std.proofs.Common.{◌≡◌, ◌+◌, ◌^◌, List, [], ◌∷◌, ◌++◌, length, refl, inl, inr, ◌⊎◌, arith, append_assoc, length-append}
 use Rattle.std.specs.Prelude.{All}
+use Rattle.std.proofs.lemmas.Bool.{cases_lt}
 use Rattle.std.proofs.lemmas.List.{length_push, append-nil}
 use Rattle.std.proofs.lemmas.List.Sums.{sum_by_push, sum_by-append, sum_by-cons}
 use Rattle.std.proofs.lemmas.List.Elements.{All-push, All-nil, All-head, All-tail}
 use Rattle.guest_memory.specs.Memory.{Memory}
+use Rattle.guest_memory.proofs.Ranges.{inside_cases}
 use Rattle.chain.specs.declared.segment.Buffer.{Buffer}
 use Rattle.chain.specs.declared.fault.Fault.{Fault}
 use Rattle.chain.specs.declared.fault.Fault.TheVariants.{Jump, Index, Loop, TooMany, Table, Nested, Joined, NoIndirect, Range, TooLong}
-use Rattle.chain.specs.Buffers.{Within, Good, Admits, AdmitsAll, Refuses}
+use Rattle.chain.specs.Buffers.{Within, Good, Admits, AdmitsAll, Refuses, total_len}
 
 module _ (m : Memory) where
   -- one more behind those that may stand there
@@ -116,3 +118,17 @@ module _ (m : Memory) where
   pub AdmitsAll-front : (before xs ys : List Buffer) → AdmitsAll m before (xs ++ ys) → AdmitsAll m before xs
   AdmitsAll-front before [] ys h = tt
   AdmitsAll-front before (x ∷ xs) ys h = (h.0, AdmitsAll-front (before ++ x ∷ []) xs ys h.1)
+
+  -- a buffer may stand behind these, or is refused
+  pub admits_or_refuses : (buffers : List Buffer) (b : Buffer) → Admits m buffers b ⊎ ((fault : Fault) × Refuses m buffers b fault)
+  admits_or_refuses buffers b =
+      elim (inside_cases m b.segment.addr b.segment.len) [
+        | inr outside ↦ inr (Range, outside)
+        | inl inside ↦ elim (cases_lt (length buffers) 256) [
+          | inr full ↦ inr (TooMany, (inside, full))
+          | inl room ↦ elim (cases_lt (total_len buffers + b.segment.len) (2 ^ 32)) [
+            | inr long ↦ inr (TooLong, (inside, room, long))
+            | inl fits ↦ inl (record { inside = inside; room = room; fits = fits })
+          ]
+        ]
+      ]

@@ -6,14 +6,13 @@ use Rattle.std.proofs.lemmas.List.FromFn.{length-range_with_len}
 use Rattle.std.proofs.lemmas.List.{drop-drop, length-take, length-drop, take-append-drop, length-take-le}
 use borrow.Rule.Slice.PartMut.{put_mid}
 use Rattle.guest_memory.specs.Memory.{Memory, Inside, put, part_of}
-use Rattle.guest_memory.proofs.Ranges.{put-none, put-put, put_range, take-plus}
+use Rattle.guest_memory.proofs.Ranges.{inside_same, put-none, put-put, put_range, take-plus}
 use Rattle.chain.specs.declared.segment.Buffer.{Buffer}
 use Rattle.chain.specs.declared.segment.Segment.{Segment}
 use Rattle.chain.specs.Buffers.{Within}
 use Rattle.chain.specs.Bytes.{segments_of, addresses_of, len_of, readable_of, rest_at, scatter}
 use Rattle.chain.proofs.Directions.{All-segments_of}
 use Rattle.chain.proofs.Places.{rest_inside, rest_reads, rest_addresses}
-use Rattle.chain.proofs.Scattering.{inside_same}
 
 -- part of what is left of a segment lies in the memory
 pub part_inside : (m : Memory) (w : Bool) (xs : List Buffer) (place n : ℕ) → All (Within m) xs → place < len_of w xs

@@ -1,12 +1,12 @@
 -- The segments of one direction, and how many bytes they have.
-use Rattle.std.proofs.Common.{◌≡◌, ◌≤◌, ℕ, ◌+◌, Bool, true, false, if◌then◌else◌, List, [], ◌∷◌, ◌++◌, length, sum_by, refl, sym, ap, ◌∙◌, arith}
+use Rattle.std.proofs.Common.{◌≡◌, ◌≤◌, ◌+◌, Bool, true, false, if◌then◌else◌, List, [], ◌∷◌, ◌++◌, length, sum_by, refl, sym, ap, ◌∙◌, arith}
 use Rattle.std.proofs.lemmas.List.Sums.{sum_by-append, sum_by-cons}
 use Rattle.std.proofs.lemmas.List.Concat.{length-flat_map}
 use Rattle.std.proofs.lemmas.List.FromFn.{length-range_with_len}
 use Rattle.std.specs.Prelude.{All}
 use Rattle.std.proofs.lemmas.List.Elements.{All-nil, All-cons, All-head, All-tail}
-use Rattle.std.proofs.lemmas.List.{length-take, length-drop}
 use Rattle.guest_memory.specs.Memory.{Memory, Inside, part_of}
+use Rattle.guest_memory.proofs.Ranges.{length-part_of}
 use Rattle.chain.specs.declared.segment.Segment.{Segment}
 use Rattle.chain.specs.declared.segment.Buffer.{Buffer}
 use Rattle.chain.specs.Buffers.{Within, total_len}
@@ -28,10 +28,6 @@ segments_of-append false (b ∷ xs) ys =
 pub len_of-append : (w : Bool) (xs ys : List Buffer) → len_of w (xs ++ ys) ≡ len_of w xs + len_of w ys
 len_of-append w xs ys =
     ap (sum_by (λ (s : Segment). s.len)) (segments_of-append w xs ys) ∙ sum_by-append (λ (s : Segment). s.len) (segments_of w xs) (segments_of w ys)
-
--- the bytes of a segment inside memory are as many as its length says
-pub length-part_of : (m : Memory) (a n : ℕ) → Inside m a n → length (part_of m a n) ≡ n
-length-part_of m a n h = simp (length-take, length-drop) (omega arith)
 
 -- a segment has as many addresses as bytes
 addresses_count : (ss : List Segment) → sum_by (λ s. length (addresses s)) ss ≡ sum_by (λ s. s.len) ss

@@ -5,4 +5,5 @@ pub mod Holding
 pub mod Places
 pub mod Scattering
 pub mod Servicing
+pub mod Simulating
 pub mod Partial

@@ -12,7 +12,7 @@ use Rattle.guest_memory.specs.Memory.{Memory, Inside, part_of}
 use Rattle.chain.specs.declared.segment.Segment.{Segment}
 use Rattle.chain.specs.declared.segment.Buffer.{Buffer}
 use Rattle.chain.specs.Bytes.{segments_of, addresses, rest_at}
-use Rattle.chain.proofs.Directions.{length-part_of}
+use Rattle.guest_memory.proofs.Ranges.{length-part_of}
 
 abbrev pub InMemory : Memory → Segment → Type 0
 InMemory m s = Inside m s.addr s.len

@@ -3,20 +3,15 @@ use Rattle.std.proofs.Common.{◌≡◌, ℕ, ◌+◌, ◌<◌, ◌≤◌, List,
 use Rattle.std.specs.Prelude.{All}
 use Rattle.std.proofs.lemmas.List.{drop_more, drop_all}
 use Rattle.std.proofs.lemmas.List.Elements.{All-weaker}
-use Rattle.guest_memory.specs.Memory.{Memory, Inside, SameRange, put}
+use Rattle.guest_memory.specs.Memory.{Memory, SameRange, put}
+use Rattle.guest_memory.proofs.Ranges.{inside_same}
 use Rattle.chain.specs.declared.segment.Buffer.{Buffer}
 use Rattle.chain.specs.Buffers.{Within}
 use Rattle.chain.specs.Bytes.{scatter}
 
--- a range stays inside a memory of the same addresses
-pub inside_same : (old new : Memory) (a n : ℕ) → SameRange old new → Inside old a n → Inside new a n
-inside_same old new a n s h = record { above = omega arith; below = omega arith }
-
+-- buffers stay inside a memory of the same addresses
 pub within_same : (old new : Memory) (xs : List Buffer) → SameRange old new → All (Within old) xs → All (Within new) xs
 within_same old new xs s h = All-weaker (Within old) (Within new) (λ b i. inside_same old new b.segment.addr b.segment.len s i) xs h
-
-pub same_trans : (a b c : Memory) → SameRange a b → SameRange b c → SameRange a c
-same_trans a b c p q = record { base = q.base ∙ p.base; size = q.size ∙ p.size }
 
 -- what is left to put is one byte and the rest
 pub scatter_step : (m new : Memory) (addrs bytes : List ℕ) (place i : ℕ) → place < length addrs → i < length bytes

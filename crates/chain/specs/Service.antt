@@ -1,6 +1,6 @@
 -- One service of a queue (2.7.13, 2.8.14 and 2.8.21), for every kind of ring and every device: the opening,
 -- chains one after another, the closing writes, and whether the driver is to be notified.
-use Rattle.std.specs.Prelude.{◌≡◌, ℕ, ◌+◌, ◌≤◌, Bool, true, false, ◌&&◌, Option, Some, None, List, [], ◌∷◌, length}
+use Rattle.std.specs.Prelude.{◌≡◌, ◌↔◌, ℕ, ◌+◌, ◌≤◌, Bool, true, false, IsTrue, ◌&&◌, Option, Some, None, List, [], ◌∷◌, length}
 use Rattle.guest_memory.specs.Memory.{Memory, put}
 use Rattle.chain.specs.declared.segment.Buffer.{Buffer}
 use Rattle.chain.specs.declared.fault.Fault.{Fault}
@@ -21,7 +21,7 @@ pub record Kind (Ring : Type 0) : Type 1 where
   pub offers : Memory → Ring → Bool
   -- the chain on offer has these buffers and this entry; or it has a fault
   pub Offers : Memory → Ring → List Buffer → Entry → Type 0
-  pub Fails : Memory → Ring → Fault → Type 0
+  pub HasFault : Memory → Ring → Fault → Type 0
   -- the memory with a used entry: how many bytes were written without a gap, and whether any was
   pub used : Memory → Ring → Entry → ℕ → Bool → Memory
   -- the ring behind an entry, and after a fault
@@ -29,7 +29,7 @@ pub record Kind (Ring : Type 0) : Type 1 where
   pub stopped : Ring → Ring
   -- the memory with the closing writes, whether a notification is wanted on it, and the ring once it is closed
   pub closed : Memory → Ring → Memory
-  pub wants : Memory → Ring → Bool
+  pub Wants : Memory → Ring → Type 0
   pub shut : Ring → Ring
 
 -- what a device does with one chain: its next state, and for each place of the writable list the byte that
@@ -42,11 +42,11 @@ pub record Given (State : Type 0) : Type 0 where
 -- of the writable list.
 pub record Device (State : Type 0) : Type 1 where
   -- whether it takes a chain at all
-  pub wants : State → Bool
+  pub takes : State → Bool
   -- what it may do with one
   pub Gives : State → List ℕ → ℕ → Given State → Type 0
-  -- it may leave one for want of memory
-  pub Refuses : State → List ℕ → ℕ → Type 0
+  -- it may have no memory for one
+  pub LacksMemory : State → List ℕ → ℕ → Type 0
 
 -- the memory with each byte that was written put at its place's address, in the order of the places; so
 -- where two addresses agree the later byte stands
@@ -100,10 +100,10 @@ pub record Does {State : Type 0} (device : Device State) (old new : Memory) (buf
 module _ {Ring State : Type 0} (kind : Kind Ring) (device : Device State) where
   -- a chain is on offer, and the device takes one
   abbrev pub IsReady : Site Ring State → Type 0
-  IsReady site = (device.wants site.state && kind.offers site.memory site.ring) ≡ true
+  IsReady site = (device.takes site.state && kind.offers site.memory site.ring) ≡ true
 
   -- this chain is on offer, and this is what the device does with it
-  pub record Serves (site : Site Ring State) (s : Served State) : Type 0 where
+  pub record ServesChain (site : Site Ring State) (s : Served State) : Type 0 where
     pub ready : IsReady site
     pub offered : kind.Offers site.memory site.ring s.buffers s.entry
     pub gives : device.Gives site.state (readable_of site.memory s.buffers) (length (writable_of s.buffers)) s.given
@@ -118,9 +118,9 @@ module _ {Ring State : Type 0} (kind : Kind Ring) (device : Device State) where
   }
 
   -- these chains are served one after another, each where the one before it left off
-  abbrev pub Passes : Site Ring State → List (Served State) → Site Ring State → Type 0
-  Passes old [] new = old ≡ new
-  Passes old (s ∷ chains) new = Serves old s × Passes (after old s) chains new
+  abbrev pub ServesAll : Site Ring State → List (Served State) → Site Ring State → Type 0
+  ServesAll old [] new = old ≡ new
+  ServesAll old (s ∷ chains) new = ServesChain old s × ServesAll (after old s) chains new
 
   -- the device has no memory for the chain on offer
   pub record Leaves (site : Site Ring State) : Type 0 where
@@ -128,13 +128,13 @@ module _ {Ring State : Type 0} (kind : Kind Ring) (device : Device State) where
     pub buffers : List Buffer
     pub entry : Entry
     pub offered : kind.Offers site.memory site.ring buffers entry
-    pub refuses : device.Refuses site.state (readable_of site.memory buffers) (length (writable_of buffers))
+    pub lacks_memory : device.LacksMemory site.state (readable_of site.memory buffers) (length (writable_of buffers))
 
   -- why the service goes no further than this
-  abbrev pub Ends : Site Ring State → Ending → Type 0
-  Ends site Spent = (device.wants site.state && kind.offers site.memory site.ring) ≡ false
-  Ends site (Faulted fault) = IsReady site × kind.Fails site.memory site.ring fault
-  Ends site Refused = Leaves site
+  abbrev pub IsEnding : Site Ring State → Ending → Type 0
+  IsEnding site Spent = (device.takes site.state && kind.offers site.memory site.ring) ≡ false
+  IsEnding site (Faulted fault) = IsReady site × kind.HasFault site.memory site.ring fault
+  IsEnding site Refused = Leaves site
 
   -- where a service stands that ends: after a fault its ring is stopped
   abbrev pub stop : Site Ring State → Ending → Site Ring State
@@ -146,8 +146,8 @@ module _ {Ring State : Type 0} (kind : Kind Ring) (device : Device State) where
   pub record Runs (start : Site Ring State) (ending : Ending) (last : Site Ring State) : Type 0 where
     pub chains : List (Served State)
     pub at : Site Ring State
-    pub passes : Passes start chains at
-    pub ends : Ends at ending
+    pub serves : ServesAll start chains at
+    pub ends : IsEnding at ending
     pub stands : last ≡ stop at ending
 
   -- where a service stands once its ring is opened
@@ -168,27 +168,39 @@ module _ {Ring State : Type 0} (kind : Kind Ring) (device : Device State) where
     pub last : Site Ring State
     pub works : Works (kind.opening_fault old.memory old.ring) (open_site old) ending last
     pub closed : new ≡ close_site last
-    pub wanted_is : wanted ≡ kind.wants (kind.closed last.memory last.ring) last.ring
+    pub wanted_is : IsTrue wanted ↔ kind.Wants (kind.closed last.memory last.ring) last.ring
+
+  -- What a service leaves that ends for want of memory: the chains before were served; the one on offer isn't
+  -- touched, and the ring is closed at its place. So whether a notification is wanted turns on the chains
+  -- before it alone.
+  pub record IsRefusedService (old new : Site Ring State) (wanted : Bool) : Type 0 where
+    pub chains : List (Served State)
+    pub at : Site Ring State
+    pub opens : kind.opening_fault old.memory old.ring ≡ None
+    pub serves : ServesAll (open_site old) chains at
+    pub leaves : Leaves at
+    pub closed : new ≡ close_site at
+    pub wanted_is : IsTrue wanted ↔ kind.Wants (kind.closed at.memory at.ring) at.ring
 
   -- a service in its course: these chains were served since its start
-  pub record Reached (start now : Site Ring State) : Type 0 where
+  pub record Course (start now : Site Ring State) : Type 0 where
     pub chains : List (Served State)
-    pub passes : Passes start chains now
+    pub serves : ServesAll start chains now
 
--- the ring has one chain at a place: the buffers and the entry, or a fault, and never both
-pub record HasOneChain {Ring : Type 0} (kind : Kind Ring) : Type 0 where
+-- the ring has at most one chain at a place: the buffers and the entry, or a fault, and never both
+pub record HasAtMostOneChain {Ring : Type 0} (kind : Kind Ring) : Type 0 where
   pub buffers : (m : Memory) (ring : Ring) (b c : List Buffer) (e f : Entry) → kind.Offers m ring b e → kind.Offers m ring c f → b ≡ c
   pub entry : (m : Memory) (ring : Ring) (b c : List Buffer) (e f : Entry) → kind.Offers m ring b e → kind.Offers m ring c f → e ≡ f
-  pub fault : (m : Memory) (ring : Ring) (f g : Fault) → kind.Fails m ring f → kind.Fails m ring g → f ≡ g
-  pub not_both : (m : Memory) (ring : Ring) (b : List Buffer) (e : Entry) (f : Fault) → kind.Offers m ring b e → kind.Fails m ring f → ⊥
+  pub fault : (m : Memory) (ring : Ring) (f g : Fault) → kind.HasFault m ring f → kind.HasFault m ring g → f ≡ g
+  pub not_both : (m : Memory) (ring : Ring) (b : List Buffer) (e : Entry) (f : Fault) → kind.Offers m ring b e → kind.HasFault m ring f → ⊥
 
--- the device has one answer to a chain
-pub record HasOneAnswer {State : Type 0} (device : Device State) : Type 0 where
+-- the device has at most one answer to a chain
+pub record HasAtMostOneAnswer {State : Type 0} (device : Device State) : Type 0 where
   pub given : (s : State) (readable : List ℕ) (w : ℕ) (g h : Given State) → device.Gives s readable w g → device.Gives s readable w h → g ≡ h
 
--- The device is the exact one where the count of its failures stays, and that count never falls.
+-- The device is the exact one where the count of its failures stays, and that count never falls. Of chains
+-- that it leaves for want of memory this says nothing.
 pub record IsExactUnless {State : Type 0} (device exact : Device State) (count : State → ℕ) : Type 0 where
-  pub wants : (s : State) → device.wants s ≡ exact.wants s
+  pub takes : (s : State) → device.takes s ≡ exact.takes s
   pub rises : (s : State) (readable : List ℕ) (w : ℕ) (g : Given State) → device.Gives s readable w g → count s ≤ count g.state
   pub gives : (s : State) (readable : List ℕ) (w : ℕ) (g : Given State) → device.Gives s readable w g → count g.state ≡ count s → exact.Gives s readable w g
-  pub refuses : (s : State) (readable : List ℕ) (w : ℕ) → device.Refuses s readable w → exact.Refuses s readable w

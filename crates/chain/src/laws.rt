@@ -1,6 +1,6 @@
 //! Laws of the definitions. The bodies are empty: each contract is a theorem.
 
-ghost use Rattle.std.specs.Prelude.{◌≡◌, ℕ, List, [], ◌∷◌, ◌++◌, ◌↔◌, length};
+ghost use Rattle.std.specs.Prelude.{◌≡◌, ℕ, List, [], ◌∷◌, ◌++◌, ◌⊎◌, ◌↔◌, length};
 ghost use Rattle.guest_memory.specs.Memory.{Memory, put};
 ghost use Rattle.chain.specs.declared.segment.Buffer.{Buffer};
 ghost use Rattle.chain.specs.declared.fault.Fault.{Fault};
@@ -12,8 +12,9 @@ pub fn one_by_one()
     ensures { (m : Memory) (buffers : List Buffer) → AdmitsAll m [] buffers ↔ Good m buffers }
 {}
 
-/// A buffer isn't both admitted and refused, and it is refused for one cause.
+/// A buffer is admitted or refused, never both, and it is refused for one cause.
 pub fn one_refusal()
+    ensures either { (m : Memory) (buffers : List Buffer) (b : Buffer) → Admits m buffers b ⊎ ((f : Fault) × Refuses m buffers b f) }
     ensures never_both { (m : Memory) (buffers : List Buffer) (b : Buffer) (f : Fault) → Admits m buffers b → ¬ Refuses m buffers b f }
     ensures one_cause { (m : Memory) (buffers : List Buffer) (b : Buffer) (f g : Fault) → Refuses m buffers b f → Refuses m buffers b g → f ≡ g }
 {}

@@ -1,7 +1,10 @@
 -- What callers need of ranges of a memory: what a write leaves, and what it can't reach.
-use Rattle.std.proofs.Common.{◌≡◌, ◌⊎◌, inl, inr, ℕ, ◌+◌, ◌-◌, ◌≤◌, List, [], ◌++◌, length, take, drop, refl, ◌∙◌, ap, arith, length-append, length-take, length-drop, append_assoc}
+use Rattle.std.proofs.Common.{◌≡◌, ◌↔◌, ◌⊎◌, inl, inr, ℕ, ◌+◌, ◌-◌, ◌≤◌, List, [], ◌++◌, length, take, drop, refl, ◌∙◌, ap, arith, length-append, length-take, length-drop, append_assoc}
+use Rattle.std.specs.Prelude.{IsTrue}
+use Rattle.std.proofs.lemmas.Bool.{cases_lt}
+use Rattle.std.proofs.lemmas.Bool.Decides.{nat_tests}
 use Rattle.std.proofs.lemmas.List.{places, same_lists, take_all}
-use Rattle.guest_memory.specs.Memory.{Memory, Inside, SameRange, part_of, put_at, put}
+use Rattle.guest_memory.specs.Memory.{Memory, Inside, is_inside, SameRange, part_of, put_at, put}
 
 -- a list keeps its length, whatever is written where
 pub length-put_at : (xs : List ℕ) (i : ℕ) (bs : List ℕ) → length (put_at xs i bs) ≡ length xs
@@ -63,3 +66,30 @@ take-plus n k xs = same_lists _ _ (simp (length-take, length-append, length-drop
 -- a part that lies inside has its length
 pub length-part_of : (m : Memory) (a n : ℕ) → Inside m a n → length (part_of m a n) ≡ n
 length-part_of m a n inside = simp (length-take, length-drop) (omega arith)
+
+-- a range lies in a memory or doesn't
+pub inside_cases : (m : Memory) (a n : ℕ) → Inside m a n ⊎ (¬ Inside m a n)
+inside_cases m a n =
+    elim (cases_lt a m.base) [
+      | inl under ↦ inr (λ h. absurd (omega (arith, h.above)))
+      | inr above ↦ elim (cases_lt (m.base + length m.bytes) (a + n)) [
+        | inl over ↦ inr (λ h. absurd (omega (arith, h.below)))
+        | inr below ↦ inl (record { above = above; below = below })
+      ]
+    ]
+
+-- the test of a range tells whether it lies in the memory
+pub is_inside-tells : (m : Memory) (a n : ℕ) → IsTrue (is_inside m a n) ↔ Inside m a n
+is_inside-tells m a n = (λ test. record { above = grind (arith, nat_tests); below = grind (arith, nat_tests) }, λ inside. grind (arith, nat_tests))
+
+-- a range stays inside a memory of the same addresses
+pub inside_same : (old new : Memory) (a n : ℕ) → SameRange old new → Inside old a n → Inside new a n
+inside_same old new a n s h = record { above = omega arith; below = omega arith }
+
+-- and the test answers as before
+pub is_inside-same : (old new : Memory) (a n : ℕ) → SameRange old new → is_inside new a n ≡ is_inside old a n
+is_inside-same old new a n s = rw (s.base, s.size) refl
+
+-- the addresses stay where they stay in two steps
+pub same_trans : (a b c : Memory) → SameRange a b → SameRange b c → SameRange a c
+same_trans a b c p q = record { base = q.base ∙ p.base; size = q.size ∙ p.size }

@@ -1,6 +1,6 @@
 -- Guest memory as a driver and a device see it: bytes from a base address on, and the little-endian
 -- numbers that virtqueues keep in it (2.7, 2.8; numbers are little-endian by 1.4).
-use Rattle.std.specs.Prelude.{◌≡◌, ℕ, ◌+◌, ◌-◌, ◌≤◌, List, ◌++◌, length, take, drop, replicate}
+use Rattle.std.specs.Prelude.{◌≡◌, ℕ, ◌+◌, ◌-◌, ◌≤◌, nat_le, Bool, ◌&&◌, List, ◌++◌, length, take, drop, replicate}
 use Rattle.byteorder.specs.Endian.{little_number, little_bytes}
 
 -- the first address, and the byte at each address from there on
@@ -12,6 +12,10 @@ pub record Memory : Type 0 where
 pub record Inside (m : Memory) (a n : ℕ) : Type 0 where
   pub above : m.base ≤ a
   pub below : a + n ≤ m.base + length m.bytes
+
+-- the test whether they do
+abbrev pub is_inside : Memory → ℕ → ℕ → Bool
+is_inside m a n = nat_le m.base a && nat_le (a + n) (m.base + length m.bytes)
 
 -- the n bytes from address a on
 abbrev pub part_of : Memory → ℕ → ℕ → List ℕ

@@ -6,10 +6,12 @@
 #![tactic(auto)]
 
 mod fault;
+mod laws;
 mod memory;
 mod numbers;
 
 pub use fault::{MemoryFault, fault_of};
+pub use laws::a_range_is_tested;
 pub use memory::GuestMemory;
 
 #[cfg(test)]

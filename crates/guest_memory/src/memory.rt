@@ -2,7 +2,7 @@
 
 ghost use Rattle.std.specs.Prelude.{◌≡◌, ◌+◌, ◌-◌, ◌^◌, ◌≤◌, ◌↔◌, length, IsTrue, IsSome, IfOk, OnOk, IfSome};
 ghost use Rattle.guest_memory.specs.Limits.{IsSize, IsBase};
-ghost use Rattle.guest_memory.specs.Memory.{Inside, SameRange, part_of, zeroed};
+ghost use Rattle.guest_memory.specs.Memory.{Inside, SameRange, is_inside, part_of, zeroed};
 ghost use Rattle.guest_memory.specs.Lending.{LendsPart};
 ghost use Rattle.std.specs.Borrow.{sem};
 
@@ -66,6 +66,7 @@ impl<A: Allocator> GuestMemory<A> {
     /// lies in it, or at its end. Addresses don't wrap.
     pub fn holds(&self, addr: u64, n: u64) -> bool
         ensures inside { IsTrue result ↔ Inside self.now addr n }
+        ensures test { result ≡ is_inside self.now addr n }
         ensures fits { IsTrue result → addr + n ≤ 2 ^ 64 }
     {
         let len = self.len();

@@ -1,11 +1,11 @@
 use Rattle.std.proofs.Common.{◌≡◌, ◌+◌, ◌<◌, ◌-◌, true, take, drop, arith, sym, ap, ◌∙◌}
 use Rattle.guest_memory.specs.Memory.{put}
-use Rattle.guest_memory.proofs.Ranges.{put_range}
+use Rattle.guest_memory.proofs.Ranges.{put_range, same_trans}
 use Rattle.chain.specs.Bytes.{len_of, rest_at, segments_of, writable_of}
 use Rattle.chain.proofs.Contents.{part_inside, write_run}
 use Rattle.chain.proofs.Directions.{len_of-le, length-addresses_of}
 use Rattle.chain.proofs.Places.{rest_some}
-use Rattle.chain.proofs.Scattering.{within_same, same_trans, scatter_done}
+use Rattle.chain.proofs.Scattering.{within_same, scatter_done}
 use Rattle.chain.proofs.buffers.Chain.write_at.Goals as goal
 
 pub overflow_add-from : goal.overflow_add-from
