@@ -18,9 +18,9 @@ received pending w = record {
 -- The receive queue (5.3.6.1), over pending input: a chain is taken only while there is some.
 abbrev pub receive : Device (List ℕ)
 receive = record {
-  wants = λ pending. is_any pending;
+  takes = λ pending. is_any pending;
   Gives = λ pending readable w given. given ≡ received pending w;
-  Refuses = λ pending readable w. ⊥;
+  LacksMemory = λ pending readable w. ⊥;
 }
 
 -- a chain's readable bytes go out behind what went out before, and none of its places is written
@@ -30,15 +30,15 @@ transmitted out readable w = record { state = out ++ readable; written = replica
 -- The transmit queue, over what went out: every chain is taken; one with readable bytes may find no memory.
 abbrev pub transmit : Device (List ℕ)
 transmit = record {
-  wants = λ out. true;
+  takes = λ out. true;
   Gives = λ out readable w given. given ≡ transmitted out readable w;
-  Refuses = λ out readable w. readable ≢ [];
+  LacksMemory = λ out readable w. readable ≢ [];
 }
 
 -- the same with ample memory
 abbrev pub exact_transmit : Device (List ℕ)
 exact_transmit = record {
-  wants = λ out. true;
+  takes = λ out. true;
   Gives = λ out readable w given. given ≡ transmitted out readable w;
-  Refuses = λ out readable w. ⊥;
+  LacksMemory = λ out readable w. ⊥;
 }

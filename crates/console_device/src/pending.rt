@@ -70,7 +70,8 @@ impl<A: Allocator> Pending<A> {
         requires { Good mem.old chain.now }
         ensures count { result ≡ length (take (length (writable_of chain.now)) self.old) }
         ensures few { result ≤ 4096 }
-        ensures written { mem.new ≡ scatter mem.old (writable_of chain.now) (take result self.old) }
+        ensures written { mem.new ≡ scatter mem.old (writable_of chain.now)
+            (take (length (writable_of chain.now)) self.old) }
         ensures left { self.new ≡ drop (length (writable_of chain.now)) self.old }
         ensures range { SameRange mem.old mem.new }
     {

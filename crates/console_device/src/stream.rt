@@ -20,6 +20,14 @@ pub(crate) struct Answer {
     pub wrote: bool,
 }
 
+impl Answer {
+    /// Nothing was written.
+    pub(crate) const UNWRITTEN: Answer = Answer {
+        len: 0,
+        wrote: false,
+    };
+}
+
 /// A stream of bytes behind a queue.
 pub(crate) trait Stream {
     // the bytes that a contract sees of it
@@ -30,7 +38,7 @@ pub(crate) trait Stream {
 
     /// Whether it takes a chain.
     fn takes(&self) -> bool
-        ensures { result ≡ device.wants (bytes self.now) };
+        ensures { result ≡ device.takes (bytes self.now) };
 
     /// Serves one chain, or finds no memory for it and leaves all as it was.
     fn serve<M: Allocator>(
@@ -41,7 +49,7 @@ pub(crate) trait Stream {
         requires { Good mem.old chain.now }
         ensures does { IfOk result (λ answer. Does device mem.old mem.new chain.now
             (bytes self.old) (bytes self.new) answer.len answer.wrote) }
-        ensures refuses { OnErr result (device.Refuses (bytes self.old)
+        ensures lacks_memory { OnErr result (device.LacksMemory (bytes self.old)
             (readable_of mem.old chain.now) (length (writable_of chain.now))) }
         ensures kept { OnErr result (bytes self.new ≡ bytes self.old) }
         ensures unwritten { OnErr result (mem.new ≡ mem.old) }

@@ -1,10 +1,12 @@
 //! The transmit queue's end: what is put out.
 
-ghost use Rattle.std.specs.Prelude.{◌≡◌};
+ghost use Rattle.std.specs.Prelude.{◌≡◌, ◌≢◌, ◌++◌, [], All, OnOk, OnErr};
+ghost use Rattle.chain.specs.Buffers.{Within};
+ghost use Rattle.chain.specs.Bytes.{readable_of};
 
 use crate::no_memory::NoMemory;
 use crate::stream::{Answer, Stream};
-use chain::Chain;
+use chain::{Chain, Segment};
 use guest_memory::GuestMemory;
 use std::alloc::Allocator;
 
@@ -19,20 +21,37 @@ impl<A: Allocator> Stream for Vec<u8, A> {
         true
     }
 
-    /// Room for the whole chain is made before its first byte goes out.
     fn serve<M: Allocator>(
         &mut self,
         mem: &mut GuestMemory<M>,
         chain: &Chain,
     ) -> Result<Answer, NoMemory> {
-        let len = self.len();
-        let Ok(()) = self.resize(len + chain.readable_len() as usize, 0) else {
-            return Err(NoMemory);
-        };
-        chain.read_at(mem, 0, self.slice_mut(len..));
-        Ok(Answer {
-            len: 0,
-            wrote: false,
-        })
+        put_out(mem, chain, self)?;
+        Ok(Answer::UNWRITTEN)
     }
+}
+
+/// Puts out the readable bytes of a chain. Room for all of them is made before the first goes out.
+fn put_out<M: Allocator, A: Allocator>(
+    mem: &GuestMemory<M>,
+    chain: &Chain,
+    out: &mut Vec<u8, A>,
+) -> Result<(), NoMemory>
+    requires { All (Within mem.now) chain.now }
+    ensures ok { OnOk result (out.new.items ≡ out.old.items ++ readable_of mem.now chain.now) }
+    ensures err { OnErr result (out.new.items ≡ out.old.items) }
+    ensures owed { OnErr result (readable_of mem.now chain.now ≢ []) }
+{
+    let Ok(()) = out.reserve(chain.readable_len() as usize) else {
+        return Err(NoMemory);
+    };
+    for buffer in chain.buffers() {
+        if !buffer.writable {
+            let Segment { addr, len } = buffer.segment;
+            let Ok(()) = out.extend_from_slice(mem.slice(addr, u64::from(len))) else {
+                unreachable!()
+            };
+        }
+    }
+    Ok(())
 }
