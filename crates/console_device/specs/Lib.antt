@@ -2,3 +2,4 @@ pub mod Config
 pub mod Console
 pub mod Device
 pub mod Input
+pub mod Output
