@@ -1,6 +1,6 @@
 -- One service of a queue (2.7.13, 2.8.14 and 2.8.21), for every kind of ring and every device: the opening,
 -- chains one after another, the closing writes, and whether the driver is to be notified.
-use Rattle.std.specs.Prelude.{◌≡◌, ◌↔◌, ℕ, ◌+◌, ◌≤◌, Bool, true, false, IsTrue, ◌&&◌, Option, Some, None, List, [], ◌∷◌, length}
+use Rattle.std.specs.Prelude.{◌≡◌, ◌↔◌, ℕ, ◌+◌, ◌≤◌, Bool, true, false, IsTrue, ◌&&◌, Option, Some, None, List, [], ◌∷◌, ◌⊎◌, length}
 use Rattle.guest_memory.specs.Memory.{Memory, put}
 use Rattle.chain.specs.declared.segment.Buffer.{Buffer}
 use Rattle.chain.specs.declared.fault.Fault.{Fault}
@@ -193,6 +193,10 @@ pub record HasAtMostOneChain {Ring : Type 0} (kind : Kind Ring) : Type 0 where
   pub entry : (m : Memory) (ring : Ring) (b c : List Buffer) (e f : Entry) → kind.Offers m ring b e → kind.Offers m ring c f → e ≡ f
   pub fault : (m : Memory) (ring : Ring) (f g : Fault) → kind.HasFault m ring f → kind.HasFault m ring g → f ≡ g
   pub not_both : (m : Memory) (ring : Ring) (b : List Buffer) (e : Entry) (f : Fault) → kind.Offers m ring b e → kind.HasFault m ring f → ⊥
+
+-- the ring has a chain or a fault at each place, whether or not that is on offer
+pub record HasSomeChain {Ring : Type 0} (kind : Kind Ring) : Type 0 where
+  pub some : (m : Memory) (ring : Ring) → ((buffers : List Buffer) × (entry : Entry) × kind.Offers m ring buffers entry) ⊎ ((fault : Fault) × kind.HasFault m ring fault)
 
 -- the device has at most one answer to a chain
 pub record HasAtMostOneAnswer {State : Type 0} (device : Device State) : Type 0 where

@@ -3,3 +3,4 @@ pub mod Entries
 pub mod Outcomes
 pub mod TableOutcomes
 pub mod Listing
+pub mod Totality

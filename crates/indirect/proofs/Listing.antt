@@ -1,31 +1,18 @@
 -- The list of a ring, step by step, and that it has one outcome.
-use Rattle.std.proofs.Common.{◌≡◌, ℕ, ◌<◌, ◌≤◌, Bool, true, false, Some, None, List, [], ◌∷◌, ◌++◌, length, refl, sym, ap, ◌∙◌, arith, inl, inr, length-append}
+use Rattle.std.proofs.Common.{◌≡◌, ℕ, ◌/◌, ◌<◌, ◌≤◌, Bool, true, false, Some, None, List, [], ◌∷◌, ◌++◌, length, refl, sym, ap, ◌∙◌, arith, inl, inr, length-append}
 use Rattle.std.proofs.lemmas.Bool.{cases_lt, cases_eq}
 use Rattle.guest_memory.specs.Memory.{Memory}
 use Rattle.chain.specs.declared.segment.Buffer.{Buffer}
 use Rattle.chain.specs.declared.fault.Fault.{Fault}
 use Rattle.chain.specs.declared.fault.Fault.TheVariants.{Index, Loop, Joined, NoIndirect}
-use Rattle.chain.specs.Buffers.{Admits, AdmitsAll, Refuses}
-use Rattle.chain.proofs.Admitting.{Admits-Refuses, Refuses-unique}
+use Rattle.chain.specs.Buffers.{Good, Admits, AdmitsAll, Refuses}
+use Rattle.chain.proofs.Admitting.{Admits-Refuses, Refuses-unique, Good-append, Good-from_AdmitsAll}
 use Rattle.indirect.specs.declared.descriptor.Descriptor.{Descriptor}
+use Rattle.indirect.specs.Descriptors.{split_table, packed_buffers}
 use Rattle.indirect.specs.Walks.{Leads, buffers_of, Reached, ComesNext, first_of}
-use Rattle.indirect.specs.Lists.{TableKind, split_tables, packed_tables, HasOneTable, EndsPlain, is_joined, EndsBy, TableRefused, ListResolves, ListFails}
+use Rattle.indirect.specs.Lists.{TableKind, split_tables, packed_tables, EndsPlain, is_joined, EndsBy, TableRefused, ListResolves, ListFails}
+use Rattle.indirect.specs.Outcomes.{HasOneTable}
 use Rattle.indirect.proofs.Outcomes.{GoesOn, fronts, goes_past, same_front}
-use Rattle.indirect.proofs.TableOutcomes.{one_split_fault, one_split_path, never_both_split, one_packed_fault, one_packed_list, never_both_packed}
-
-pub split_tables_one : HasOneTable split_tables
-split_tables_one = record {
-  list = one_split_path;
-  fault = λ m addr len before a b f g x y. (one_split_fault m addr len before f g a b x y).0;
-  not_both = λ m addr len before a b f x y. never_both_split m addr len before f a b x y;
-}
-
-pub packed_tables_one : HasOneTable packed_tables
-packed_tables_one = record {
-  list = one_packed_list;
-  fault = λ m addr len before a b f g x y. (one_packed_fault m addr len before f g a b x y).0;
-  not_both = λ m addr len before a b f x y. never_both_packed m addr len before f a b x y;
-}
 
 module _ (kind : TableKind) (negotiated : Bool) (m : Memory) (t : ℕ → Descriptor) (n h : ℕ) where
   -- the list ends at a plain descriptor
@@ -36,7 +23,7 @@ module _ (kind : TableKind) (negotiated : Bool) (m : Memory) (t : ℕ → Descri
 
   -- it ends at a descriptor that refers to a table
   pub list_table : (before after : List Buffer) (count i : ℕ) (d : Descriptor) → d ≡ t i → count < n → i < n → d.indirect ≡ true → negotiated ≡ true
-      → is_joined kind count d ≡ false → kind.Resolves m d.buffer.segment.addr d.buffer.segment.len before after
+      → is_joined kind count d ≡ false → kind.HasBuffers m d.buffer.segment.addr d.buffer.segment.len before after
       → Reached m [] t n h count i before → ListResolves kind negotiated m t n h count i after
   list_table before after count i d e room below indirect known apart table r =
       record { before = before; reached = r; comes = record { room = room; below = below }; ends = rw (← e, indirect) (record { known = known; apart = apart; table = table }) }
@@ -114,7 +101,7 @@ module _ (kind : TableKind) (negotiated : Bool) (m : Memory) (t : ℕ → Descri
       no f = cc (j, f)
 
   pub table_faulty : (before left : List Buffer) (count : ℕ) (d : Descriptor) (fault : Fault) → negotiated ≡ true → is_joined kind count d ≡ false
-      → kind.Fails m d.buffer.segment.addr d.buffer.segment.len before fault left → TableRefused kind negotiated m before count d fault
+      → kind.HasFault m d.buffer.segment.addr d.buffer.segment.len before fault left → TableRefused kind negotiated m before count d fault
   table_faulty before left count d fault k f fails = record { unknown = λ e. cc (e, k); joined = λ _ j. cc (j, f); faulty = λ _ _. record { left = left; table = fails } }
 
 module _ (kind : TableKind) (one : HasOneTable kind) (negotiated : Bool) (m : Memory) (t : ℕ → Descriptor) (n h : ℕ) where
@@ -161,7 +148,7 @@ module _ (kind : TableKind) (one : HasOneTable kind) (negotiated : Bool) (m : Me
       apart false k e =
           let a = x.faulty k e in
           let b = y.faulty k e in
-          one.fault m d.buffer.segment.addr d.buffer.segment.len before a.left b.left f g a.table b.table
+          (one.fault m d.buffer.segment.addr d.buffer.segment.len before a.left b.left f g a.table b.table).0
 
       known : (v : Bool) → negotiated ≡ v → f ≡ g
       known false e = x.unknown e ∙ sym (y.unknown e)
@@ -207,7 +194,7 @@ module _ (kind : TableKind) (one : HasOneTable kind) (negotiated : Bool) (m : Me
   ends_once : (v : Bool) (before : List Buffer) (count : ℕ) (d : Descriptor) (a b : List Buffer) → EndsBy kind negotiated m v before count d a
       → EndsBy kind negotiated m v before count d b → a ≡ b
   ends_once false before count d a b x y = x.named ∙ sym y.named
-  ends_once true before count d a b x y = one.list m d.buffer.segment.addr d.buffer.segment.len before a b x.table y.table
+  ends_once true before count d a b x y = one.buffers m d.buffer.segment.addr d.buffer.segment.len before a b x.table y.table
 
   same_list : (c k : ℕ) (i j : ℕ) (a b : List Buffer) (x : ListResolves kind negotiated m t n h c i a) (y : ListResolves kind negotiated m t n h k j b)
       → y.reached.front ≡ x.reached.front → i ≡ j → record { count : c ≡ k; last : i ≡ j; buffers : a ≡ b }
@@ -260,3 +247,39 @@ module _ (kind : TableKind) (one : HasOneTable kind) (negotiated : Bool) (m : Me
         | inr o ↦ let s = same_front t n j x.at y.reached.front x.reached.front o (ends_there k j b y x.reached.front x.at o) in
             fails_or_ends f k j b x y (sym s.0) (sym s.1)
       ]
+
+  -- no front with buffers that are admitted is longer than the one before a fault
+  pub longest_list : (f : Fault) (found : ListFails kind negotiated m t n h f) (ys : List ℕ) (j : ℕ)
+      → Leads t n h ys j → AdmitsAll m [] (buffers_of t ys) → length ys ≤ n → length ys ≤ found.count
+  longest_list f found ys j p a l =
+      elim (fronts t n h found.at j found.reached.front ys found.reached.leads p) [
+        | inl o ↦ let s = same_front t n found.at j found.reached.front ys o (fails_there f found ys j a l o) in
+            let same : length ys ≡ length found.reached.front = ap (λ (l : List ℕ). length l) s.0 in
+            omega (arith, same, found.reached.counted)
+        | inr o ↦ let s = ap (λ (l : List ℕ). length l) o.joined ∙ length-append ys o.rest in
+            omega (arith, s, found.reached.counted)
+      ]
+
+-- behind good buffers, those of a table of this kind make good ones
+abbrev pub KeepsGood : TableKind → Type 0
+KeepsGood kind = (m : Memory) (addr len : ℕ) (before after : List Buffer) → kind.HasBuffers m addr len before after → Good m before → Good m after
+
+pub split_keeps_good : KeepsGood split_tables
+split_keeps_good m addr len before after x g =
+    let members = x.path.front ++ x.path.last ∷ [] in
+    rw x.path.named (Good-append m before (buffers_of (split_table m addr) members) g x.path.admitted)
+
+pub packed_keeps_good : KeepsGood packed_tables
+packed_keeps_good m addr len before after x g = rw x.named (Good-append m before (packed_buffers m addr (len / 16)) g x.admitted)
+
+-- and so the buffers of a list are good
+pub list_is_good : (kind : TableKind) → KeepsGood kind → (negotiated : Bool) (m : Memory) (t : ℕ → Descriptor) (n h count last : ℕ) (buffers : List Buffer)
+    → ListResolves kind negotiated m t n h count last buffers → Good m buffers
+list_is_good kind keeps negotiated m t n h count last buffers x = by_end (t last).indirect x.ends
+  where
+    front : Good m x.before
+    front = rw x.reached.named (Good-from_AdmitsAll m (buffers_of t x.reached.front) x.reached.admitted)
+
+    by_end : (v : Bool) → EndsBy kind negotiated m v x.before count (t last) buffers → Good m buffers
+    by_end false ends = rw ends.named (Good-append m x.before ((t last).buffer ∷ []) front (ends.admitted, tt))
+    by_end true ends = keeps m (t last).buffer.segment.addr (t last).buffer.segment.len x.before buffers ends.table front

@@ -1,7 +1,8 @@
 -- A range has one outcome as an indirect table, of either kind.
-use Rattle.std.proofs.Common.{◌≡◌, ℕ, zero, suc, ◌+◌, ◌-◌, ◌*◌, ◌/◌, ◌%◌, ◌<◌, ◌≤◌, List, [], ◌∷◌, ◌++◌, length, refl, sym, ap, ◌∙◌, arith, inl, inr, ◌⊎◌}
+use Rattle.std.proofs.Common.{◌≡◌, ℕ, zero, suc, ◌+◌, ◌-◌, ◌*◌, ◌/◌, ◌%◌, ◌<◌, ◌≤◌, List, [], ◌∷◌, ◌++◌, refl, sym, ap, ◌∙◌, arith, inl, inr, ◌⊎◌}
 use Rattle.std.proofs.lemmas.Bool.{cases_lt, cases_eq}
-use Rattle.guest_memory.specs.Memory.{Memory, Inside}
+use Rattle.guest_memory.specs.Memory.{Memory}
+use Rattle.guest_memory.proofs.Ranges.{inside_cases}
 use Rattle.chain.specs.declared.segment.Buffer.{Buffer}
 use Rattle.chain.specs.declared.fault.Fault.{Fault}
 use Rattle.chain.specs.Buffers.{Admits, AdmitsAll}
@@ -12,7 +13,7 @@ use Rattle.indirect.proofs.Entries.{packed_buffers-more}
 use Rattle.indirect.proofs.Outcomes.{one_fault, one_path, never_both}
 
 -- a length is a table's or isn't
-len_cases : (len : ℕ) → IsTableLen len ⊎ (¬ IsTableLen len)
+pub len_cases : (len : ℕ) → IsTableLen len ⊎ (¬ IsTableLen len)
 len_cases len =
     elim (cases_lt 0 len) [
       | inr none ↦ inr (λ h. absurd (omega (arith, h.least)))
@@ -25,17 +26,8 @@ len_cases len =
       ]
     ]
 
-inside_cases : (m : Memory) (a n : ℕ) → Inside m a n ⊎ (¬ Inside m a n)
-inside_cases m a n =
-    elim (cases_lt a m.base) [
-      | inl under ↦ inr (λ h. absurd (omega (arith, h.above)))
-      | inr above ↦ elim (cases_lt (m.base + length m.bytes) (a + n)) [
-        | inl over ↦ inr (λ h. absurd (omega (arith, h.below)))
-        | inr below ↦ inl (record { above = above; below = below })
-      ]
-    ]
-
-table_cases : (m : Memory) (addr len : ℕ) → IsTable m addr len ⊎ (¬ IsTable m addr len)
+-- a range is a table or isn't
+pub table_cases : (m : Memory) (addr len : ℕ) → IsTable m addr len ⊎ (¬ IsTable m addr len)
 table_cases m addr len =
     elim (len_cases len) [
       | inr bad ↦ inr (λ h. bad h.size)

@@ -5,7 +5,18 @@ use Rattle.guest_memory.specs.Memory.{Memory, num}
 use Rattle.chain.specs.Buffers.{buffer_of}
 use Rattle.chain.specs.declared.segment.Buffer.{Buffer}
 use Rattle.indirect.specs.declared.descriptor.Descriptor.{Descriptor}
-use Rattle.indirect.specs.declared.descriptor.TheConstants.{NEXT, WRITE, INDIRECT}
+
+-- VIRTQ_DESC_F_NEXT: the descriptor goes on in a next one
+abbrev pub next_flag : ℕ
+next_flag = 1
+
+-- VIRTQ_DESC_F_WRITE: the device writes the descriptor's buffer
+abbrev pub write_flag : ℕ
+write_flag = 2
+
+-- VIRTQ_DESC_F_INDIRECT: the descriptor's buffer is a table of descriptors
+abbrev pub indirect_flag : ℕ
+indirect_flag = 4
 
 -- whether a word of flags has the given one
 abbrev pub has_flag : ℕ → ℕ → Bool
@@ -16,14 +27,14 @@ abbrev pub split_descriptor : Memory → ℕ → Descriptor
 split_descriptor m a =
     let flags = num m (a + 12) 2 in
     record {
-      buffer = buffer_of (num m a 8) (num m (a + 8) 4) (has_flag flags WRITE);
-      indirect = has_flag flags INDIRECT;
-      next = if has_flag flags NEXT then Some (num m (a + 14) 2) else None;
+      buffer = buffer_of (num m a 8) (num m (a + 8) 4) (has_flag flags write_flag);
+      indirect = has_flag flags indirect_flag;
+      next = if has_flag flags next_flag then Some (num m (a + 14) 2) else None;
     }
 
 -- the buffer of the descriptor at address a in the packed layout: addr, len, id, flags
 abbrev pub packed_buffer : Memory → ℕ → Buffer
-packed_buffer m a = buffer_of (num m a 8) (num m (a + 8) 4) (has_flag (num m (a + 14) 2) WRITE)
+packed_buffer m a = buffer_of (num m a 8) (num m (a + 8) 4) (has_flag (num m (a + 14) 2) write_flag)
 
 -- the i-th descriptor of the split table at an address
 abbrev pub split_table : Memory → ℕ → ℕ → Descriptor

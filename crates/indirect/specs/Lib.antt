@@ -4,3 +4,4 @@ pub mod Descriptors
 pub mod Walks
 pub mod Tables
 pub mod Lists
+pub mod Outcomes

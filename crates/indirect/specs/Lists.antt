@@ -1,7 +1,7 @@
 -- The list of descriptors that a ring offers (2.7.5, 2.8.6): its buffers, or its fault. It is stated for any
 -- ring: t is its table of n descriptors and h the index of the list's head. In a packed ring the next of a
 -- descriptor is the one at the next position.
-use Rattle.std.specs.Prelude.{◌≡◌, ℕ, ◌<◌, ◌≤◌, Bool, true, false, ◌||◌, ◌&&◌, nat_lt, is_some, None, List, [], ◌∷◌, ◌++◌}
+use Rattle.std.specs.Prelude.{◌≡◌, ℕ, ◌<◌, ◌≤◌, Bool, true, false, ◌||◌, ◌&&◌, nat_lt, is_some, None, List, [], ◌∷◌, ◌++◌, ◌⊎◌}
 use Rattle.guest_memory.specs.Memory.{Memory}
 use Rattle.chain.specs.Buffers.{Admits, Refuses}
 use Rattle.chain.specs.declared.segment.Buffer.{Buffer}
@@ -16,23 +16,23 @@ pub record TableKind : Type 1 where
   -- a descriptor that refers to a table is the only one of its list
   pub alone : Bool
   -- with the buffers of the table at an address, of a length, these before become those after
-  pub Resolves : Memory → ℕ → ℕ → List Buffer → List Buffer → Type 0
+  pub HasBuffers : Memory → ℕ → ℕ → List Buffer → List Buffer → Type 0
   -- the fault of the table behind the buffers before, and the buffers that stand before it
-  pub Fails : Memory → ℕ → ℕ → List Buffer → Fault → List Buffer → Type 0
+  pub HasFault : Memory → ℕ → ℕ → List Buffer → Fault → List Buffer → Type 0
 
 -- In a split ring plain descriptors may come before one that refers to a table (2.7.5.3.1).
 abbrev pub split_tables : TableKind
-split_tables = record { alone = false; Resolves = SplitTableResolves; Fails = SplitTableFails }
+split_tables = record { alone = false; HasBuffers = SplitTableResolves; HasFault = SplitTableFails }
 
 -- In a packed ring none may (2.8.7).
 abbrev pub packed_tables : TableKind
-packed_tables = record { alone = true; Resolves = PackedTableResolves; Fails = PackedTableFails }
+packed_tables = record { alone = true; HasBuffers = PackedTableResolves; HasFault = PackedTableFails }
 
--- a kind whose tables have one outcome
-pub record HasOneTable (kind : TableKind) : Type 0 where
-  pub list : (m : Memory) (addr len : ℕ) (before a b : List Buffer) → kind.Resolves m addr len before a → kind.Resolves m addr len before b → a ≡ b
-  pub fault : (m : Memory) (addr len : ℕ) (before a b : List Buffer) (f g : Fault) → kind.Fails m addr len before f a → kind.Fails m addr len before g b → f ≡ g
-  pub not_both : (m : Memory) (addr len : ℕ) (before a b : List Buffer) (f : Fault) → kind.Fails m addr len before f a → kind.Resolves m addr len before b → ⊥
+-- the range has buffers as a table of this kind, or a fault
+abbrev pub TableHasOutcome : TableKind → Memory → ℕ → ℕ → List Buffer → Type 0
+TableHasOutcome kind m addr len before =
+    ((after : List Buffer) × kind.HasBuffers m addr len before after)
+    ⊎ ((fault : Fault) × (left : List Buffer) × kind.HasFault m addr len before fault left)
 
 -- the plain descriptor d ends a list behind these buffers
 pub record EndsPlain (m : Memory) (before : List Buffer) (d : Descriptor) (after : List Buffer) : Type 0 where
@@ -50,7 +50,7 @@ module _ (kind : TableKind) (negotiated : Bool) (m : Memory) where
   pub record EndsInTable (before : List Buffer) (count : ℕ) (d : Descriptor) (after : List Buffer) : Type 0 where
     pub known : negotiated ≡ true
     pub apart : is_joined kind count d ≡ false
-    pub table : kind.Resolves m d.buffer.segment.addr d.buffer.segment.len before after
+    pub table : kind.HasBuffers m d.buffer.segment.addr d.buffer.segment.len before after
 
   -- the descriptor d, which refers to a table or doesn't, ends a list
   abbrev pub EndsBy : Bool → List Buffer → ℕ → Descriptor → List Buffer → Type 0
@@ -60,7 +60,7 @@ module _ (kind : TableKind) (negotiated : Bool) (m : Memory) where
   -- the table that the descriptor d refers to has a fault behind these buffers
   pub record TableFaulty (before : List Buffer) (d : Descriptor) (fault : Fault) : Type 0 where
     pub left : List Buffer
-    pub table : kind.Fails m d.buffer.segment.addr d.buffer.segment.len before fault left
+    pub table : kind.HasFault m d.buffer.segment.addr d.buffer.segment.len before fault left
 
   -- The fault of a descriptor d that refers to a table, behind count members with these buffers: the feature
   -- wasn't negotiated; else d is joined to others; else its table's.
@@ -90,3 +90,9 @@ module _ (kind : TableKind) (negotiated : Bool) (m : Memory) where
       pub past : count < n → n ≤ at → fault ≡ Index
       pub plain : ComesNext n count at → (t at).indirect ≡ false → Refuses m before (t at).buffer fault
       pub indirect : ComesNext n count at → (t at).indirect ≡ true → TableRefused before count (t at) fault
+
+    -- the list from h has buffers, or a fault
+    abbrev pub ListHasOutcome : Type 0
+    ListHasOutcome =
+        ((count : ℕ) × (last : ℕ) × (buffers : List Buffer) × ListResolves count last buffers)
+        ⊎ ((fault : Fault) × ListFails fault)

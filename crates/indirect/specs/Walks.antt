@@ -1,6 +1,6 @@
 -- Lists of descriptors linked by NEXT, in any table of them (2.7.5). A table is a function from an index
 -- to a descriptor, and n is the number of its descriptors; the table may be a ring's own.
-use Rattle.std.specs.Prelude.{◌≡◌, ℕ, ◌<◌, ◌≤◌, true, false, Some, None, List, [], ◌∷◌, ◌++◌, length, map}
+use Rattle.std.specs.Prelude.{◌≡◌, ℕ, ◌<◌, ◌≤◌, true, false, Some, None, List, [], ◌∷◌, ◌++◌, ◌⊎◌, length, map}
 use Rattle.guest_memory.specs.Memory.{Memory}
 use Rattle.chain.specs.Buffers.{AdmitsAll, Refuses}
 use Rattle.chain.specs.declared.segment.Buffer.{Buffer}
@@ -88,3 +88,8 @@ pub record FaultAt (m : Memory) (before : List Buffer) (t : ℕ → Descriptor) 
   pub at : ℕ
   pub reached : Reached m before t n h count at after
   pub stops : StopsAt m after t n count at fault
+
+-- the walk from h behind the buffers before comes to the end of a path, or to a fault
+abbrev pub WalkHasOutcome : Memory → List Buffer → (ℕ → Descriptor) → ℕ → ℕ → Type 0
+WalkHasOutcome m before t n h =
+    ((after : List Buffer) × Resolves m before t n h after) ⊎ ((fault : Fault) × (after : List Buffer) × FaultAt m before t n h fault after)

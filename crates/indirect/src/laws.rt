@@ -6,8 +6,9 @@ ghost use Rattle.chain.specs.declared.segment.Buffer.{Buffer};
 ghost use Rattle.chain.specs.declared.fault.Fault.{Fault};
 ghost use Rattle.chain.specs.Buffers.{AdmitsAll};
 ghost use Rattle.indirect.specs.declared.descriptor.Descriptor.{Descriptor};
-ghost use Rattle.indirect.specs.Walks.{Leads, buffers_of, Resolves, FaultAt};
-ghost use Rattle.indirect.specs.Tables.{SplitTableResolves, SplitTableFails, PackedTableResolves, PackedTableFails};
+ghost use Rattle.indirect.specs.Walks.{Leads, buffers_of, Resolves, FaultAt, WalkHasOutcome};
+ghost use Rattle.indirect.specs.Lists.{split_tables, packed_tables};
+ghost use Rattle.indirect.specs.Outcomes.{HasOneTable, HasOneList};
 
 /// A walk over linked descriptors has one outcome: a path's buffers, or a fault with the buffers before it.
 pub fn one_outcome_of_walk()
@@ -17,6 +18,7 @@ pub fn one_outcome_of_walk()
         → FaultAt m before t n h f a → FaultAt m before t n h g b → (f ≡ g) × (a ≡ b) }
     ensures never_both { (m : Memory) (before : List Buffer) (t : ℕ → Descriptor) (n h : ℕ) (f : Fault) (a b : List Buffer)
         → FaultAt m before t n h f a → ¬ Resolves m before t n h b }
+    ensures some { (m : Memory) (before : List Buffer) (t : ℕ → Descriptor) (n h : ℕ) → WalkHasOutcome m before t n h }
 {}
 
 /// The front before a fault is the longest of those whose buffers may stand behind the others.
@@ -26,22 +28,15 @@ pub fn front_is_longest()
         → Leads t n h front i → AdmitsAll m before (buffers_of t front) → length front ≤ n → length front ≤ found.count }
 {}
 
-/// A range of memory has one outcome as a split table.
-pub fn one_outcome_of_split_table()
-    ensures one_path { (m : Memory) (addr len : ℕ) (before a b : List Buffer)
-        → SplitTableResolves m addr len before a → SplitTableResolves m addr len before b → a ≡ b }
-    ensures one_fault { (m : Memory) (addr len : ℕ) (before : List Buffer) (f g : Fault) (a b : List Buffer)
-        → SplitTableFails m addr len before f a → SplitTableFails m addr len before g b → (f ≡ g) × (a ≡ b) }
-    ensures never_both { (m : Memory) (addr len : ℕ) (before : List Buffer) (f : Fault) (a b : List Buffer)
-        → SplitTableFails m addr len before f a → ¬ SplitTableResolves m addr len before b }
+/// A range of memory has one outcome as a table of either kind: its buffers, or a fault with the buffers before it.
+pub fn one_outcome_of_table()
+    ensures split { HasOneTable split_tables }
+    ensures packed { HasOneTable packed_tables }
 {}
 
-/// A range of memory has one outcome as a packed table.
-pub fn one_outcome_of_packed_table()
-    ensures one_list { (m : Memory) (addr len : ℕ) (before a b : List Buffer)
-        → PackedTableResolves m addr len before a → PackedTableResolves m addr len before b → a ≡ b }
-    ensures one_fault { (m : Memory) (addr len : ℕ) (before : List Buffer) (f g : Fault) (a b : List Buffer)
-        → PackedTableFails m addr len before f a → PackedTableFails m addr len before g b → (f ≡ g) × (a ≡ b) }
-    ensures never_both { (m : Memory) (addr len : ℕ) (before : List Buffer) (f : Fault) (a b : List Buffer)
-        → PackedTableFails m addr len before f a → ¬ PackedTableResolves m addr len before b }
+/// The list of a ring has one outcome: its buffers, or a fault. The front before a fault is the longest of those
+/// whose buffers a chain may hold.
+pub fn one_outcome_of_list()
+    ensures split { HasOneList split_tables }
+    ensures packed { HasOneList packed_tables }
 {}

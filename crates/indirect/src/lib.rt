@@ -14,6 +14,4 @@ mod tests;
 
 pub use append::{append_packed, append_split};
 pub use descriptor::{Descriptor, INDIRECT, NEXT, WRITE, read_packed_buffer};
-pub use laws::{
-    front_is_longest, one_outcome_of_packed_table, one_outcome_of_split_table, one_outcome_of_walk,
-};
+pub use laws::{front_is_longest, one_outcome_of_list, one_outcome_of_table, one_outcome_of_walk};

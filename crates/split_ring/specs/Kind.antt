@@ -1,14 +1,15 @@
 -- The split ring as a kind of ring: what a service of it is (2.7.6 to 2.7.8, 2.7.13).
-use Rattle.std.specs.Prelude.{◌≡◌, ℕ, ◌+◌, ◌-◌, ◌*◌, ◌%◌, ◌^◌, Bool, nat_lt, ◌==◌, ◌&&◌, if◌then◌else◌, Option, Some, None, List, map}
-use Rattle.std.specs.List.{list_any, range_with_len}
+use Rattle.std.specs.Prelude.{◌≡◌, ℕ, ◌+◌, ◌-◌, ◌*◌, ◌<◌, Bool, nat_lt, if◌then◌else◌, Option, Some, None, List}
 use Rattle.guest_memory.specs.Memory.{Memory, put_num}
 use Rattle.chain.specs.declared.segment.Buffer.{Buffer}
 use Rattle.chain.specs.declared.fault.Fault.{Fault}
 use Rattle.chain.specs.declared.fault.Fault.TheVariants.{Jump}
 use Rattle.chain.specs.Service.{Entry, Kind}
-use Rattle.suppression.specs.Split.{no_interrupt, used_event}
+use Rattle.indirect.specs.Lists.{split_tables, ListResolves, ListFails}
+use Rattle.suppression.specs.Places.{idx_modulus, place_back}
+use Rattle.suppression.specs.Split.{SplitWants}
 use Rattle.split_ring.specs.Ring.{SplitRingState, table_of, on_offer, next_place, head_of, with_used}
-use Rattle.split_ring.specs.Paths.{IsChainOf, IsFaultOf}
+use Rattle.split_ring.specs.declared.ring.Token.{Token}
 
 -- the driver can't have put more heads than the queue has descriptors
 abbrev pub opening_fault : Memory → SplitRingState → Option Fault
@@ -26,14 +27,21 @@ offers m ring = nat_lt 0 ring.left
 abbrev pub entry_of : ℕ → Entry
 entry_of head = record { id = head; places = 1 }
 
--- the chain on offer is that of the head at the ring's place
+-- the chain on offer is the list of descriptors from the head at the ring's place
 pub record Offers (m : Memory) (ring : SplitRingState) (buffers : List Buffer) (entry : Entry) : Type 0 where
-  pub chain : IsChainOf m (table_of m ring) ring.setup.size ring.setup.indirect (head_of m ring) buffers
+  pub count : ℕ
+  pub last : ℕ
+  pub list : ListResolves split_tables ring.setup.indirect m (table_of m ring) ring.setup.size (head_of m ring) count last buffers
   pub entry_is : entry ≡ entry_of (head_of m ring)
 
--- the head at the ring's place has this fault
-abbrev pub Fails : Memory → SplitRingState → Fault → Type 0
-Fails m ring fault = IsFaultOf m (table_of m ring) ring.setup.size ring.setup.indirect (head_of m ring) fault
+-- that list has this fault
+abbrev pub HasFault : Memory → SplitRingState → Fault → Type 0
+HasFault m ring fault = ListFails split_tables ring.setup.indirect m (table_of m ring) ring.setup.size (head_of m ring) fault
+
+-- the token names the chain at the ring's place, and the service may still take it
+pub record IsTaken (ring : SplitRingState) (token : Token) : Type 0 where
+  pub place : token.place ≡ ring.place
+  pub left : 0 < ring.left
 
 -- the ring behind one more chain
 abbrev pub past : SplitRingState → SplitRingState
@@ -52,19 +60,11 @@ closed m ring =
 
 -- the first of the places that the service has passed; the ring's own place is behind the last
 abbrev pub first_passed : SplitRingState → ℕ
-first_passed ring = (ring.place + (2 ^ 16 - ring.passed)) % 2 ^ 16
+first_passed ring = place_back idx_modulus ring.place ring.passed
 
--- all of them
-abbrev pub places_passed : SplitRingState → List ℕ
-places_passed ring = map (λ steps. (first_passed ring + steps) % 2 ^ 16) (range_with_len 0 ring.passed)
-
--- The driver wants a notification (2.7.7): with VIRTIO_F_EVENT_IDX, where a place that was passed is
--- used_event; without it, where any was passed and bit 0 of the available ring's flags is 0.
-abbrev pub is_wanted : Memory → SplitRingState → Bool
-is_wanted m ring =
-    if ring.setup.event_idx
-    then list_any (λ place. place == used_event m ring.setup.driver ring.setup.size) (places_passed ring)
-    else nat_lt 0 ring.passed && no_interrupt m ring.setup.driver == 0
+-- the driver wants a notification of the places that the service has passed
+abbrev pub Wants : Memory → SplitRingState → Type 0
+Wants m ring = SplitWants m ring.setup.driver ring.setup.size ring.setup.event_idx (first_passed ring) ring.passed
 
 -- the ring between two services
 abbrev pub shut : SplitRingState → SplitRingState
@@ -77,11 +77,11 @@ split_kind = record {
   opened = opened;
   offers = offers;
   Offers = Offers;
-  Fails = Fails;
+  HasFault = HasFault;
   used = λ m ring entry len wrote. with_used m ring entry.id len;
   past = λ ring entry. past ring;
   stopped = stopped;
   closed = closed;
-  wants = is_wanted;
+  Wants = Wants;
   shut = shut;
 }

@@ -1,4 +1,3 @@
 pub use Rattle.guest_memory.specs.Memory
 pub mod Ring
-pub mod Paths
 pub mod Kind

@@ -1,9 +1,10 @@
 -- A split virtqueue as its device sees it (2.7), and what stands where in its three areas.
-use Rattle.std.specs.Prelude.{◌≡◌, ℕ, ◌+◌, ◌-◌, ◌*◌, ◌%◌, ◌≤◌, ◌^◌, Bool, IsTrue, ◌&&◌, ◌==◌, nat_le, length}
+use Rattle.std.specs.Prelude.{◌≡◌, ℕ, ◌+◌, ◌-◌, ◌*◌, ◌%◌, ◌≤◌, Bool, IsTrue, ◌&&◌, ◌==◌, nat_le}
 use Rattle.std.specs.Int.{is_power_of_two}
-use Rattle.guest_memory.specs.Memory.{Memory, Inside, num, put_num}
+use Rattle.guest_memory.specs.Memory.{Memory, Inside, is_inside, num, put_num}
 use Rattle.indirect.specs.declared.descriptor.Descriptor.{Descriptor}
 use Rattle.indirect.specs.Descriptors.{split_table}
+use Rattle.suppression.specs.Places.{idx_modulus, place_ahead}
 
 -- how a ring is set up: its queue size, the addresses of descriptor table, available ring and used ring, and
 -- whether VIRTIO_F_INDIRECT_DESC and VIRTIO_F_EVENT_IDX were negotiated
@@ -20,10 +21,10 @@ abbrev pub setup_of : ℕ → ℕ → ℕ → ℕ → Bool → Bool → SplitSet
 setup_of n desc driver device indirect event_idx =
     record { size = n; desc = desc; driver = driver; device = device; indirect = indirect; event_idx = event_idx }
 
--- a ring, and how far it is served
+-- a ring, and how far it is served; its place counts modulo 65536, as the idx fields do
 pub record SplitRingState : Type 0 where
   pub setup : SplitSetup
-  -- how many chains were used since the ring was made, modulo 65536
+  -- how many chains were used since the ring was made
   pub place : ℕ
   -- how many chains this service may still take, and how many it has used
   pub left : ℕ
@@ -57,13 +58,9 @@ pub record IsUsable (m : Memory) (setup : SplitSetup) : Type 0 where
   pub aligned : IsAligned setup
   pub lies : LiesIn m setup
 
--- the test whether a range lies in the memory
-abbrev pub is_inside : Memory → ℕ → ℕ → Bool
-is_inside m a n = nat_le m.base a && nat_le (a + n) (m.base + length m.bytes)
-
 -- the test whether a ring may be set up so
-abbrev pub is_usable : Memory → SplitSetup → Bool
-is_usable m setup =
+abbrev pub can_set_up : Memory → SplitSetup → Bool
+can_set_up m setup =
     let n = setup.size in
     let is_size = nat_le n 256 && is_power_of_two n in
     let is_aligned = setup.desc % 16 == 0 && setup.driver % 2 == 0 && setup.device % 4 == 0 in
@@ -80,11 +77,11 @@ avail_idx m ring = num m (ring.setup.driver + 2) 2
 
 -- how many heads the driver has put from the ring's place on
 abbrev pub on_offer : Memory → SplitRingState → ℕ
-on_offer m ring = (avail_idx m ring + (2 ^ 16 - ring.place)) % 2 ^ 16
+on_offer m ring = (avail_idx m ring + (idx_modulus - ring.place)) % idx_modulus
 
 -- the place behind the ring's place, which is what the used idx then tells (2.7.8)
 abbrev pub next_place : SplitRingState → ℕ
-next_place ring = (ring.place + 1) % 2 ^ 16
+next_place ring = place_ahead idx_modulus ring.place 1
 
 -- the head in the available entry of the ring's place: an index into the descriptor table (2.7.6)
 abbrev pub head_of : Memory → SplitRingState → ℕ

@@ -9,7 +9,7 @@ mod laws;
 mod ring;
 mod walk;
 
-pub use laws::{each_head_has_an_outcome, front_is_longest, one_chain_at_a_place};
+pub use laws::one_chain_or_fault_at_a_place;
 pub use ring::{SplitRing, Token};
 
 #[cfg(test)]

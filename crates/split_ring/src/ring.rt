@@ -1,10 +1,10 @@
 //! The ring: its areas, its place, and the four calls of a service.
 
-ghost use Rattle.std.specs.Prelude.{◌≡◌, [], ◌↔◌, true, if◌then◌else◌, is_some, IsTrue, IsSome, IfSome, IfNone, IfOk, IfErr, OnOk, OnErr};
+ghost use Rattle.std.specs.Prelude.{◌≡◌, ◌<◌, [], ◌↔◌, true, if◌then◌else◌, is_some, IsTrue, IsSome, IfSome, IfNone, IfOk, IfErr, OnOk, OnErr};
 ghost use Rattle.chain.specs.Buffers.{Good};
 ghost use Rattle.guest_memory.specs.Memory.{SameRange};
-ghost use Rattle.split_ring.specs.Ring.{IsAligned, IsQueueSize, IsUsable, LiesIn, head_of, is_usable, new_ring, next_place, setup_of, with_used};
-ghost use Rattle.split_ring.specs.Kind.{entry_of, split_kind};
+ghost use Rattle.split_ring.specs.Ring.{IsAligned, IsQueueSize, IsUsable, LiesIn, head_of, can_set_up, new_ring, next_place, setup_of, with_used};
+ghost use Rattle.split_ring.specs.Kind.{IsTaken, entry_of, split_kind};
 ghost use Rattle.std.specs.Result.{result_err};
 
 use crate::walk::{Table, append_path};
@@ -69,9 +69,10 @@ impl SplitRing {
         indirect: bool,
         event_idx: bool,
     ) -> Option<SplitRing>
-        ensures value { result ≡ (if is_usable mem.now (setup_of n desc driver device indirect event_idx)
+        ensures value { result ≡ (if can_set_up mem.now (setup_of n desc driver device indirect event_idx)
             then Some (new_ring (setup_of n desc driver device indirect event_idx)) else None) }
         ensures usable { IsSome result ↔ IsUsable mem.now (setup_of n desc driver device indirect event_idx) }
+        ensures lies { IfSome result (λ ring. LiesIn mem.now ring.setup) }
     {
         if !is_queue_size(n) {
             return None;
@@ -101,7 +102,7 @@ impl SplitRing {
     }
 
     /// Whether the areas lie in this memory, as each call of a service wants.
-    pub(crate) fn lies_in<A: Allocator>(&self, mem: &GuestMemory<A>) -> bool
+    pub fn lies_in<A: Allocator>(&self, mem: &GuestMemory<A>) -> bool
         ensures { IsTrue result ↔ LiesIn mem.now self.now.setup }
     {
         let n = u64::from(self.size);
@@ -116,6 +117,7 @@ impl SplitRing {
         requires { LiesIn mem.now self.old.setup }
         ensures jump { result_err result ≡ split_kind.opening_fault mem.now self.old }
         ensures opened { self.new ≡ split_kind.opened mem.now self.old }
+        ensures lies { LiesIn mem.now self.new.setup }
     {
         // So no address in the area passes 2^64.
         prove!(mem.holds(self.driver, 6));
@@ -140,17 +142,18 @@ impl SplitRing {
         requires { LiesIn mem.now self.old.setup }
         ensures on_offer { IfOk result (λ taken. split_kind.offers mem.now self.old ≡ is_some taken) }
         ensures offered { IfOk result (λ taken. IfSome taken (λ token. split_kind.Offers mem.now self.old chain.new (entry_of token.head))) }
-        ensures place { IfOk result (λ taken. IfSome taken (λ token. token.place ≡ self.old.place)) }
+        ensures taken { IfOk result (λ taken. IfSome taken (IsTaken self.old)) }
         ensures same { OnOk result (self.new ≡ self.old) }
 
         // A fault is that of what is on offer, and ends the service.
         ensures met { OnErr result (split_kind.offers mem.now self.old ≡ true) }
-        ensures fault { IfErr result (split_kind.Fails mem.now self.old) }
+        ensures fault { IfErr result (split_kind.HasFault mem.now self.old) }
         ensures stopped { OnErr result (self.new ≡ split_kind.stopped self.old) }
 
         ensures empty { IfOk result (λ taken. IfNone taken (chain.new ≡ [])) }
         ensures emptied { OnErr result (chain.new ≡ []) }
         ensures good { Good mem.now chain.new }
+        ensures lies { LiesIn mem.now self.new.setup }
     {
         chain.clear();
         if self.left == 0 {
@@ -195,11 +198,12 @@ impl SplitRing {
         wrote: bool,
     )
         requires lies { LiesIn mem.old self.old.setup }
-        requires offered { split_kind.offers mem.old self.old ≡ true }
-        requires taken { token.place ≡ self.old.place }
+        requires taken { IsTaken self.old token }
         ensures used { mem.new ≡ split_kind.used mem.old self.old (entry_of token.head) len wrote }
         ensures past { self.new ≡ split_kind.past self.old (entry_of token.head) }
+        ensures fewer { self.new.left < self.old.left }
         ensures range { SameRange mem.old mem.new }
+        ensures lies { LiesIn mem.new self.new.setup }
     {
         let next = self.place.wrapping_add(1);
         self.put_used(mem, token.head, len, next);
@@ -229,9 +233,10 @@ impl SplitRing {
     pub fn close<A: Allocator>(&mut self, mem: &mut GuestMemory<A>) -> bool
         requires { LiesIn mem.old self.old.setup }
         ensures closed { mem.new ≡ split_kind.closed mem.old self.old }
-        ensures wants { result ≡ split_kind.wants mem.new self.old }
+        ensures wants { IsTrue result ↔ split_kind.Wants mem.new self.old }
         ensures shut { self.new ≡ split_kind.shut self.old }
         ensures range { SameRange mem.old mem.new }
+        ensures lies { LiesIn mem.new self.new.setup }
     {
         self.put_closing(mem);
         let first = self.place.wrapping_sub(self.passed);

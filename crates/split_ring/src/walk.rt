@@ -1,9 +1,9 @@
 //! The walk from a head through the descriptor table.
 
-ghost use Rattle.std.specs.Prelude.{◌≡◌, ◌*◌, [], OnOk, IfErr};
+ghost use Rattle.std.specs.Prelude.{◌≡◌, ℕ, ◌*◌, [], OnOk, IfErr};
 ghost use Rattle.guest_memory.specs.Memory.{Inside};
 ghost use Rattle.indirect.specs.Descriptors.{split_table};
-ghost use Rattle.split_ring.specs.Paths.{AddsTable, IndirectFails, IsChainOf, IsFaultOf};
+ghost use Rattle.indirect.specs.Lists.{split_tables, EndsInTable, TableRefused, ListResolves, ListFails};
 
 use chain::{Chain, Fault};
 use guest_memory::GuestMemory;
@@ -28,8 +28,9 @@ pub(crate) fn append_path<A: Allocator>(
 ) -> Result<(), Fault>
     requires area { Inside mem.now table.addr (16 * table.size) }
     requires empty { chain.old ≡ [] }
-    ensures ok { OnOk result (IsChainOf mem.now (split_table mem.now table.addr) table.size table.indirect head chain.new) }
-    ensures fault { IfErr result (IsFaultOf mem.now (split_table mem.now table.addr) table.size table.indirect head) }
+    ensures ok { OnOk result ((count : ℕ) × (last : ℕ)
+        × ListResolves split_tables table.indirect mem.now (split_table mem.now table.addr) table.size head count last chain.new) }
+    ensures fault { IfErr result (ListFails split_tables table.indirect mem.now (split_table mem.now table.addr) table.size head) }
 {
     // So no address in the table passes 2^64.
     prove!(mem.holds(table.addr, 16 * u64::from(table.size)));
@@ -62,9 +63,8 @@ fn append_table<A: Allocator>(
     descriptor: Descriptor,
     chain: &mut Chain,
 ) -> Result<(), Fault>
-    ensures ok { OnOk result (AddsTable mem.now negotiated chain.old descriptor chain.new) }
-    ensures ends { OnOk result (descriptor.next ≡ None) }
-    ensures fault { IfErr result (IndirectFails mem.now negotiated chain.old descriptor) }
+    ensures ok { OnOk result ((count : ℕ) → EndsInTable split_tables negotiated mem.now chain.old count descriptor chain.new) }
+    ensures fault { IfErr result (λ fault. (count : ℕ) → TableRefused split_tables negotiated mem.now chain.old count descriptor fault) }
 {
     if !negotiated {
         return Err(Fault::NoIndirect);

@@ -5,10 +5,12 @@
 //! a certain place of the ring was passed. The split and the packed virtqueue ask here as they close.
 #![tactic(auto)]
 
+mod laws;
 mod packed;
 mod places;
 mod split;
 
+pub use laws::places_passed_since_the_first;
 pub use packed::packed_wants;
 pub use split::split_wants;
 

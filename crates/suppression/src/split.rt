@@ -12,7 +12,7 @@ use std::alloc::Allocator;
 const VIRTQ_AVAIL_F_NO_INTERRUPT: u16 = 1;
 
 /// The idx fields of a split queue's rings count modulo this.
-const PLACES: u32 = 1 << 16;
+const IDX_MODULUS: u32 = 1 << 16;
 
 /// Whether the driver of a split queue of size `n` wants a notification of the `count` used entries
 /// that were placed from place `from` on (2.7.7). Places are values of the used idx. Its area, the
@@ -35,7 +35,7 @@ pub fn split_wants<A: Allocator>(
     prove!(mem.holds(driver_area, 6 + entries));
     if event_idx {
         let used_event = mem.read_u16(driver_area + 4 + entries);
-        is_passed(PLACES, from, count, u32::from(used_event))
+        is_passed(IDX_MODULUS, from, count, u32::from(used_event))
     } else {
         count > 0 && mem.read_u16(driver_area) & VIRTQ_AVAIL_F_NO_INTERRUPT == 0
     }

@@ -1,8 +1,10 @@
-use Rattle.std.proofs.Common.{◌*◌, [], arith}
+use Rattle.std.proofs.Common.{ℕ, ◌*◌, [], arith}
+use Rattle.std.proofs.lemmas.Result.{on_ok_weaker}
 use Rattle.indirect.specs.Descriptors.{split_table}
+use Rattle.indirect.specs.Lists.{split_tables, EndsInTable}
 use Rattle.indirect.proofs.Entries.{entry_is}
 use Rattle.indirect.proofs.Walking.{reached_step}
-use Rattle.split_ring.proofs.Chains.{IsFaultOf-from_Refuses}
+use Rattle.indirect.proofs.Listing.{list_refused, list_table}
 use Rattle.split_ring.proofs.walk.append_path.Goals as goal
 
 pub loop-count-preserved : goal.loop-count-preserved
@@ -23,5 +25,24 @@ returns-in-Err-clause-fault g c =
     let i = c.loop-count.index in
     let d = c.read_split-descriptor.result in
     let e = entry_is m a (16 * c.from-in-loop-count.result) i d c.read_split-descriptor.ensures (omega arith) in
-    IsFaultOf-from_Refuses m (split_table m a) c.args.table.size c.args.table.indirect c.args.head c.loop-count._count i c.loop-count.chain d c.in-Err.fault
+    list_refused split_tables c.args.table.indirect m (split_table m a) c.args.table.size c.args.head c.loop-count.chain c.loop-count._count i d c.in-Err.fault
     e c.loop-count-test.true c.if-index-table.false c.if-descriptor.false c.in-Err.ensures.fault c.loop-count.invariant
+
+pub returns-then-descriptor-clause-ok : goal.returns-then-descriptor-clause-ok
+returns-then-descriptor-clause-ok g c =
+    let m = c.args.mem.now in
+    let a = c.args.table.addr in
+    let i = c.loop-count.index in
+    let k = c.loop-count._count in
+    let d = c.read_split-descriptor.result in
+    let before = c.loop-count.chain in
+    let after = c.append_table.new.chain in
+    let e = entry_is m a (16 * c.from-in-loop-count.result) i d c.read_split-descriptor.ensures (omega arith) in
+    on_ok_weaker c.append_table.result
+    (λ (ends : (count : ℕ) → EndsInTable split_tables c.args.table.indirect m before count d after). (
+      k,
+      i,
+      list_table split_tables c.args.table.indirect m (split_table m a) c.args.table.size c.args.head before after k i d
+      e c.loop-count-test.true c.if-index-table.false c.if-descriptor.true (ends k).known (ends k).apart (ends k).table c.loop-count.invariant,
+    ))
+    c.append_table.ensures.ok
