@@ -1,3 +1,4 @@
+pub mod Courses
 pub mod Receiving
 pub mod Services
 pub mod Transmitting

@@ -5,7 +5,7 @@ use Rattle.std.proofs.lemmas.List.{length-map, length-replicate, length-append, 
 use Rattle.guest_memory.specs.Memory.{Memory}
 use Rattle.chain.specs.Service.{Kind, Given, Ending, Refused, Site, IsService, IsExactUnless, HasAtMostOneAnswer, used_len}
 use Rattle.chain.proofs.Partial.{unwritten, used_len-run}
-use Rattle.chain.proofs.Servicing.{exact_service}
+use Rattle.chain.proofs.Servicing.{exact_service, never_refused}
 use Rattle.chain.proofs.Simulating.{Matches, DoesAs, ServedAs, service_as}
 use Rattle.console_device.specs.Output.{PutsOut}
 use Rattle.console_device.specs.Device.{received, receive, transmitted, transmit, exact_transmit}
@@ -41,6 +41,10 @@ exact_unless = record {
 }
 
 module _ {Ring : Type 0} (kind : Kind Ring) where
+  pub receive_never_refused : (old new : Site Ring (List ℕ)) (ending : Ending) (wanted : Bool)
+      → IsService kind receive old new ending wanted → ending ≢ Refused
+  receive_never_refused old new ending wanted s = never_refused kind receive old new ending wanted (λ pending readable w h. h) s
+
   pub transmit_exact : (old new : Site Ring (List ℕ)) (ending : Ending) (wanted : Bool) → ending ≢ Refused
       → IsService kind transmit old new ending wanted → IsService kind exact_transmit old new ending wanted
   transmit_exact old new ending wanted n s = exact_service kind transmit exact_transmit (λ out. 0) exact_unless old new ending wanted n refl s

@@ -3,11 +3,19 @@
 #![tactic(auto)]
 
 mod device;
+mod laws;
 mod no_memory;
 mod pending;
 mod receive;
+mod serve;
 mod stream;
+#[cfg(test)]
+mod tests;
 mod transmit;
 
 pub use device::ConsoleDevice;
+pub use laws::{
+    a_refused_service_leaves_its_chain, a_service_with_memory_is_exact, one_answer, output_goes_behind,
+    used_len_counts_what_was_received,
+};
 pub use no_memory::NoMemory;

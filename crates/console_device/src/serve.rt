@@ -1,14 +1,13 @@
 //! One service of each queue: opening, chains one after another, closing, and what the window shows of it.
 
-ghost use Rattle.std.specs.Prelude.{◌≡◌, ◌≤◌, length, IsErr, ◌↔◌};
+ghost use Rattle.std.specs.Prelude.{◌≡◌, ◌≤◌, length, OnOk, OnErr};
 ghost use Rattle.guest_memory.specs.Memory.{Memory, SameRange};
-ghost use Rattle.chain.specs.Service.{IsService, Runs};
-ghost use Rattle.mmio_window.specs.Queue.{LiesIn as QueueLiesIn, made_as, queue_kind};
-ghost use Rattle.mmio_window.specs.Serving.{Notified, after_service};
+ghost use Rattle.chain.specs.Service.{IsService, Refused, Runs};
+ghost use Rattle.mmio_window.specs.Queue.{LiesIn, made_as, queue_kind};
+ghost use Rattle.mmio_window.specs.Serving.{Notified, NotifiedUntil, after_service, ending_of_result};
 ghost use Rattle.mmio_window.specs.Soundness.{IsSound};
 ghost use Rattle.mmio_window.specs.Window.{queue_at};
-ghost use Rattle.console_device.specs.Device.{receive, transmit};
-ghost use Rattle.console_device.specs.Serving.{ending_of};
+ghost use Rattle.console_device.specs.Device.{exact_transmit, receive, transmit};
 
 use crate::device::ConsoleDevice;
 use crate::no_memory::NoMemory;
@@ -18,30 +17,25 @@ use guest_memory::GuestMemory;
 use mmio_window::{Queue, Window};
 use std::alloc::Allocator;
 
-/// Why chains are served no further.
-#[derive(Clone, Copy, Debug, PartialEq, Eq)]
-enum Ending {
-    /// None is on offer, or none is wanted.
-    Spent,
-    /// The one on offer has a fault.
-    Faulted(Fault),
-    /// There is no memory for the one on offer.
-    Refused,
-}
-
 /// What came of a service.
 #[derive(Clone, Copy, Debug, PartialEq, Eq)]
 struct Service {
-    ending: Ending,
+    /// The fault that ended it, if one did; or there was no memory for the chain on offer.
+    ending: Result<Option<Fault>, NoMemory>,
     /// Whether the driver wants a notification.
     wanted: bool,
 }
 
 impl<A: Allocator> ConsoleDevice<A> {
-    /// Puts pending input into the buffers on offer (5.3.6.1), in the window of this device. Where the window
+    /// Puts pending input into the chains on offer (5.3.6), in the window of this device. Where the window
     /// isn't live or its receive queue not ready, nothing happens.
     pub fn serve_receive<M: Allocator>(&mut self, mem: &mut GuestMemory<M>, window: &mut Window)
         requires sound { IsSound mem.old window.old }
+        ensures served { Notified receive 0 (queue_at 0 window.old) mem.old mem.new
+            window.old window.new self.old.pending self.new.pending }
+        ensures size { self.new ≡ record self.old { pending = self.new.pending } }
+        ensures range { SameRange mem.old mem.new }
+        ensures sound { IsSound mem.new window.new }
     {
         let Some(queue) = window.queue(0) else {
             return;
@@ -50,9 +44,9 @@ impl<A: Allocator> ConsoleDevice<A> {
         show(window, service);
     }
 
-    /// Puts out the buffers on offer (5.3.6.1), in the window of this device, behind what stands in `out`. Where
-    /// there is no memory for a chain it stays on offer, and the chains before it are used. Where the window
-    /// isn't live or its transmit queue not ready, nothing happens.
+    /// Puts out the chains on offer (5.3.6), in the window of this device, behind what stands in `out`. A chain
+    /// for which there is no memory stays on offer, and those before it are used. Where the window isn't live
+    /// or its transmit queue not ready, nothing happens.
     pub fn serve_transmit<M: Allocator, B: Allocator>(
         &mut self,
         mem: &mut GuestMemory<M>,
@@ -60,16 +54,21 @@ impl<A: Allocator> ConsoleDevice<A> {
         out: &mut Vec<u8, B>,
     ) -> Result<(), NoMemory>
         requires sound { IsSound mem.old window.old }
+        ensures ok { OnOk result (Notified exact_transmit 1 (queue_at 1 window.old) mem.old mem.new
+            window.old window.new out.old.items out.new.items) }
+        ensures no_memory { OnErr result (NotifiedUntil transmit 1 (queue_at 1 window.old) Refused mem.old mem.new
+            window.old window.new out.old.items out.new.items) }
+        ensures same { self.new ≡ self.old }
+        ensures range { SameRange mem.old mem.new }
+        ensures sound { IsSound mem.new window.new }
     {
         let Some(queue) = window.queue(1) else {
             return Ok(());
         };
         let service = serve_queue(out, mem, queue);
         show(window, service);
-        match service.ending {
-            Ending::Refused => Err(NoMemory),
-            _ => Ok(()),
-        }
+        service.ending?;
+        Ok(())
     }
 }
 
@@ -79,11 +78,17 @@ fn serve_queue<S: Stream, M: Allocator>(
     mem: &mut GuestMemory<M>,
     queue: &mut Queue,
 ) -> Service
-    requires { QueueLiesIn mem.old queue.old }
+    requires { LiesIn mem.old queue.old }
+    ensures service { IsService queue_kind S.device
+        (record { memory = mem.old; ring = queue.old; state = S.bytes stream.old })
+        (record { memory = mem.new; ring = queue.new; state = S.bytes stream.new })
+        (ending_of_result result.ending) result.wanted }
+    ensures range { SameRange mem.old mem.new }
+    ensures made { made_as queue.new ≡ made_as queue.old }
 {
     let ending = match queue.open(mem) {
         Ok(()) => serve_chains(stream, mem, queue),
-        Err(fault) => Ending::Faulted(fault),
+        Err(fault) => Ok(Some(fault)),
     };
     Service {
         ending,
@@ -96,33 +101,41 @@ fn serve_chains<S: Stream, M: Allocator>(
     stream: &mut S,
     mem: &mut GuestMemory<M>,
     queue: &mut Queue,
-) -> Ending
-    requires { QueueLiesIn mem.old queue.old }
+) -> Result<Option<Fault>, NoMemory>
+    requires { LiesIn mem.old queue.old }
+    ensures runs { Runs queue_kind S.device
+        (record { memory = mem.old; ring = queue.old; state = S.bytes stream.old })
+        (ending_of_result result)
+        (record { memory = mem.new; ring = queue.new; state = S.bytes stream.new }) }
+    ensures range { SameRange mem.old mem.new }
+    ensures lies { LiesIn mem.new queue.new }
+    ensures made { made_as queue.new ≡ made_as queue.old }
 {
     let mut chain = Chain::new();
     while stream.takes() {
         match queue.take(mem, &mut chain) {
-            Ok(Some(token)) => match stream.serve(mem, &chain) {
-                Ok(answer) => queue.give(mem, token, answer.len, answer.wrote),
-                Err(NoMemory) => return Ending::Refused,
-            },
-            Ok(None) => return Ending::Spent,
-            Err(fault) => return Ending::Faulted(fault),
+            Ok(Some(token)) => {
+                let answer = stream.serve(mem, &chain)?;
+                queue.give(mem, token, answer.len, answer.wrote);
+            }
+            Ok(None) => return Ok(None),
+            Err(fault) => return Ok(Some(fault)),
         }
     }
-    Ending::Spent
+    Ok(None)
 }
 
-/// What the window shows of a service: a used buffer where the driver wants to be told, and after a fault
-/// that a reset is needed.
+/// What the window shows of a service: a used buffer where the driver wants to be told of one, and after a
+/// fault that a reset is needed.
 fn show(window: &mut Window, service: Service)
-    ensures after { window.new ≡ after_service (ending_of service.ending) service.wanted window.old }
+    ensures after { window.new ≡
+        after_service (ending_of_result service.ending) service.wanted window.old }
     ensures sound { (m : Memory) → IsSound m window.old → IsSound m window.new }
 {
     if service.wanted {
         window.used_interrupt();
     }
-    if let Ending::Faulted(_) = service.ending {
+    if let Ok(Some(_)) = service.ending {
         window.needs_reset();
     }
 }
