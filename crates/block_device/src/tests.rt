@@ -1,11 +1,8 @@
-//! Worked values: requests by hand, each with the bytes, the status and the length that the standard and
-//! the profile of this device ask for.
+//! What no trace shows: requests row by row, how often the image is called, and the configuration of a very
+//! large disk. Whole requests, with every byte that they leave, are worked out in `conformance`.
 
 ghost use Rattle.std.specs.Prelude.{IfOk};
 ghost use Rattle.chain.specs.Buffers.{Good};
-
-mod failures;
-mod requests;
 
 use crate::answer::Answer;
 use crate::{BlockDevice, Extent};
@@ -31,6 +28,12 @@ const WHOLE: BlockDevice = BlockDevice {
     read_only: false,
 };
 
+/// One that only reads.
+const READER: BlockDevice = BlockDevice {
+    extent: Extent { start: 0, count: 8 },
+    read_only: true,
+};
+
 const fn readable(addr: u64, len: u32) -> Buffer {
     Buffer {
         segment: Segment { addr, len },
@@ -45,42 +48,13 @@ const fn writable(addr: u64, len: u32) -> Buffer {
     }
 }
 
-/// Eight sectors, in which each byte of sector k is hexadecimal 10 + k, behind a cache of four.
-fn cache(alloc: Global, failing: &[u64]) -> Result<SectorCache<ScriptedImage>, Fail> {
-    let mut bytes = Vec::new(alloc);
-    for byte in 0x10..0x18 {
-        bytes.extend_from_slice(&[byte; 512])?;
+/// What is answered where a status was written.
+const fn answer_of(len: u32, failed: bool) -> Answer {
+    Answer {
+        len,
+        wrote: true,
+        failed,
     }
-    let mut calls = Vec::new(alloc);
-    calls.extend_from_slice(failing)?;
-    let image = ScriptedImage::new(bytes, calls)?;
-    Ok(SectorCache::new(alloc, image, 4).map_err(|refused| refused.why)?)
-}
-
-/// The header of a request.
-fn put_header<A: Allocator>(mem: &mut GuestMemory<A>, kind: u32, sector: u64) {
-    let _ = mem.put_u32(HEADER, kind);
-    let _ = mem.put_u64(HEADER + 8, sector);
-}
-
-/// The same byte again and again.
-fn fill<A: Allocator>(mem: &mut GuestMemory<A>, addr: u64, len: u64, byte: u8) {
-    if mem.holds(addr, len) {
-        mem.part_mut(addr, len).fill(byte);
-    }
-}
-
-/// Whether these bytes are all the same.
-fn is_filled<A: Allocator>(mem: &GuestMemory<A>, addr: u64, len: u64, byte: u8) -> bool {
-    match mem.part(addr, len) {
-        Some(bytes) => bytes.iter().all(|b| *b == byte),
-        None => false,
-    }
-}
-
-/// The byte at an address.
-fn byte_at<A: Allocator>(mem: &GuestMemory<A>, addr: u64) -> Option<u8> {
-    mem.part(addr, 1).map(|bytes| bytes[0])
 }
 
 /// A chain of these buffers, which all lie in the memory.
@@ -95,26 +69,163 @@ fn chain_of<A: Allocator>(mem: &GuestMemory<A>, buffers: &[Buffer]) -> Result<Ch
     Ok(chain)
 }
 
-/// What is answered where a status was written.
-const fn answer_of(len: u32, failed: bool) -> Answer {
-    Answer {
-        len,
-        wrote: true,
-        failed,
+/// An image of eight sectors, in which each byte of sector k is hexadecimal 10 + k, and of whose calls these
+/// fail.
+fn image(alloc: Global, failing: &[u64]) -> Result<ScriptedImage, Fail> {
+    let mut bytes = Vec::new(alloc);
+    for byte in 0x10..0x18 {
+        bytes.extend_from_slice(&[byte; 512])?;
+    }
+    let mut calls = Vec::new(alloc);
+    calls.extend_from_slice(failing)?;
+    Ok(ScriptedImage::new(bytes, calls)?)
+}
+
+/// A guest's memory, and the cache over an image.
+#[derive(Drop)]
+struct Guest {
+    mem: GuestMemory,
+    cache: SectorCache<ScriptedImage>,
+}
+
+impl Guest {
+    /// One with 64 KiB of zeros, over an image of whose calls these fail.
+    fn new(alloc: Global, failing: &[u64]) -> Result<Guest, Fail> {
+        let image = image(alloc, failing)?;
+        let cache = SectorCache::new(alloc, image, 4).map_err(|refused| refused.why)?;
+        let mem = GuestMemory::new(alloc, BASE, 0x10000)?;
+        Ok(Guest { mem, cache })
+    }
+
+    /// The header of a request, and ff where its status is to be.
+    fn put_request(&mut self, kind: u32, sector: u64) {
+        let _ = self.mem.put_u32(HEADER, kind);
+        let _ = self.mem.put_u64(HEADER + 8, sector);
+        let _ = self.mem.put_u16(STATUS, 0xff);
+    }
+
+    /// The status that was written.
+    fn status(&self) -> Option<u8> {
+        self.mem.part(STATUS, 1).map(|bytes| bytes[0])
+    }
+
+    /// Serves one chain of these buffers.
+    fn serve(
+        &mut self,
+        rt: &impl Abort,
+        device: BlockDevice,
+        buffers: &[Buffer],
+    ) -> Result<Answer, Fault> {
+        let chain = chain_of(&self.mem, buffers)?;
+        let sectors = self.cache.image().sectors();
+        assert!(rt; device.extent.start <= sectors);
+        assert!(rt; device.extent.count <= sectors - device.extent.start);
+        Ok(device.answer(&mut self.mem, &chain, &mut self.cache))
     }
 }
 
-/// Serves one chain of these buffers.
-fn served<I: Image>(
-    rt: &impl Abort,
-    device: BlockDevice,
-    mem: &mut GuestMemory,
-    cache: &mut SectorCache<I>,
-    buffers: &[Buffer],
-) -> Result<Answer, Fault> {
-    let chain = chain_of(mem, buffers)?;
-    let sectors = cache.image().sectors();
-    assert!(rt; device.extent.start <= sectors);
-    assert!(rt; device.extent.count <= sectors - device.extent.start);
-    Ok(device.answer(mem, &chain, cache))
+/// Requests of a type and a sector with so many writable bytes before the status: the status and the used
+/// length.
+const REQUESTS: [(u32, u64, u32, u8, u32); 21] = [
+    (0, 0, 512, 0, 0x201),
+    (0, 7, 512, 0, 0x201),
+    (0, 6, 1024, 0, 0x401),
+    (0, 7, 1024, 1, 0),
+    (0, 8, 512, 1, 0),
+    (0, u64::MAX, 512, 1, 0),
+    (0, 0, 511, 1, 0),
+    (0, 0, 513, 1, 0),
+    (0, 8, 0, 0, 1),
+    (0, 9, 0, 1, 1),
+    (0, u64::MAX, 0, 1, 1),
+    (4, 0, 0, 0, 1),
+    (4, 0, 9, 0, 0),
+    (8, 0, 19, 1, 0),
+    (8, 0, 20, 0, 21),
+    (8, 0, 21, 0, 20),
+    (11, 0, 0, 2, 1),
+    (11, 0, 512, 2, 0),
+    (2, 0, 512, 2, 0),
+    (13, 0, 0, 2, 1),
+    (u32::MAX, 0, 0, 2, 1),
+];
+
+#[test]
+fn a_request_is_judged_by_its_type_sector_and_room(rt: HostRuntime) -> Result<(), Fail> {
+    let mut guest = Guest::new(rt.alloc(), &[])?;
+    for (kind, sector, room, status, len) in REQUESTS {
+        guest.put_request(kind, sector);
+        let buffers = [
+            readable(HEADER, 16),
+            writable(DATA, room),
+            writable(STATUS, 1),
+        ];
+        assert_eq!(rt;
+            guest.serve(&rt, WHOLE, &buffers),
+            Ok(answer_of(len, false)),
+            "type {kind} at {sector} with {room} bytes"
+        );
+        assert_eq!(rt;
+            guest.status(),
+            Some(status),
+            "type {kind} at {sector} with {room} bytes"
+        );
+    }
+    Ok(())
+}
+
+#[test]
+fn what_is_refused_calls_no_image(rt: HostRuntime) -> Result<(), Fail> {
+    let mut guest = Guest::new(rt.alloc(), &[])?;
+    guest.put_request(1, 0);
+    for (device, header, data, room) in [
+        (WHOLE, 15, 512, 1),
+        (WHOLE, 16, 511, 1),
+        (WHOLE, 16, 4608, 1),
+        (READER, 16, 0, 1),
+        (READER, 16, 512, 1),
+        // There is no place for the status.
+        (WHOLE, 16, 512, 0),
+    ] {
+        let buffers = [
+            readable(HEADER, header),
+            readable(DATA, data),
+            writable(STATUS, room),
+        ];
+        let served = guest.serve(&rt, device, &buffers);
+        assert!(rt; served.is_ok());
+        assert_eq!(rt; guest.cache.image().calls(), 0, "{header} and {data} bytes");
+    }
+    Ok(())
+}
+
+#[test]
+fn a_failed_request_ends_at_once_and_the_next_is_tried(rt: HostRuntime) -> Result<(), Fail> {
+    let mut guest = Guest::new(rt.alloc(), &[0])?;
+    guest.put_request(1, 0);
+    let out = [
+        readable(HEADER, 16),
+        readable(DATA, 1024),
+        writable(STATUS, 1),
+    ];
+    // The second writes two sectors and flushes.
+    for (failed, status, calls) in [(true, 1, 1), (false, 0, 4)] {
+        assert_eq!(rt; guest.serve(&rt, WHOLE, &out), Ok(answer_of(1, failed)));
+        assert_eq!(rt; guest.status(), Some(status));
+        assert_eq!(rt; guest.cache.image().calls(), calls);
+    }
+    Ok(())
+}
+
+#[test]
+fn the_configuration_shows_the_capacity(rt: HostRuntime) {
+    let extent = Extent {
+        start: 3,
+        count: 0x0102_0304_0506_0708,
+    };
+    let mut want = [0; 64];
+    want[..8].copy_from_slice(&[8, 7, 6, 5, 4, 3, 2, 1]);
+    want[12] = 0x7e;
+    want[21] = 2;
+    assert!(rt; BlockDevice::new(extent, false).config() == want);
 }

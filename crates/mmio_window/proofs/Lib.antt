@@ -1,4 +1,6 @@
 pub mod Rings
+pub mod Writes
 pub mod Soundness
 pub mod QueueKind
 pub mod ReadyLemmas
+pub mod Services

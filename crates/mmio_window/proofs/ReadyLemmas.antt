@@ -6,17 +6,21 @@ use Rattle.guest_memory.specs.Memory.{Memory}
 use Rattle.negotiation.specs.Negotiation.{NegotiationState, negotiated_of, with_status_written}
 use Rattle.negotiation.specs.Sets.{has}
 use Rattle.negotiation.specs.Status.{features_ok}
+use Rattle.mmio_window.specs.declared.device_kind.QueueIndex.{QueueIndex}
+use Rattle.mmio_window.specs.declared.device_kind.QueueIndex.TheVariants.{Queue0, Queue1}
+use Rattle.mmio_window.specs.declared.interrupts.Interrupts.{Interrupts}
 use Rattle.mmio_window.specs.declared.queue.Queue.{Queue}
 use Rattle.mmio_window.specs.declared.queue_registers.QueueRegisters.{QueueRegisters}
 use Rattle.mmio_window.specs.declared.register.Register.{Register}
-use Rattle.mmio_window.specs.declared.register.Register.TheVariants.{Status, QueueNum, QueueReady, QueueDescLow, QueueDescHigh, QueueDriverLow, QueueDriverHigh, QueueDeviceLow, QueueDeviceHigh}
-use Rattle.mmio_window.specs.DeviceKind.{is_console}
+use Rattle.mmio_window.specs.declared.register.Register.TheVariants.{QueueReady}
+use Rattle.mmio_window.specs.DeviceKind.{queue_of}
 use Rattle.mmio_window.specs.QueueRegisters.{queue_written, ring_of, set_up}
 use Rattle.mmio_window.specs.Reading.{configuration_offset}
 use Rattle.mmio_window.specs.Ready.{GenerationStays, ReadyQueueStays}
 use Rattle.mmio_window.specs.Registers.{register_at}
-use Rattle.mmio_window.specs.Window.{WindowState, reset}
+use Rattle.mmio_window.specs.Window.{WindowState, registers_in, reset, with_registers_in}
 use Rattle.mmio_window.specs.Writing.{register_written, written}
+use Rattle.mmio_window.proofs.Writes.{written_by_cases}
 
 -- ---- one queue
 
@@ -48,21 +52,24 @@ record Stays (old new : WindowState) : Type 0 where
   queue_0 : IsSome old.queue_0.ring → IsSome new.queue_0.ring → new.queue_0 ≡ old.queue_0
   queue_1 : IsSome old.queue_1.ring → IsSome new.queue_1.ring → new.queue_1 ≡ old.queue_1
 
-Stays-queue_written : (register : Register) (value : ℕ) (m : Memory) (w : WindowState) (first second : Bool)
-    → Stays w (cond first (record w { queue_0 = queue_written register value m w.negotiation w.queue_0 }) (cond second (record w { queue_1 = queue_written register value m w.negotiation w.queue_1 }) w))
-Stays-queue_written register value m w true second = record {
+Stays-self : (w : WindowState) → Stays w w
+Stays-self w = record { kind = refl; generation = refl; queue_0 = λ was is. refl; queue_1 = λ was is. refl }
+
+Stays-queue_written : (register : Register) (value : ℕ) (m : Memory) (w : WindowState) (queue : Option QueueIndex)
+    → Stays w (with_registers_in queue (queue_written register value m w.negotiation) w)
+Stays-queue_written register value m w None = Stays-self w
+Stays-queue_written register value m w (Some Queue0) = record {
   kind = refl;
   generation = refl;
   queue_0 = λ was is. queue_stays register value m w.negotiation w.queue_0 was is;
   queue_1 = λ was is. refl;
 }
-Stays-queue_written register value m w false true = record {
+Stays-queue_written register value m w (Some Queue1) = record {
   kind = refl;
   generation = refl;
   queue_0 = λ was is. refl;
   queue_1 = λ was is. queue_stays register value m w.negotiation w.queue_1 was is;
 }
-Stays-queue_written register value m w false false = record { kind = refl; generation = refl; queue_0 = λ was is. refl; queue_1 = λ was is. refl }
 
 Stays-status_written : (value : ℕ) (w : WindowState) (zero_written : Bool)
     → Stays w (cond zero_written (reset w) (record w { negotiation = with_status_written value w.negotiation }))
@@ -70,19 +77,14 @@ Stays-status_written value w true = record { kind = refl; generation = refl; que
 Stays-status_written value w false = record { kind = refl; generation = refl; queue_0 = λ was is. refl; queue_1 = λ was is. refl }
 
 Stays-register_written : (register : Register) (value : ℕ) (m : Memory) (w : WindowState) → Stays w (register_written register value m w)
-Stays-register_written QueueNum value m w = Stays-queue_written QueueNum value m w (w.queue_sel == 0) (w.queue_sel == 1 && is_console w.kind)
-Stays-register_written QueueReady value m w = Stays-queue_written QueueReady value m w (w.queue_sel == 0) (w.queue_sel == 1 && is_console w.kind)
-Stays-register_written Status value m w = Stays-status_written value w (value == 0)
-Stays-register_written QueueDescLow value m w = Stays-queue_written QueueDescLow value m w (w.queue_sel == 0) (w.queue_sel == 1 && is_console w.kind)
-Stays-register_written QueueDescHigh value m w = Stays-queue_written QueueDescHigh value m w (w.queue_sel == 0) (w.queue_sel == 1 && is_console w.kind)
-Stays-register_written QueueDriverLow value m w = Stays-queue_written QueueDriverLow value m w (w.queue_sel == 0) (w.queue_sel == 1 && is_console w.kind)
-Stays-register_written QueueDriverHigh value m w = Stays-queue_written QueueDriverHigh value m w (w.queue_sel == 0) (w.queue_sel == 1 && is_console w.kind)
-Stays-register_written QueueDeviceLow value m w = Stays-queue_written QueueDeviceLow value m w (w.queue_sel == 0) (w.queue_sel == 1 && is_console w.kind)
-Stays-register_written QueueDeviceHigh value m w = Stays-queue_written QueueDeviceHigh value m w (w.queue_sel == 0) (w.queue_sel == 1 && is_console w.kind)
-Stays-register_written _ value m w = record { kind = refl; generation = refl; queue_0 = λ was is. refl; queue_1 = λ was is. refl }
-
-Stays-self : (w : WindowState) → Stays w w
-Stays-self w = record { kind = refl; generation = refl; queue_0 = λ was is. refl; queue_1 = λ was is. refl }
+Stays-register_written register value m w =
+    written_by_cases (Stays w) value m w
+    (λ (r : Register). Stays-queue_written r value m w (queue_of w.kind w.queue_sel))
+    (Stays-status_written value w (value == 0))
+    (record { kind = refl; generation = refl; queue_0 = λ was is. refl; queue_1 = λ was is. refl })
+    (λ (device_sel driver_sel queue_sel shm_sel : ℕ) (interrupts : Interrupts).
+        record { kind = refl; generation = refl; queue_0 = λ was is. refl; queue_1 = λ was is. refl })
+    (Stays-self w) register
 
 Stays-written : (answered : Bool) (register : Option Register) (value : ℕ) (m : Memory) (w : WindowState)
     → Stays w (cond answered (option_map_or (λ r. register_written r value m w) register w) w)
@@ -90,25 +92,24 @@ Stays-written true None value m w = Stays-self w
 Stays-written true (Some register) value m w = Stays-register_written register value m w
 Stays-written false register value m w = Stays-self w
 
-stays_by_tests : (first one console console' : Bool) (w w' : WindowState) (old new : QueueRegisters) → Stays w w' → console' ≡ console
-    → cond first (Some w.queue_0) (cond (one && console) (Some w.queue_1) None) ≡ Some old → IsSome old.ring
-    → cond first (Some w'.queue_0) (cond (one && console') (Some w'.queue_1) None) ≡ Some new → IsSome new.ring → new ≡ old
-stays_by_tests true one console console' w w' old new s same e was e' is =
+stays_by_cases : (queue queue' : Option QueueIndex) (w w' : WindowState) (old new : QueueRegisters) → Stays w w' → queue' ≡ queue
+    → registers_in queue w ≡ Some old → IsSome old.ring → registers_in queue' w' ≡ Some new → IsSome new.ring → new ≡ old
+stays_by_cases None queue' w w' old new s same e was e' is = cc
+stays_by_cases (Some Queue0) queue' w w' old new s same e was e' is =
     let o : w.queue_0 ≡ old = cc in
+    let e'' : registers_in (Some Queue0) w' ≡ Some new = rw same at e' in
     let n : w'.queue_0 ≡ new = cc in
     sym n ∙ s.queue_0 (rw o was) (rw n is) ∙ o
-stays_by_tests false true true console' w w' old new s same e was e' is =
+stays_by_cases (Some Queue1) queue' w w' old new s same e was e' is =
     let o : w.queue_1 ≡ old = cc in
-    let e'' = rw same at e' in
+    let e'' : registers_in (Some Queue1) w' ≡ Some new = rw same at e' in
     let n : w'.queue_1 ≡ new = cc in
     sym n ∙ s.queue_1 (rw o was) (rw n is) ∙ o
-stays_by_tests false true false console' w w' old new s same e was e' is = cc
-stays_by_tests false false console console' w w' old new s same e was e' is = cc
 
 pub ready_queue_stays : ReadyQueueStays
 ready_queue_stays offset width value m w q old new e was e' is =
     let s = Stays-written (nat_lt offset configuration_offset && width == 4) (register_at offset) value m w in
-    stays_by_tests (q == 0) (q == 1) (is_console w.kind) (is_console (written offset width value m w).kind) w (written offset width value m w) old new s
+    stays_by_cases (queue_of w.kind q) (queue_of (written offset width value m w).kind q) w (written offset width value m w) old new s
     (rw s.kind refl) e was e' is
 
 pub generation_stays : GenerationStays

@@ -1,5 +1,5 @@
 -- What keeps a window sound: first of one queue, then of the registers by cases, and then of a window.
-use Rattle.std.proofs.Common.{◌≡◌, ◌==◌, ◌∙◌, ℕ, Bool, true, false, cond, Option, Some, None, refl, sym, ap, arith}
+use Rattle.std.proofs.Common.{◌≡◌, ◌==◌, ◌∙◌, ℕ, Bool, true, false, cond, Option, Some, None, refl, sym, ap, subst, arith}
 use Rattle.std.proofs.lemmas.Grind.{common_steps}
 use Rattle.std.specs.Prelude.{◌&&◌, IfSome, is_some, is_none, [], ◌∷◌}
 use Rattle.std.specs.Option.{option_and_then}
@@ -11,16 +11,20 @@ use Rattle.negotiation.specs.Sets.{has, Has}
 use Rattle.negotiation.specs.Status.{features_ok}
 use Rattle.negotiation.proofs.BitLemmas.{Has-trans}
 use Rattle.negotiation.proofs.HistoryLemmas.{only_reset_clears}
+use Rattle.mmio_window.specs.declared.device_kind.QueueIndex.{QueueIndex}
+use Rattle.mmio_window.specs.declared.device_kind.QueueIndex.TheVariants.{Queue0, Queue1}
+use Rattle.mmio_window.specs.declared.interrupts.Interrupts.{Interrupts}
 use Rattle.mmio_window.specs.declared.queue.Queue.{Queue}
 use Rattle.mmio_window.specs.declared.queue_registers.QueueRegisters.{QueueRegisters}
 use Rattle.mmio_window.specs.declared.register.Register.{Register}
-use Rattle.mmio_window.specs.declared.register.Register.TheVariants.{DeviceFeaturesSel, DriverFeatures, DriverFeaturesSel, QueueSel, InterruptAck, Status, ShmSel, QueueNum, QueueReady, QueueDescLow, QueueDescHigh, QueueDriverLow, QueueDriverHigh, QueueDeviceLow, QueueDeviceHigh}
+use Rattle.mmio_window.specs.declared.register.Register.TheVariants.{QueueReady}
 use Rattle.mmio_window.specs.Queue.{LiesIn, made_as}
 use Rattle.mmio_window.specs.QueueRegisters.{queue_written, ring_of, set_up, with_ready_written}
-use Rattle.mmio_window.specs.Soundness.{HasItsRing, IsRingOf, IsSound, ServingKeepsSound}
-use Rattle.mmio_window.specs.DeviceKind.{is_console}
-use Rattle.mmio_window.specs.Window.{WindowState, queue_at, reset}
+use Rattle.mmio_window.specs.Soundness.{HasItsRing, IsRingOf, IsSound, ReadyQueueIsItsRing, ServingKeepsSound, SoundForTheRange}
+use Rattle.mmio_window.specs.DeviceKind.{queue_of}
+use Rattle.mmio_window.specs.Window.{WindowState, queue_at, registers_in, reset, with_registers_in}
 use Rattle.mmio_window.specs.Writing.{register_written, with_queue_written}
+use Rattle.mmio_window.proofs.Writes.{written_by_cases}
 use Rattle.mmio_window.proofs.Rings.{LiesIn-same, is_made, ring_of-same}
 
 -- ---- one queue
@@ -68,14 +72,7 @@ HasItsRing-ready_written value m n registers h =
 
 -- what is set up is no ring
 ring-set_up : (register : Register) (value : ℕ) (registers : QueueRegisters) → (set_up register value registers).ring ≡ registers.ring
-ring-set_up QueueNum value registers = refl
-ring-set_up QueueDescLow value registers = refl
-ring-set_up QueueDescHigh value registers = refl
-ring-set_up QueueDriverLow value registers = refl
-ring-set_up QueueDriverHigh value registers = refl
-ring-set_up QueueDeviceLow value registers = refl
-ring-set_up QueueDeviceHigh value registers = refl
-ring-set_up _ value registers = refl
+ring-set_up register value registers = grind (arith, common_steps)
 
 -- a queue without a ring has no ring that isn't its own
 HasItsRing-none : (m : Memory) (n : NegotiationState) (registers : QueueRegisters) (ring : Option Queue) → is_some ring ≡ false
@@ -110,16 +107,16 @@ IsSound-negotiation m w n keeps sound = record {
   queue_1 = HasItsRing-kept m w.negotiation n w.queue_1 keeps sound.queue_1;
 }
 
-registers_by_tests : (m : Memory) (w : WindowState) (change : QueueRegisters → QueueRegisters) (first second : Bool)
+registers_by_cases : (m : Memory) (w : WindowState) (change : QueueRegisters → QueueRegisters) (queue : Option QueueIndex)
     → ((registers : QueueRegisters) → HasItsRing m w.negotiation registers → HasItsRing m w.negotiation (change registers)) → IsSound m w
-    → IsSound m (cond first (record w { queue_0 = change w.queue_0 }) (cond second (record w { queue_1 = change w.queue_1 }) w))
-registers_by_tests m w change true second kept sound = record { queue_0 = kept w.queue_0 sound.queue_0; queue_1 = sound.queue_1 }
-registers_by_tests m w change false true kept sound = record { queue_0 = sound.queue_0; queue_1 = kept w.queue_1 sound.queue_1 }
-registers_by_tests m w change false false kept sound = sound
+    → IsSound m (with_registers_in queue change w)
+registers_by_cases m w change None kept sound = sound
+registers_by_cases m w change (Some Queue0) kept sound = record { queue_0 = kept w.queue_0 sound.queue_0; queue_1 = sound.queue_1 }
+registers_by_cases m w change (Some Queue1) kept sound = record { queue_0 = sound.queue_0; queue_1 = kept w.queue_1 sound.queue_1 }
 
 IsSound-queue_written : (register : Register) (value : ℕ) (m : Memory) (w : WindowState) → IsSound m w → IsSound m (with_queue_written register value m w)
 IsSound-queue_written register value m w sound =
-    registers_by_tests m w (queue_written register value m w.negotiation) (w.queue_sel == 0) (w.queue_sel == 1 && is_console w.kind)
+    registers_by_cases m w (queue_written register value m w.negotiation) (queue_of w.kind w.queue_sel)
     (HasItsRing-written register value m w.negotiation) sound
 
 status_by_test : (value : ℕ) (m : Memory) (w : WindowState) (zero_written : Bool) → (value == 0) ≡ zero_written → IsSound m w
@@ -130,24 +127,14 @@ status_by_test value m w false e sound =
 
 -- a write to a register
 pub IsSound-register_written : (register : Register) (value : ℕ) (m : Memory) (w : WindowState) → IsSound m w → IsSound m (register_written register value m w)
-IsSound-register_written DeviceFeaturesSel value m w sound = record { queue_0 = sound.queue_0; queue_1 = sound.queue_1 }
-IsSound-register_written DriverFeatures value m w sound =
-    IsSound-negotiation m w (with_features_written w.driver_features_sel value w.negotiation)
-    (Keeps-changed w.negotiation (FeaturesWritten w.driver_features_sel value) refl) sound
-IsSound-register_written DriverFeaturesSel value m w sound = record { queue_0 = sound.queue_0; queue_1 = sound.queue_1 }
-IsSound-register_written QueueSel value m w sound = record { queue_0 = sound.queue_0; queue_1 = sound.queue_1 }
-IsSound-register_written QueueNum value m w sound = IsSound-queue_written QueueNum value m w sound
-IsSound-register_written QueueReady value m w sound = IsSound-queue_written QueueReady value m w sound
-IsSound-register_written InterruptAck value m w sound = record { queue_0 = sound.queue_0; queue_1 = sound.queue_1 }
-IsSound-register_written Status value m w sound = status_by_test value m w (value == 0) refl sound
-IsSound-register_written QueueDescLow value m w sound = IsSound-queue_written QueueDescLow value m w sound
-IsSound-register_written QueueDescHigh value m w sound = IsSound-queue_written QueueDescHigh value m w sound
-IsSound-register_written QueueDriverLow value m w sound = IsSound-queue_written QueueDriverLow value m w sound
-IsSound-register_written QueueDriverHigh value m w sound = IsSound-queue_written QueueDriverHigh value m w sound
-IsSound-register_written QueueDeviceLow value m w sound = IsSound-queue_written QueueDeviceLow value m w sound
-IsSound-register_written QueueDeviceHigh value m w sound = IsSound-queue_written QueueDeviceHigh value m w sound
-IsSound-register_written ShmSel value m w sound = record { queue_0 = sound.queue_0; queue_1 = sound.queue_1 }
-IsSound-register_written _ value m w sound = sound
+IsSound-register_written register value m w sound =
+    written_by_cases (λ (new : WindowState). IsSound m new) value m w
+    (λ (r : Register). IsSound-queue_written r value m w sound)
+    (status_by_test value m w (value == 0) refl sound)
+    (IsSound-negotiation m w (with_features_written w.driver_features_sel value w.negotiation)
+        (Keeps-changed w.negotiation (FeaturesWritten w.driver_features_sel value) refl) sound)
+    (λ (device_sel driver_sel queue_sel shm_sel : ℕ) (interrupts : Interrupts). record { queue_0 = sound.queue_0; queue_1 = sound.queue_1 })
+    sound register
 
 -- ---- a service
 
@@ -189,38 +176,56 @@ ready_has : (m : Memory) (n : NegotiationState) (registers : QueueRegisters) (ri
     → IsRingOf m n registers ring
 ready_has m n registers ring e h = holds_at_some (IsRingOf m n registers) registers.ring ring e h
 
-served_by_tests : (old new : Memory) (w : WindowState) (live first second : Bool) (ring served : Queue) → IsSound old w → SameRange old new
-    → cond live (option_and_then (λ registers. registers.ring) (cond first (Some w.queue_0) (cond second (Some w.queue_1) None))) None ≡ Some ring
+served_by_cases : (old new : Memory) (w : WindowState) (live : Bool) (queue : Option QueueIndex) (ring served : Queue) → IsSound old w → SameRange old new
+    → cond live (option_and_then (λ registers. registers.ring) (registers_in queue w)) None ≡ Some ring
     → made_as served ≡ made_as ring
-    → IsSound new (cond first (record w { queue_0 = record w.queue_0 { ring = Some served } }) (cond second (record w { queue_1 = record w.queue_1 { ring = Some served } }) w))
-served_by_tests old new w false first second ring served sound same e as_made = cc
-served_by_tests old new w true true second ring served sound same e as_made =
+    → IsSound new (with_registers_in queue (λ registers. record registers { ring = Some served }) w)
+served_by_cases old new w false queue ring served sound same e as_made = cc
+served_by_cases old new w true None ring served sound same e as_made = cc
+served_by_cases old new w true (Some Queue0) ring served sound same e as_made =
     let others = IsSound-same_range old new w same sound in
     record {
       queue_0 = IsRingOf-served old new w.negotiation w.queue_0 ring served same as_made (ready_has old w.negotiation w.queue_0 ring e sound.queue_0);
       queue_1 = others.queue_1;
     }
-served_by_tests old new w true false true ring served sound same e as_made =
+served_by_cases old new w true (Some Queue1) ring served sound same e as_made =
     let others = IsSound-same_range old new w same sound in
     record {
       queue_0 = others.queue_0;
       queue_1 = IsRingOf-served old new w.negotiation w.queue_1 ring served same as_made (ready_has old w.negotiation w.queue_1 ring e sound.queue_1);
     }
-served_by_tests old new w true false false ring served sound same e as_made = cc
 
 -- a sound window stays so while its device serves a queue
 pub serving_keeps_sound : ServingKeepsSound
 serving_keeps_sound old new w q ring served sound same e as_made =
-    served_by_tests old new w (is_live w.negotiation) (q == 0) (q == 1 && is_console w.kind) ring served sound same e as_made
+    served_by_cases old new w (is_live w.negotiation) (queue_of w.kind q) ring served sound same e as_made
 
-lies_by_tests : (m : Memory) (w : WindowState) (live first second : Bool) (ring : Queue) → IsSound m w
-    → cond live (option_and_then (λ registers. registers.ring) (cond first (Some w.queue_0) (cond second (Some w.queue_1) None))) None ≡ Some ring
+-- and for every memory of the range
+pub sound_for_the_range : SoundForTheRange
+sound_for_the_range old new w sound same = IsSound-same_range old new w same sound
+
+-- the ready queue of a sound window is its ring
+its_ring_by_cases : (m : Memory) (w : WindowState) (queue : Option QueueIndex) (registers : QueueRegisters) (ring : Queue) → IsSound m w
+    → registers_in queue w ≡ Some registers → registers.ring ≡ Some ring → IsRingOf m w.negotiation registers ring
+its_ring_by_cases m w None registers ring sound e ready = cc
+its_ring_by_cases m w (Some Queue0) registers ring sound e ready =
+    let same : w.queue_0 ≡ registers = cc in
+    ready_has m w.negotiation registers ring ready (subst (HasItsRing m w.negotiation) same sound.queue_0)
+its_ring_by_cases m w (Some Queue1) registers ring sound e ready =
+    let same : w.queue_1 ≡ registers = cc in
+    ready_has m w.negotiation registers ring ready (subst (HasItsRing m w.negotiation) same sound.queue_1)
+
+pub ready_queue_is_its_ring : ReadyQueueIsItsRing
+ready_queue_is_its_ring m w q registers ring sound e ready = its_ring_by_cases m w (queue_of w.kind q) registers ring sound e ready
+
+lies_by_cases : (m : Memory) (w : WindowState) (live : Bool) (queue : Option QueueIndex) (ring : Queue) → IsSound m w
+    → cond live (option_and_then (λ registers. registers.ring) (registers_in queue w)) None ≡ Some ring
     → LiesIn m ring
-lies_by_tests m w false first second ring sound e = cc
-lies_by_tests m w true true second ring sound e = (ready_has m w.negotiation w.queue_0 ring e sound.queue_0).lies
-lies_by_tests m w true false true ring sound e = (ready_has m w.negotiation w.queue_1 ring e sound.queue_1).lies
-lies_by_tests m w true false false ring sound e = cc
+lies_by_cases m w false queue ring sound e = cc
+lies_by_cases m w true None ring sound e = cc
+lies_by_cases m w true (Some Queue0) ring sound e = (ready_has m w.negotiation w.queue_0 ring e sound.queue_0).lies
+lies_by_cases m w true (Some Queue1) ring sound e = (ready_has m w.negotiation w.queue_1 ring e sound.queue_1).lies
 
 -- a queue that may be served lies in the memory
 pub LiesIn-queue_at : (m : Memory) (w : WindowState) (q : ℕ) (ring : Queue) → IsSound m w → queue_at q w ≡ Some ring → LiesIn m ring
-LiesIn-queue_at m w q ring sound e = lies_by_tests m w (is_live w.negotiation) (q == 0) (q == 1 && is_console w.kind) ring sound e
+LiesIn-queue_at m w q ring sound e = lies_by_cases m w (is_live w.negotiation) (queue_of w.kind q) ring sound e

@@ -13,5 +13,6 @@ pub mod Window
 pub mod Lending
 pub mod Reading
 pub mod Writing
+pub mod Serving
 pub mod Soundness
 pub mod Ready

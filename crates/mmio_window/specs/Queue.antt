@@ -1,5 +1,5 @@
 -- A ready queue as a kind of ring, by cases: what a service of it is. Devices speak of this kind alone.
-use Rattle.std.specs.Prelude.{◌≡◌, ℕ, Bool, Option, List}
+use Rattle.std.specs.Prelude.{ℕ, Bool, Option, List}
 use Rattle.guest_memory.specs.Memory.{Memory}
 use Rattle.chain.specs.declared.segment.Buffer.{Buffer}
 use Rattle.chain.specs.declared.fault.Fault.{Fault}
@@ -28,9 +28,9 @@ left_of (Split ring) = ring.left
 abbrev pub entry_of : Token → Entry
 entry_of (token.Split taken) = split.entry_of taken.head
 
--- the chain was taken at the queue's place
-abbrev pub IsTakenFrom : Queue → Token → Type 0
-IsTakenFrom (Split ring) (token.Split taken) = taken.place ≡ ring.place
+-- the token names the chain at the queue's place, and the service may still take it
+abbrev pub IsTaken : Queue → Token → Type 0
+IsTaken (Split ring) (token.Split taken) = split.IsTaken ring taken
 
 -- ---- the kind, each part by cases
 
@@ -46,8 +46,8 @@ offers m (Split ring) = split_kind.offers m ring
 abbrev pub Offers : Memory → Queue → List Buffer → Entry → Type 0
 Offers m (Split ring) buffers entry = split_kind.Offers m ring buffers entry
 
-abbrev pub Fails : Memory → Queue → Fault → Type 0
-Fails m (Split ring) fault = split_kind.Fails m ring fault
+abbrev pub HasFault : Memory → Queue → Fault → Type 0
+HasFault m (Split ring) fault = split_kind.HasFault m ring fault
 
 abbrev pub used : Memory → Queue → Entry → ℕ → Bool → Memory
 used m (Split ring) entry len wrote = split_kind.used m ring entry len wrote
@@ -61,8 +61,8 @@ stopped (Split ring) = Split (split_kind.stopped ring)
 abbrev pub closed : Memory → Queue → Memory
 closed m (Split ring) = split_kind.closed m ring
 
-abbrev pub wants : Memory → Queue → Bool
-wants m (Split ring) = split_kind.wants m ring
+abbrev pub Wants : Memory → Queue → Type 0
+Wants m (Split ring) = split_kind.Wants m ring
 
 abbrev pub shut : Queue → Queue
 shut (Split ring) = Split (split_kind.shut ring)
@@ -74,11 +74,11 @@ queue_kind = record {
   opened = opened;
   offers = offers;
   Offers = Offers;
-  Fails = Fails;
+  HasFault = HasFault;
   used = used;
   past = past;
   stopped = stopped;
   closed = closed;
-  wants = wants;
+  Wants = Wants;
   shut = shut;
 }

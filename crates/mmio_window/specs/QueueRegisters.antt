@@ -5,7 +5,7 @@ use Rattle.negotiation.specs.Features.{indirect_desc, event_idx, ring_packed}
 use Rattle.negotiation.specs.Negotiation.{NegotiationState, negotiated_of}
 use Rattle.negotiation.specs.Sets.{has}
 use Rattle.negotiation.specs.Status.{features_ok}
-use Rattle.split_ring.specs.Ring.{SplitSetup, setup_of, is_usable, new_ring}
+use Rattle.split_ring.specs.Ring.{SplitSetup, setup_of, can_set_up, new_ring}
 use Rattle.mmio_window.specs.declared.queue.Queue.{Queue}
 use Rattle.mmio_window.specs.declared.queue.Queue.TheVariants.{Split}
 use Rattle.mmio_window.specs.declared.queue_registers.QueueRegisters.{QueueRegisters}
@@ -29,7 +29,7 @@ abbrev pub ring_of : Memory → ℕ → QueueRegisters → Option Queue
 ring_of m features queue =
     let setup = split_setup_of features queue in
     if has features ring_packed then None
-    else if is_usable m setup then Some (Split (new_ring setup))
+    else if can_set_up m setup then Some (Split (new_ring setup))
     else None
 
 -- a write to QueueReady: 0 stops the queue; 1 makes it ready where it isn't, the features are settled, and

@@ -9,7 +9,7 @@ use Rattle.mmio_window.specs.declared.queue.Queue.{Queue}
 use Rattle.mmio_window.specs.declared.queue_registers.QueueRegisters.{QueueRegisters}
 use Rattle.mmio_window.specs.Queue.{LiesIn, made_as}
 use Rattle.mmio_window.specs.QueueRegisters.{ring_of}
-use Rattle.mmio_window.specs.Window.{WindowState, queue_at, with_ring}
+use Rattle.mmio_window.specs.Window.{WindowState, queue_at, registers_of, with_ring}
 
 -- a ring is that of a queue: FEATURES_OK stands, and but for how far it is served the ring is the one that the
 -- queue's number and addresses and the negotiated features make; its areas lie in the memory
@@ -33,3 +33,13 @@ abbrev pub ServingKeepsSound : Type 0
 ServingKeepsSound =
     (old new : Memory) (w : WindowState) (q : ℕ) (ring served : Queue) → IsSound old w → SameRange old new
     → queue_at q w ≡ Some ring → made_as served ≡ made_as ring → IsSound new (with_ring q w served)
+
+-- A window that is sound for a memory is so for every memory of its range, whatever bytes that has.
+abbrev pub SoundForTheRange : Type 0
+SoundForTheRange = (old new : Memory) (w : WindowState) → IsSound old w → SameRange old new → IsSound new w
+
+-- The ready queue of a sound window is the ring of its registers.
+abbrev pub ReadyQueueIsItsRing : Type 0
+ReadyQueueIsItsRing =
+    (m : Memory) (w : WindowState) (q : ℕ) (registers : QueueRegisters) (ring : Queue) → IsSound m w
+    → registers_of q w ≡ Some registers → registers.ring ≡ Some ring → IsRingOf m w.negotiation registers ring

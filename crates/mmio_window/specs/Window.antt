@@ -1,14 +1,16 @@
 -- A window as it stands between two accesses (4.2.2), and what its device's events make of it.
-use Rattle.std.specs.Prelude.{ℕ, true, ◌+◌, ◌%◌, ◌^◌, ◌==◌, ◌&&◌, if◌then◌else◌, Option, None, Some}
+use Rattle.std.specs.Prelude.{ℕ, true, ◌+◌, ◌%◌, ◌^◌, ◌&&◌, if◌then◌else◌, Option, None, Some}
 use Rattle.std.specs.Option.{option_and_then}
 use Rattle.negotiation.specs.Negotiation.{NegotiationState, fresh, is_live, with_needs_reset}
 use Rattle.negotiation.specs.Sets.{has}
 use Rattle.negotiation.specs.Status.{driver_ok}
 use Rattle.mmio_window.specs.declared.device_kind.DeviceKind.{DeviceKind}
+use Rattle.mmio_window.specs.declared.device_kind.QueueIndex.{QueueIndex}
+use Rattle.mmio_window.specs.declared.device_kind.QueueIndex.TheVariants.{Queue0, Queue1}
 use Rattle.mmio_window.specs.declared.interrupts.Interrupts.{Interrupts}
 use Rattle.mmio_window.specs.declared.queue.Queue.{Queue}
 use Rattle.mmio_window.specs.declared.queue_registers.QueueRegisters.{QueueRegisters}
-use Rattle.mmio_window.specs.DeviceKind.{is_console}
+use Rattle.mmio_window.specs.DeviceKind.{configuration_changes, queue_of}
 use Rattle.mmio_window.specs.Interrupts.{no_interrupts}
 use Rattle.mmio_window.specs.QueueRegisters.{no_queue}
 
@@ -47,19 +49,25 @@ reset w = fresh_window w.kind w.negotiation.offered w.config_generation
 
 -- ---- queues
 
--- the registers of a queue, if the device has it (5.2.2, 5.3.2)
-abbrev pub registers_of : ℕ → WindowState → Option QueueRegisters
-registers_of q w =
-    if q == 0 then Some w.queue_0
-    else if q == 1 && is_console w.kind then Some w.queue_1
-    else None
+-- the registers of a queue, if there is one
+abbrev pub registers_in : Option QueueIndex → WindowState → Option QueueRegisters
+registers_in None w = None
+registers_in (Some Queue0) w = Some w.queue_0
+registers_in (Some Queue1) w = Some w.queue_1
 
--- the window with a queue's registers changed, if the device has that queue
+-- the window with a queue's registers changed, if there is one
+abbrev pub with_registers_in : Option QueueIndex → (QueueRegisters → QueueRegisters) → WindowState → WindowState
+with_registers_in None change w = w
+with_registers_in (Some Queue0) change w = record w { queue_0 = change w.queue_0 }
+with_registers_in (Some Queue1) change w = record w { queue_1 = change w.queue_1 }
+
+-- the registers of the queue of this number, if the device has it
+abbrev pub registers_of : ℕ → WindowState → Option QueueRegisters
+registers_of q w = registers_in (queue_of w.kind q) w
+
+-- the window with the registers of that queue changed, if the device has it
 abbrev pub with_registers : ℕ → (QueueRegisters → QueueRegisters) → WindowState → WindowState
-with_registers q change w =
-    if q == 0 then record w { queue_0 = change w.queue_0 }
-    else if q == 1 && is_console w.kind then record w { queue_1 = change w.queue_1 }
-    else w
+with_registers q change w = with_registers_in (queue_of w.kind q) change w
 
 -- the ring of a queue, if the device has it and it is ready
 abbrev pub ring_at : ℕ → WindowState → Option Queue
@@ -91,10 +99,10 @@ with_reset_asked w = with_config_interrupt (record w { negotiation = with_needs_
 abbrev pub with_generation_counted : WindowState → WindowState
 with_generation_counted w = record w { config_generation = (w.config_generation + 1) % 2 ^ 32 }
 
--- The configuration changed: it has another generation, and a driver that is ready is told (4.2.2). Of a block
--- device it never changes.
+-- The configuration changed, if it is of a kind that does: it has another generation, and a driver that is ready
+-- is told (4.2.2).
 abbrev pub with_config_changed : WindowState → WindowState
 with_config_changed w =
-    if is_console w.kind && has w.negotiation.status driver_ok then with_config_interrupt (with_generation_counted w)
-    else if is_console w.kind then with_generation_counted w
+    if configuration_changes w.kind && has w.negotiation.status driver_ok then with_config_interrupt (with_generation_counted w)
+    else if configuration_changes w.kind then with_generation_counted w
     else w

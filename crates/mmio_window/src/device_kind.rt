@@ -1,7 +1,7 @@
-//! The two types of device, and which queues each has.
+//! The two types of device: which queues each has, and whether its configuration changes.
 
 ghost use Rattle.std.specs.Prelude.{◌≡◌};
-ghost use Rattle.mmio_window.specs.DeviceKind.{device_id_of};
+ghost use Rattle.mmio_window.specs.DeviceKind.{configuration_changes, device_id_of, queue_of};
 
 /// The type of the device behind a window.
 #[derive(Clone, Copy, PartialEq, Eq, Debug)]
@@ -10,6 +10,13 @@ pub enum DeviceKind {
     Block,
     /// A console (5.3), with queue 0 to receive and queue 1 to transmit.
     Console,
+}
+
+/// A queue that some device has.
+#[derive(Clone, Copy, PartialEq, Eq, Debug)]
+pub(crate) enum QueueIndex {
+    Queue0,
+    Queue1,
 }
 
 impl DeviceKind {
@@ -21,5 +28,23 @@ impl DeviceKind {
             DeviceKind::Block => 2,
             DeviceKind::Console => 3,
         }
+    }
+
+    /// The queue of this number, if the device has it.
+    pub(crate) fn queue(self, q: u32) -> Option<QueueIndex>
+        ensures { result ≡ queue_of self q }
+    {
+        match (q, self) {
+            (0, _) => Some(QueueIndex::Queue0),
+            (1, DeviceKind::Console) => Some(QueueIndex::Queue1),
+            _ => None,
+        }
+    }
+
+    /// Whether the configuration changes.
+    pub(crate) fn changes_configuration(self) -> bool
+        ensures { result ≡ configuration_changes self }
+    {
+        self == DeviceKind::Console
     }
 }

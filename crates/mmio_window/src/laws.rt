@@ -1,13 +1,25 @@
 //! Laws of the definitions. The bodies are empty: each contract is a theorem.
 
-ghost use Rattle.chain.specs.Service.{HasOneChain};
+ghost use Rattle.chain.specs.Service.{HasAtMostOneChain, HasSomeChain};
 ghost use Rattle.mmio_window.specs.Queue.{queue_kind};
 ghost use Rattle.mmio_window.specs.Ready.{GenerationStays, ReadyQueueStays};
-ghost use Rattle.mmio_window.specs.Soundness.{ServingKeepsSound};
+ghost use Rattle.mmio_window.specs.Soundness.{ReadyQueueIsItsRing, ServingKeepsSound, SoundForTheRange};
 
 /// A sound window stays sound while its device serves a queue of it, for memories of one range.
 pub fn serving_keeps_sound()
     ensures { ServingKeepsSound }
+{}
+
+/// A sound window is sound for every memory of the same range: also once a guest's bytes were changed between
+/// two calls.
+pub fn sound_for_the_range()
+    ensures { SoundForTheRange }
+{}
+
+/// The ready queue of a sound window is the ring that its registers and the negotiated features make, but for
+/// how far it is served, and lies in the memory.
+pub fn ready_queue_is_its_ring()
+    ensures { ReadyQueueIsItsRing }
 {}
 
 /// No write changes the size, an address or the ring of a ready queue: it stays, or it isn't ready any more.
@@ -20,7 +32,9 @@ pub fn generation_stays()
     ensures { GenerationStays }
 {}
 
-/// A ready queue has one chain or one fault at a place, and not both.
-pub fn one_chain_at_a_place()
-    ensures { HasOneChain queue_kind }
+/// A ready queue has one chain or one fault at each place: at most one chain, at most one fault, not both, and
+/// one of the two.
+pub fn one_chain_or_fault_at_a_place()
+    ensures at_most_one { HasAtMostOneChain queue_kind }
+    ensures some { HasSomeChain queue_kind }
 {}

@@ -19,7 +19,10 @@ mod window;
 pub use action::Action;
 pub use configuration::CONFIGURATION_LEN;
 pub use device_kind::DeviceKind;
-pub use laws::{generation_stays, one_chain_at_a_place, ready_queue_stays, serving_keeps_sound};
+pub use laws::{
+    generation_stays, one_chain_or_fault_at_a_place, ready_queue_is_its_ring, ready_queue_stays,
+    serving_keeps_sound, sound_for_the_range,
+};
 pub use queue::{Queue, Token};
 pub use window::Window;
 

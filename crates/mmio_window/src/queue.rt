@@ -1,10 +1,10 @@
 //! A queue that is ready: a ring of one kind or the other, and the four calls of a service by cases.
 
-ghost use Rattle.std.specs.Prelude.{◌≡◌, [], true, is_some, IfNone, IfOk, IfErr, IfSome, OnOk, OnErr};
+ghost use Rattle.std.specs.Prelude.{◌≡◌, ◌<◌, ◌↔◌, [], true, is_some, IfNone, IfOk, IfErr, IfSome, IsTrue, OnOk, OnErr};
 ghost use Rattle.std.specs.Result.{result_err};
 ghost use Rattle.chain.specs.Buffers.{Good};
 ghost use Rattle.guest_memory.specs.Memory.{SameRange};
-ghost use Rattle.mmio_window.specs.Queue.{IsTakenFrom, LiesIn, entry_of, made_as, queue_kind};
+ghost use Rattle.mmio_window.specs.Queue.{IsTaken, LiesIn, entry_of, left_of, made_as, queue_kind};
 
 use chain::{Chain, Fault};
 use guest_memory::GuestMemory;
@@ -49,12 +49,12 @@ impl Queue {
         requires { LiesIn mem.now self.old }
         ensures on_offer { IfOk result (λ taken. queue_kind.offers mem.now self.old ≡ is_some taken) }
         ensures offered { IfOk result (λ taken. IfSome taken (λ token. queue_kind.Offers mem.now self.old chain.new (entry_of token))) }
-        ensures place { IfOk result (λ taken. IfSome taken (IsTakenFrom self.old)) }
+        ensures taken { IfOk result (λ taken. IfSome taken (IsTaken self.old)) }
         ensures same { OnOk result (self.new ≡ self.old) }
 
         // A fault is that of a chain on offer, and ends the service.
         ensures met { OnErr result (queue_kind.offers mem.now self.old ≡ true) }
-        ensures fault { IfErr result (queue_kind.Fails mem.now self.old) }
+        ensures fault { IfErr result (queue_kind.HasFault mem.now self.old) }
         ensures stopped { OnErr result (self.new ≡ queue_kind.stopped self.old) }
 
         ensures empty { IfOk result (λ taken. IfNone taken (chain.new ≡ [])) }
@@ -83,10 +83,10 @@ impl Queue {
         wrote: bool,
     )
         requires lies { LiesIn mem.old self.old }
-        requires offered { queue_kind.offers mem.old self.old ≡ true }
-        requires taken { IsTakenFrom self.old token }
+        requires taken { IsTaken self.old token }
         ensures used { mem.new ≡ queue_kind.used mem.old self.old (entry_of token) len wrote }
         ensures past { self.new ≡ queue_kind.past self.old (entry_of token) }
+        ensures fewer { left_of self.new < left_of self.old }
         ensures range { SameRange mem.old mem.new }
         ensures lies { LiesIn mem.new self.new }
         ensures made { made_as self.new ≡ made_as self.old }
@@ -103,7 +103,7 @@ impl Queue {
     pub fn close<A: Allocator>(&mut self, mem: &mut GuestMemory<A>) -> bool
         requires { LiesIn mem.old self.old }
         ensures closed { mem.new ≡ queue_kind.closed mem.old self.old }
-        ensures wants { result ≡ queue_kind.wants mem.new self.old }
+        ensures wants { IsTrue result ↔ queue_kind.Wants mem.new self.old }
         ensures shut { self.new ≡ queue_kind.shut self.old }
         ensures range { SameRange mem.old mem.new }
         ensures lies { LiesIn mem.new self.new }

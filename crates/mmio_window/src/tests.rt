@@ -1,102 +1,250 @@
-//! Accesses as a driver makes them, with values counted by hand.
+//! What no trace shows: the actions of writes, features that no board offers yet, a configuration that changes,
+//! and a queue that is served from the contracts alone. Windows as a driver finds them are worked out in
+//! `conformance`.
 
-ghost use Rattle.std.specs.Prelude.{◌<◌};
-ghost use Rattle.guest_memory.specs.Memory.{Memory};
+ghost use Rattle.std.specs.Prelude.{◌≡◌};
+ghost use Rattle.guest_memory.specs.Memory.{SameRange};
+ghost use Rattle.mmio_window.specs.Queue.{LiesIn, made_as};
 ghost use Rattle.mmio_window.specs.Soundness.{IsSound};
 
-mod queues;
-mod registers;
-
-use crate::{CONFIGURATION_LEN, DeviceKind, Window};
+use crate::{Action, CONFIGURATION_LEN, DeviceKind, Queue, Window};
+use chain::Chain;
 use guest_memory::GuestMemory;
 use negotiation::{Features, Flags};
 use std::alloc::Allocator;
+use std::test::Fail;
 
 const BASE: u64 = 0x8000_0000;
 
-/// The features of every window, and those of a block device.
+/// The features of every window and those of a block device, or of a console.
 const BLOCK: u64 = 0x5_3000_0244;
+
+const CONSOLE: u64 = 0x5_3000_0005;
+
+const NOTIFICATION_DATA: u64 = 0x40_0000_0000;
 
 const NO_CONFIGURATION: [u8; CONFIGURATION_LEN] = [0; CONFIGURATION_LEN];
 
-fn block() -> Window
-    ensures sound { (m : Memory) → IsSound m result }
-{
-    Window::new(DeviceKind::Block, Features::from_bits_retain(BLOCK))
-}
+/// What a driver writes from a reset on, up to the high word of the features that it asks for.
+const BEGIN: [(u16, u32); 6] = [
+    (0x070, 0),
+    (0x070, 1),
+    (0x070, 3),
+    (0x024, 0),
+    (0x020, 0),
+    (0x024, 1),
+];
 
-fn console() -> Window
-    ensures sound { (m : Memory) → IsSound m result }
-{
-    Window::new(
-        DeviceKind::Console,
-        Features::from_bits_retain(0x5_3000_0005),
-    )
-}
+/// What it writes from FEATURES_OK to DRIVER_OK: the selected queue has a size of 4 and three areas.
+const SET_UP: [(u16, u32); 10] = [
+    (0x070, 0x0b),
+    (0x038, 4),
+    (0x080, 0x8000_1000),
+    (0x084, 0),
+    (0x090, 0x8000_2000),
+    (0x094, 0),
+    (0x0a0, 0x8000_3000),
+    (0x0a4, 0),
+    (0x044, 1),
+    (0x070, 0x0f),
+];
 
 fn read(window: &Window, offset: u16) -> u32 {
     window.read(offset, 4, &NO_CONFIGURATION)
 }
 
-fn write<A: Allocator>(window: &mut Window, mem: &GuestMemory<A>, offset: u16, value: u32)
+/// Writes of width 4, one after another.
+fn write_all<A: Allocator>(window: &mut Window, mem: &GuestMemory<A>, writes: &[(u16, u32)])
     ensures sound { IsSound mem.now window.old → IsSound mem.now window.new }
 {
-    let _ = window.write(offset, 4, value, mem);
+    for (offset, value) in writes {
+        let _ = window.write(*offset, 4, *value, mem);
+    }
 }
 
-// What a driver writes up to FEATURES_OK.
-fn begin<A: Allocator>(window: &mut Window, mem: &GuestMemory<A>, low: u32, high: u32)
-    ensures sound { IsSound mem.now window.old → IsSound mem.now window.new }
+/// A window of a driver that asked for this high word of the features, and set up one queue.
+fn up<A: Allocator>(kind: DeviceKind, offered: u64, high: u32, mem: &GuestMemory<A>) -> Window
+    ensures sound { IsSound mem.now result }
 {
-    write(window, mem, 0x070, 0);
-    write(window, mem, 0x070, 1);
-    write(window, mem, 0x070, 3);
-    write(window, mem, 0x024, 0);
-    write(window, mem, 0x020, low);
-    write(window, mem, 0x024, 1);
-    write(window, mem, 0x020, high);
-    write(window, mem, 0x070, 0x0b);
+    let mut window = Window::new(kind, Features::from_bits_retain(offered));
+    write_all(&mut window, mem, &BEGIN);
+    write_all(&mut window, mem, &[(0x020, high)]);
+    write_all(&mut window, mem, &SET_UP);
+    window
 }
 
-fn write_address<A: Allocator>(window: &mut Window, mem: &GuestMemory<A>, low: u16, address: u64)
-    requires { low < 0x100 }
-    ensures sound { IsSound mem.now window.old → IsSound mem.now window.new }
+const fn configured(offset: u16, width: u8, value: u32) -> Action {
+    Action::ConfigWrite {
+        offset,
+        width,
+        value,
+    }
+}
+
+#[test]
+fn actions(rt: HostRuntime) -> Result<(), Fail> {
+    let mem = GuestMemory::new(rt.alloc(), BASE, 0x1_0000)?;
+    let mut window = up(DeviceKind::Block, BLOCK, 1, &mem);
+    for (offset, width, value, action) in [
+        (0x050, 4, 0, Action::Notify(0)),
+        (0x050, 4, 1, Action::None),
+        (0x050, 4, 0x1_0000, Action::None),
+        (0x050, 2, 0, Action::None),
+        (0x108, 1, 0x141, configured(0x108, 1, 0x41)),
+        (0x108, 2, 0x1_0041, configured(0x108, 2, 0x41)),
+        (0x108, 4, 0x1_0041, configured(0x108, 4, 0x1_0041)),
+        (0x109, 2, 0x41, Action::None),
+        (0x108, 8, 0x41, Action::None),
+        (0x140, 4, 0x41, configured(0x140, 4, 0x41)),
+        (0x070, 4, 0x100, Action::None),
+        (0x070, 4, 0x80, Action::None),
+        // The driver has failed.
+        (0x050, 4, 0, Action::None),
+        (0x070, 4, 0, Action::Reset),
+    ] {
+        assert_eq!(rt;
+            window.write(offset, width, value, &mem),
+            action,
+            "of {value:x} to {width} at {offset:x}"
+        );
+    }
+    Ok(())
+}
+
+#[test]
+fn features_that_no_board_offers_yet(rt: HostRuntime) -> Result<(), Fail> {
+    let mem = GuestMemory::new(rt.alloc(), BASE, 0x1_0000)?;
+    // RING_PACKED was negotiated, and there is no packed ring.
+    let window = up(DeviceKind::Block, BLOCK, 5, &mem);
+    assert_eq!(rt; read(&window, 0x010), 0x3000_0244);
+    assert_eq!(rt; read(&window, 0x044), 0);
+    // With NOTIFICATION_DATA the low half of a notification names the queue.
+    let mut window = up(DeviceKind::Block, BLOCK | NOTIFICATION_DATA, 0x41, &mem);
+    assert_eq!(rt;
+        window.write(0x050, 4, 0x8001_0000, &mem),
+        Action::Notify(0)
+    );
+    Ok(())
+}
+
+#[test]
+fn configuration_by_widths(rt: HostRuntime) {
+    let window = Window::new(DeviceKind::Block, Features::from_bits_retain(BLOCK));
+    let mut config = NO_CONFIGURATION;
+    config[0] = 8;
+    config[12] = 126;
+    config[21] = 2;
+    config[63] = 0xff;
+    for (offset, width, value) in [
+        (0x100, 4, 8),
+        (0x10c, 1, 0x7e),
+        (0x114, 4, 0x200),
+        (0x114, 2, 0x200),
+        (0x114, 1, 0),
+        (0x115, 1, 2),
+        (0x115, 2, 0),
+        (0x116, 4, 0),
+        (0x13c, 4, 0xff00_0000),
+        (0x13f, 1, 0xff),
+        (0x140, 4, 0),
+        (0x100, 3, 0),
+        (0x100, 0, 0),
+        (0xffff, 1, 0),
+    ] {
+        assert_eq!(rt;
+            window.read(offset, width, &config),
+            value,
+            "of {width} at {offset:x}"
+        );
+    }
+}
+
+#[test]
+fn interrupts(rt: HostRuntime) -> Result<(), Fail> {
+    let mem = GuestMemory::new(rt.alloc(), BASE, 0x1_0000)?;
+    let mut window = up(DeviceKind::Block, BLOCK, 1, &mem);
+    window.used_interrupt();
+    assert_eq!(rt; window.interrupts(), 1);
+    window.config_interrupt();
+    assert_eq!(rt; window.interrupts(), 3);
+    write_all(&mut window, &mem, &[(0x064, 1)]);
+    assert_eq!(rt; window.interrupts(), 2);
+    window.used_interrupt();
+    write_all(&mut window, &mem, &[(0x064, 0xffff_fffe)]);
+    assert_eq!(rt; window.interrupts(), 1);
+    window.needs_reset();
+    assert_eq!(rt; window.interrupts(), 3);
+    assert_eq!(rt; read(&window, 0x070), 0x4f);
+    assert!(rt; window.queue(0).is_none());
+    Ok(())
+}
+
+#[test]
+fn a_reset_keeps_the_generation(rt: HostRuntime) -> Result<(), Fail> {
+    let mem = GuestMemory::new(rt.alloc(), BASE, 0x1_0000)?;
+    let mut window = Window::new(DeviceKind::Console, Features::from_bits_retain(CONSOLE));
+    window.config_changed();
+    assert_eq!(rt; window.interrupts(), 0, "before DRIVER_OK");
+    write_all(&mut window, &mem, &[(0x070, 4), (0x0ac, 7)]);
+    window.config_changed();
+    assert_eq!(rt; window.interrupts(), 2);
+    assert_eq!(rt; read(&window, 0x0fc), 2);
+    write_all(&mut window, &mem, &[(0x070, 0)]);
+    for (offset, value) in [
+        (0x010, 0x3000_0005),
+        (0x034, 256),
+        (0x044, 0),
+        (0x060, 0),
+        (0x070, 0),
+        (0x0fc, 2),
+    ] {
+        assert_eq!(rt; read(&window, offset), value, "at {offset:x}");
+    }
+    let mut block = Window::new(DeviceKind::Block, Features::from_bits_retain(BLOCK));
+    block.config_changed();
+    assert_eq!(rt; read(&block, 0x0fc), 0, "of a block device");
+    Ok(())
+}
+
+/// Serves a queue and gives every chain back. How many there were.
+fn served<A: Allocator>(queue: &mut Queue, mem: &mut GuestMemory<A>) -> u64
+    requires { LiesIn mem.old queue.old }
+    ensures range { SameRange mem.old mem.new }
+    ensures made { made_as queue.new ≡ made_as queue.old }
 {
-    write(window, mem, low, (address % (1 << 32)) as u32);
-    write(window, mem, low + 4, (address >> 32) as u32);
+    let mut chain = Chain::new();
+    let mut count = 0u64;
+    if queue.open(mem).is_ok() {
+        while let Ok(Some(token)) = queue.take(mem, &mut chain) {
+            queue.give(mem, token, 0, false);
+            count = count.saturating_add(1);
+        }
+    }
+    let _ = queue.close(mem);
+    count
 }
 
-/// A queue as a driver sets it up: its size, and the addresses of its areas.
-#[derive(Clone, Copy)]
-struct Layout {
-    number: u32,
-    desc: u64,
-    driver: u64,
-    device: u64,
-}
-
-const LAYOUT: Layout = Layout {
-    number: 4,
-    desc: BASE + 0x1000,
-    driver: BASE + 0x2000,
-    device: BASE + 0x3000,
-};
-
-// Sets up the selected queue and makes it ready.
-fn set_up<A: Allocator>(window: &mut Window, mem: &GuestMemory<A>, layout: Layout)
-    ensures sound { IsSound mem.now window.old → IsSound mem.now window.new }
+fn serve<A: Allocator>(window: &mut Window, mem: &mut GuestMemory<A>) -> Option<u64>
+    requires { IsSound mem.old window.old }
+    ensures { IsSound mem.new window.new }
 {
-    write(window, mem, 0x038, layout.number);
-    write_address(window, mem, 0x080, layout.desc);
-    write_address(window, mem, 0x090, layout.driver);
-    write_address(window, mem, 0x0a0, layout.device);
-    write(window, mem, 0x044, 1);
+    match window.queue(0) {
+        Some(queue) => Some(served(queue, mem)),
+        None => None,
+    }
 }
 
-fn up<A: Allocator>(window: &mut Window, mem: &GuestMemory<A>)
-    ensures sound { IsSound mem.now window.old → IsSound mem.now window.new }
-{
-    begin(window, mem, 0, 1);
-    set_up(window, mem, LAYOUT);
-    write(window, mem, 0x070, 0x0f);
+#[test]
+fn a_queue_that_is_ready_again_begins_at_place_0(rt: HostRuntime) -> Result<(), Fail> {
+    let mut mem = GuestMemory::new(rt.alloc(), BASE, 0x1_0000)?;
+    // One readable buffer at descriptor 0, which is the head of two chains.
+    let _ = mem.put_u64(BASE + 0x1000, BASE + 0x4000);
+    let _ = mem.put_u32(BASE + 0x1008, 0x10);
+    let _ = mem.put_u16(BASE + 0x2002, 2);
+    let mut window = up(DeviceKind::Block, BLOCK, 1, &mem);
+    assert_eq!(rt; serve(&mut window, &mut mem), Some(2));
+    assert_eq!(rt; serve(&mut window, &mut mem), Some(0));
+    write_all(&mut window, &mem, &[(0x044, 0), (0x044, 1)]);
+    assert_eq!(rt; serve(&mut window, &mut mem), Some(2));
+    Ok(())
 }

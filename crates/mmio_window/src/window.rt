@@ -14,7 +14,7 @@ ghost use Rattle.mmio_window.specs.Window.{fresh_window, queue_at, with_config_c
 mod read;
 mod write;
 
-use crate::device_kind::DeviceKind;
+use crate::device_kind::{DeviceKind, QueueIndex};
 use crate::interrupts::Interrupts;
 use crate::queue::Queue;
 use crate::queue_registers::QueueRegisters;
@@ -84,10 +84,10 @@ impl Window {
         if !self.negotiation.live() {
             return None;
         }
-        match (q, self.kind) {
-            (0, _) => self.queue_0.ring.as_mut(),
-            (1, DeviceKind::Console) => self.queue_1.ring.as_mut(),
-            _ => None,
+        match self.kind.queue(u32::from(q)) {
+            Some(QueueIndex::Queue0) => self.queue_0.ring.as_mut(),
+            Some(QueueIndex::Queue1) => self.queue_1.ring.as_mut(),
+            None => None,
         }
     }
 
@@ -121,7 +121,7 @@ impl Window {
         ensures after { self.new ≡ with_config_changed self.old }
         ensures sound { (m : Memory) → IsSound m self.old → IsSound m self.new }
     {
-        if self.kind == DeviceKind::Console {
+        if self.kind.changes_configuration() {
             self.config_generation = self.config_generation.wrapping_add(1);
             if self.negotiation.status().contains(Status::DRIVER_OK) {
                 self.config_interrupt();

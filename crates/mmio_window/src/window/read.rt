@@ -7,7 +7,7 @@ ghost use Rattle.mmio_window.specs.Window.{registers_of, ring_at};
 use crate::configuration::{
     CONFIGURATION_LEN, CONFIGURATION_OFFSET, configuration_value, is_configuration_access,
 };
-use crate::device_kind::DeviceKind;
+use crate::device_kind::QueueIndex;
 use crate::register::Register;
 use crate::window::Window;
 use negotiation::Flags;
@@ -67,7 +67,7 @@ impl Window {
                     0
                 }
             }
-            Register::QueueReady => u32::from(self.is_selected_ready()),
+            Register::QueueReady => u32::from(self.is_ready(self.queue_sel)),
             Register::InterruptStatus => u32::from(self.interrupts.bits()),
             Register::Status => u32::from(self.negotiation.status().bits()),
             Register::ShmLenLow
@@ -83,20 +83,17 @@ impl Window {
     fn has_selected(&self) -> bool
         ensures { result ≡ is_some (registers_of self.now.queue_sel self.now) }
     {
-        match (self.queue_sel, self.kind) {
-            (0, _) | (1, DeviceKind::Console) => true,
-            _ => false,
-        }
+        self.kind.queue(self.queue_sel).is_some()
     }
 
-    // Whether the selected queue is ready.
-    fn is_selected_ready(&self) -> bool
-        ensures { result ≡ is_some (ring_at self.now.queue_sel self.now) }
+    // Whether the device has this queue, and it is ready.
+    pub(super) fn is_ready(&self, q: u32) -> bool
+        ensures { result ≡ is_some (ring_at q self.now) }
     {
-        match (self.queue_sel, self.kind) {
-            (0, _) => self.queue_0.ring.is_some(),
-            (1, DeviceKind::Console) => self.queue_1.ring.is_some(),
-            _ => false,
+        match self.kind.queue(q) {
+            Some(QueueIndex::Queue0) => self.queue_0.ring.is_some(),
+            Some(QueueIndex::Queue1) => self.queue_1.ring.is_some(),
+            None => false,
         }
     }
 }

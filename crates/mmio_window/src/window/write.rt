@@ -7,7 +7,7 @@ ghost use Rattle.mmio_window.specs.Writing.{action_of, register_action, register
 
 use crate::action::Action;
 use crate::configuration::{CONFIGURATION_OFFSET, is_configuration_access, narrowed};
-use crate::device_kind::DeviceKind;
+use crate::device_kind::QueueIndex;
 use crate::interrupts::Interrupts;
 use crate::queue_registers::QueueRegisters;
 use crate::register::Register;
@@ -91,12 +91,7 @@ impl Window {
         ensures served { result ≡ is_some (queue_at q self.now) }
         ensures named { IsTrue result → q < 2 }
     {
-        self.negotiation.live()
-            && match (q, self.kind) {
-                (0, _) => self.queue_0.ring.is_some(),
-                (1, DeviceKind::Console) => self.queue_1.ring.is_some(),
-                _ => false,
-            }
+        self.negotiation.live() && self.is_ready(q)
     }
 
     // A write to a register.
@@ -130,12 +125,14 @@ impl Window {
     fn write_queue<A: Allocator>(&mut self, register: Register, value: u32, mem: &GuestMemory<A>)
         ensures { self.new ≡ with_queue_written register value mem.now self.old }
     {
-        match (self.queue_sel, self.kind) {
-            (0, _) => self.queue_0.write(register, value, &self.negotiation, mem),
-            (1, DeviceKind::Console) => {
+        match self.kind.queue(self.queue_sel) {
+            Some(QueueIndex::Queue0) => {
+                self.queue_0.write(register, value, &self.negotiation, mem);
+            }
+            Some(QueueIndex::Queue1) => {
                 self.queue_1.write(register, value, &self.negotiation, mem);
             }
-            _ => {}
+            None => {}
         }
     }
 

@@ -1,7 +1,7 @@
 use Rattle.std.proofs.Common.{◌≡◌}
 use Rattle.guest_memory.specs.Memory.{SameRange}
 use Rattle.mmio_window.specs.Queue.{LiesIn, left_of, made_as}
-use Rattle.mmio_window.proofs.tests.queues.served.Given as goal
+use Rattle.mmio_window.proofs.tests.served.Given as goal
 
 abbrev pub invariant-loop-token : goal.invariant-loop-token
 invariant-loop-token g l = record {

@@ -1,6 +1,6 @@
 use Rattle.std.proofs.Common.{sym}
 use Rattle.mmio_window.proofs.Soundness.{serving_keeps_sound}
-use Rattle.mmio_window.proofs.tests.queues.serve.Goals as goal
+use Rattle.mmio_window.proofs.tests.serve.Goals as goal
 
 pub returns-in-Some : goal.returns-in-Some
 returns-in-Some g c =

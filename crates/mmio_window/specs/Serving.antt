@@ -1,0 +1,54 @@
+-- One service of a queue as its driver sees it, for any device: the memory, the window, and behind them the
+-- device's own state.
+use Rattle.std.specs.Prelude.{◌≡◌, ℕ, Bool, if◌then◌else◌, Option, None, Some, Result, Ok, Err}
+use Rattle.guest_memory.specs.Memory.{Memory}
+use Rattle.chain.specs.declared.fault.Fault.{Fault}
+use Rattle.chain.specs.Service.{Device, Ending, Spent, Faulted, Refused, IsService}
+use Rattle.mmio_window.specs.declared.queue.Queue.{Queue}
+use Rattle.mmio_window.specs.Queue.{queue_kind}
+use Rattle.mmio_window.specs.Window.{WindowState, with_ring, with_used_interrupt, with_reset_asked}
+
+-- why a service ends, by the fault that it met: of a device that always has memory
+abbrev pub ending_of : Option Fault → Ending
+ending_of None = Spent
+ending_of (Some fault) = Faulted fault
+
+-- The same of a device that may have no memory for a chain: its service is refused exactly there.
+abbrev pub ending_of_result : {E : Type 0} → Result (Option Fault) E → Ending
+ending_of_result (Ok fault) = ending_of fault
+ending_of_result (Err why) = Refused
+
+-- after a fault, and after nothing else, the device asks to be reset (2.1.2)
+abbrev pub after_ending : Ending → WindowState → WindowState
+after_ending Spent w = w
+after_ending (Faulted fault) w = with_reset_asked w
+after_ending Refused w = w
+
+-- The interrupts of a service: a used buffer where a notification is wanted, and the reset that is asked for.
+-- A service that is refused owes its driver the notification of the chains before.
+abbrev pub after_service : Ending → Bool → WindowState → WindowState
+after_service ending wanted w = after_ending ending (if wanted then with_used_interrupt w else w)
+
+-- The device serves this queue of the window, which has the number q, once; and the service ends so.
+pub record ServesQueue {State : Type 0} (device : Device State) (q : ℕ) (queue : Queue) (ending : Ending) (old new : Memory) (before after : WindowState) (s s' : State) : Type 0 where
+  pub last : Queue
+  pub wanted : Bool
+  pub service : IsService queue_kind device (record { memory = old; ring = queue; state = s }) (record { memory = new; ring = last; state = s' }) ending wanted
+  pub window : after ≡ after_service ending wanted (with_ring q before last)
+
+-- nothing happens
+pub record NothingHappens {State : Type 0} (old new : Memory) (before after : WindowState) (s s' : State) : Type 0 where
+  pub memory : new ≡ old
+  pub window : after ≡ before
+  pub state : s' ≡ s
+
+-- What a notification of the queue q does, by the queue that the device may serve: there is one where the
+-- window is live and the queue ready. Where there is none nothing happens, and no chain is on offer.
+abbrev pub Notified : {State : Type 0} → Device State → ℕ → Option Queue → Ending → Memory → Memory → WindowState → WindowState → State → State → Type 0
+Notified device q None ending old new before after s s' = (ending ≡ Spent) × NothingHappens old new before after s s'
+Notified device q (Some queue) ending old new before after s s' = ServesQueue device q queue ending old new before after s s'
+
+-- The same where nobody is told why the service ended.
+pub record IsNotified {State : Type 0} (device : Device State) (q : ℕ) (queue : Option Queue) (old new : Memory) (before after : WindowState) (s s' : State) : Type 0 where
+  pub ending : Ending
+  pub notified : Notified device q queue ending old new before after s s'
