@@ -4,7 +4,7 @@ ghost use Rattle.std.specs.Prelude.{◌≡◌, ◌≤◌, length, OnOk, OnErr};
 ghost use Rattle.guest_memory.specs.Memory.{Memory, SameRange};
 ghost use Rattle.chain.specs.Service.{IsService, Refused, Runs};
 ghost use Rattle.mmio_window.specs.Queue.{LiesIn, made_as, queue_kind};
-ghost use Rattle.mmio_window.specs.Serving.{Notified, NotifiedUntil, after_service, ending_of_result};
+ghost use Rattle.mmio_window.specs.Serving.{IsNotified, Notified, after_service, ending_of_result};
 ghost use Rattle.mmio_window.specs.Soundness.{IsSound};
 ghost use Rattle.mmio_window.specs.Window.{queue_at};
 ghost use Rattle.console_device.specs.Device.{exact_transmit, receive, transmit};
@@ -31,7 +31,7 @@ impl<A: Allocator> ConsoleDevice<A> {
     /// isn't live or its receive queue not ready, nothing happens.
     pub fn serve_receive<M: Allocator>(&mut self, mem: &mut GuestMemory<M>, window: &mut Window)
         requires sound { IsSound mem.old window.old }
-        ensures served { Notified receive 0 (queue_at 0 window.old) mem.old mem.new
+        ensures served { IsNotified receive 0 (queue_at 0 window.old) mem.old mem.new
             window.old window.new self.old.pending self.new.pending }
         ensures size { self.new ≡ record self.old { pending = self.new.pending } }
         ensures range { SameRange mem.old mem.new }
@@ -54,9 +54,9 @@ impl<A: Allocator> ConsoleDevice<A> {
         out: &mut Vec<u8, B>,
     ) -> Result<(), NoMemory>
         requires sound { IsSound mem.old window.old }
-        ensures ok { OnOk result (Notified exact_transmit 1 (queue_at 1 window.old) mem.old mem.new
+        ensures ok { OnOk result (IsNotified exact_transmit 1 (queue_at 1 window.old) mem.old mem.new
             window.old window.new out.old.items out.new.items) }
-        ensures no_memory { OnErr result (NotifiedUntil transmit 1 (queue_at 1 window.old) Refused mem.old mem.new
+        ensures no_memory { OnErr result (Notified transmit 1 (queue_at 1 window.old) Refused mem.old mem.new
             window.old window.new out.old.items out.new.items) }
         ensures same { self.new ≡ self.old }
         ensures range { SameRange mem.old mem.new }
