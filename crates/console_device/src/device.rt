@@ -52,7 +52,11 @@ impl<A: Allocator> ConsoleDevice<A> {
     }
 
     /// Puts out the byte of an emergency write (5.3.4, 5.3.5.1).
-    pub fn emergency<B: Allocator>(&mut self, byte: u8, out: &mut Vec<u8, B>) -> Result<(), NoMemory>
+    pub fn emergency<B: Allocator>(
+        &mut self,
+        byte: u8,
+        out: &mut Vec<u8, B>,
+    ) -> Result<(), NoMemory>
         ensures ok { OnOk result (out.new.items ≡ out.old.items ++ byte ∷ []) }
         ensures err { OnErr result (out.new.items ≡ out.old.items) }
         ensures same { self.new ≡ self.old }

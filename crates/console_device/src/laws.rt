@@ -49,7 +49,7 @@ pub fn a_refused_service_leaves_its_chain()
 pub fn output_goes_behind()
     ensures { (old new : Memory) (queue last : Queue) (before after : List ℕ) (ending : Ending) (wanted : Bool)
         → IsService queue_kind transmit
-            (record { memory = old; ring = queue; state = before })
-            (record { memory = new; ring = last; state = after }) ending wanted
+        (record { memory = old; ring = queue; state = before })
+        (record { memory = new; ring = last; state = after }) ending wanted
         → PutsOut queue_kind old new queue last before after ending wanted }
 {}

@@ -15,7 +15,7 @@ mod transmit;
 
 pub use device::ConsoleDevice;
 pub use laws::{
-    a_refused_service_leaves_its_chain, a_service_with_memory_is_exact, one_answer, output_goes_behind,
-    used_len_counts_what_was_received,
+    a_refused_service_leaves_its_chain, a_service_with_memory_is_exact, one_answer,
+    output_goes_behind, used_len_counts_what_was_received,
 };
 pub use no_memory::NoMemory;

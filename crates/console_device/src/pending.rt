@@ -62,11 +62,7 @@ impl<A: Allocator> Pending<A> {
 
     /// Moves the first bytes into the first writable ones of a chain, as many as both have, and answers how
     /// many they are.
-    pub(crate) fn fill<M: Allocator>(
-        &mut self,
-        mem: &mut GuestMemory<M>,
-        chain: &Chain,
-    ) -> usize
+    pub(crate) fn fill<M: Allocator>(&mut self, mem: &mut GuestMemory<M>, chain: &Chain) -> usize
         requires { Good mem.old chain.now }
         ensures count { result ≡ length (take (length (writable_of chain.now)) self.old) }
         ensures few { result ≤ 4096 }

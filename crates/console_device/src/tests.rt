@@ -92,7 +92,8 @@ fn fill<M: Allocator>(mem: &mut GuestMemory<M>, addr: u64, len: u64, byte: u8) {
 /// Writes these bytes.
 fn put<M: Allocator>(mem: &mut GuestMemory<M>, addr: u64, bytes: &[u8]) {
     if mem.holds(addr, bytes.len() as u64) {
-        mem.part_mut(addr, bytes.len() as u64).copy_from_slice(bytes);
+        mem.part_mut(addr, bytes.len() as u64)
+            .copy_from_slice(bytes);
     }
 }
 

@@ -1,7 +1,7 @@
 //! The console without its queues: input, emergency byte, size and configuration.
 
-use crate::{ConsoleDevice, NoMemory};
 use crate::tests::up;
+use crate::{ConsoleDevice, NoMemory};
 use guest_memory::GuestMemory;
 use std::test::Fail;
 

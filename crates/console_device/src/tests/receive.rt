@@ -2,8 +2,8 @@
 
 use crate::ConsoleDevice;
 use crate::tests::{
-    AVAILABLE, BASE, DATA, Descriptor, LEN, NEXT, RECEIVE, TABLE, UNUSED, USED, WRITE, descriptor, fill,
-    offer, put_table, status, up,
+    AVAILABLE, BASE, DATA, Descriptor, LEN, NEXT, RECEIVE, TABLE, UNUSED, USED, WRITE, descriptor,
+    fill, offer, put_table, status, up,
 };
 use guest_memory::GuestMemory;
 use std::test::Fail;
@@ -104,7 +104,10 @@ fn a_chain_takes_the_first_pending_bytes(rt: HostRuntime) -> Result<(), Fail> {
 #[test]
 fn a_chain_is_taken_only_while_input_is_pending(rt: HostRuntime) -> Result<(), Fail> {
     let mut mem = GuestMemory::new(rt.alloc(), BASE, LEN)?;
-    let table = [descriptor(DATA, 4, WRITE, 0), descriptor(DATA + 4, 4, WRITE, 0)];
+    let table = [
+        descriptor(DATA, 4, WRITE, 0),
+        descriptor(DATA + 4, 4, WRITE, 0),
+    ];
     put_table(&mut mem, TABLE, &table);
     offer(&mut mem, [1, 0], 2);
     let mut window = up(&mem, RECEIVE);
@@ -147,7 +150,9 @@ fn input_keeps_its_order_round_the_end_of_its_ring(rt: HostRuntime) -> Result<()
 }
 
 #[test]
-fn input_over_the_available_ring_is_a_jump_of_the_next_service(rt: HostRuntime) -> Result<(), Fail> {
+fn input_over_the_available_ring_is_a_jump_of_the_next_service(
+    rt: HostRuntime,
+) -> Result<(), Fail> {
     let mut mem = GuestMemory::new(rt.alloc(), BASE, LEN)?;
     put_table(&mut mem, TABLE, &[descriptor(AVAILABLE, 8, WRITE, 0)]);
     offer(&mut mem, [0, 0], 1);

@@ -1,9 +1,9 @@
 //! Each request for memory refused in turn.
 
-use crate::{ConsoleDevice, NoMemory};
 use crate::tests::{
     BASE, DATA, LEN, TABLE, TRANSMIT, USED, WRITE, descriptor, fill, offer, put_table, status, up,
 };
+use crate::{ConsoleDevice, NoMemory};
 use guest_memory::GuestMemory;
 use refusing::RefusingHeap;
 use std::test::Fail;
@@ -77,21 +77,30 @@ fn a_chain_without_room_stays_on_offer(rt: HostRuntime) -> Result<(), Fail> {
         let mut mem = GuestMemory::new(rt.alloc(), BASE, LEN)?;
         fill(&mut mem, DATA, 1, 0x41);
         fill(&mut mem, DATA + 0x1000, 0x1000, 0x42);
-        let table = [descriptor(DATA, 1, 0, 0), descriptor(DATA + 0x1000, 0x1000, 0, 0)];
+        let table = [
+            descriptor(DATA, 1, 0, 0),
+            descriptor(DATA + 0x1000, 0x1000, 0, 0),
+        ];
         put_table(&mut mem, TABLE, &table);
         offer(&mut mem, [0, 1], 2);
         let mut window = up(&mem, TRANSMIT);
         let mut console = ConsoleDevice::new(rt.alloc(), 80, 25)?;
         let mut out = Vec::new(&heap);
         heap.refuse_from(row.nth);
-        assert_eq!(rt; console.serve_transmit(&mut mem, &mut window, &mut out), row.answer);
+        assert_eq!(rt;
+            console.serve_transmit(&mut mem, &mut window, &mut out),
+            row.answer
+        );
         assert_eq!(rt; out.len(), row.out);
         assert_eq!(rt; mem.get_u16(USED + 2), Some(row.used_idx));
         assert_eq!(rt; window.interrupts(), row.interrupts);
         assert_eq!(rt; status(&window), 0x0f);
         // the next notify goes on with that chain
         heap.refuse_from(0);
-        assert_eq!(rt; console.serve_transmit(&mut mem, &mut window, &mut out), Ok(()));
+        assert_eq!(rt;
+            console.serve_transmit(&mut mem, &mut window, &mut out),
+            Ok(())
+        );
         assert_eq!(rt; out.len(), 4097);
         assert_eq!(rt; out.first(), Some(&0x41));
         assert!(rt; out.iter().skip(1).all(|byte| *byte == 0x42));
@@ -111,7 +120,10 @@ fn chains_without_readable_bytes_take_no_memory(rt: HostRuntime) -> Result<(), F
     let mut console = ConsoleDevice::new(rt.alloc(), 80, 25)?;
     let mut out = Vec::new(&heap);
     heap.refuse_from(1);
-    assert_eq!(rt; console.serve_transmit(&mut mem, &mut window, &mut out), Ok(()));
+    assert_eq!(rt;
+        console.serve_transmit(&mut mem, &mut window, &mut out),
+        Ok(())
+    );
     assert!(rt; !heap.has_refused());
     assert_eq!(rt; mem.get_u16(USED + 2), Some(2));
     Ok(())

@@ -2,8 +2,8 @@
 
 use crate::ConsoleDevice;
 use crate::tests::{
-    BASE, DATA, Descriptor, INDIRECT, INDIRECT_TABLE, LEN, NEXT, TABLE, TRANSMIT, UNUSED, USED, WRITE, descriptor,
-    offer, put, put_table, status, up,
+    BASE, DATA, Descriptor, INDIRECT, INDIRECT_TABLE, LEN, NEXT, TABLE, TRANSMIT, UNUSED, USED,
+    WRITE, descriptor, offer, put, put_table, status, up,
 };
 use guest_memory::GuestMemory;
 use std::test::Fail;
@@ -24,7 +24,11 @@ struct Transmitted {
 const TRANSMITTED: [Transmitted; 5] = [
     // two chains, one after another
     Transmitted {
-        table: [descriptor(DATA + 4, 2, 0, 0), descriptor(DATA, 3, 0, 0), UNUSED],
+        table: [
+            descriptor(DATA + 4, 2, 0, 0),
+            descriptor(DATA, 3, 0, 0),
+            UNUSED,
+        ],
         heads: [0, 1],
         out: *b">efabc..",
         len: 6,
@@ -48,7 +52,11 @@ const TRANSMITTED: [Transmitted; 5] = [
     },
     // no readable byte
     Transmitted {
-        table: [descriptor(DATA, 8, WRITE, 0), descriptor(DATA, 0, 0, 0), UNUSED],
+        table: [
+            descriptor(DATA, 8, WRITE, 0),
+            descriptor(DATA, 0, 0, 0),
+            UNUSED,
+        ],
         heads: [0, 1],
         out: *b">.......",
         len: 1,
@@ -88,14 +96,20 @@ fn readable_bytes_go_out_in_order(rt: HostRuntime) -> Result<(), Fail> {
         let mut mem = GuestMemory::new(rt.alloc(), BASE, LEN)?;
         put(&mut mem, DATA, b"abcdefgh");
         put_table(&mut mem, TABLE, &row.table);
-        let entries = [descriptor(DATA + 2, 1, NEXT, 1), descriptor(DATA + 3, 2, 0, 0)];
+        let entries = [
+            descriptor(DATA + 2, 1, NEXT, 1),
+            descriptor(DATA + 3, 2, 0, 0),
+        ];
         put_table(&mut mem, INDIRECT_TABLE, &entries);
         offer(&mut mem, row.heads, 2);
         let mut window = up(&mem, TRANSMIT);
         let mut console = ConsoleDevice::new(rt.alloc(), 80, 25)?;
         let mut out = Vec::new(rt.alloc());
         out.push(b'>')?;
-        assert_eq!(rt; console.serve_transmit(&mut mem, &mut window, &mut out), Ok(()));
+        assert_eq!(rt;
+            console.serve_transmit(&mut mem, &mut window, &mut out),
+            Ok(())
+        );
         assert_eq!(rt; Some(out.as_slice()), row.out.get(..row.len));
         assert_eq!(rt; mem.get_u16(USED + 2), Some(row.used_idx));
         assert_eq!(rt; mem.get_u32(USED + 8), Some(0));
