@@ -42,35 +42,21 @@ const WRITE: u16 = 2;
 
 const INDIRECT: u16 = 4;
 
-/// A descriptor of a split queue (2.7.5).
+/// A descriptor of a split queue (2.7.5): its address, length, flags and next descriptor.
 #[derive(Clone, Copy)]
-struct Descriptor {
-    addr: u64,
-    len: u32,
-    flags: u16,
-    next: u16,
-}
-
-const fn descriptor(addr: u64, len: u32, flags: u16, next: u16) -> Descriptor {
-    Descriptor {
-        addr,
-        len,
-        flags,
-        next,
-    }
-}
+struct Descriptor(u64, u32, u16, u16);
 
 /// A descriptor that no chain leads to.
-const UNUSED: Descriptor = descriptor(0, 0, 0, 0);
+const UNUSED: Descriptor = Descriptor(0, 0, 0, 0);
 
 /// Writes a table of descriptors.
 fn put_table<M: Allocator>(mem: &mut GuestMemory<M>, table: u64, descriptors: &[Descriptor]) {
     let mut at = table;
-    for descriptor in descriptors {
-        let _ = mem.put_u64(at, descriptor.addr);
-        let _ = mem.put_u32(at.wrapping_add(8), descriptor.len);
-        let _ = mem.put_u16(at.wrapping_add(12), descriptor.flags);
-        let _ = mem.put_u16(at.wrapping_add(14), descriptor.next);
+    for Descriptor(addr, len, flags, next) in descriptors {
+        let _ = mem.put_u64(at, *addr);
+        let _ = mem.put_u32(at.wrapping_add(8), *len);
+        let _ = mem.put_u16(at.wrapping_add(12), *flags);
+        let _ = mem.put_u16(at.wrapping_add(14), *next);
         at = at.wrapping_add(16);
     }
 }

@@ -35,7 +35,7 @@ fn the_configuration_shows_the_size(rt: HostRuntime) -> Result<(), Fail> {
     assert_eq!(rt; window.read(0x100, 4, &console.config()), 0x0019_0050);
     console.resize(0x1234, 0xabcd);
     let config = console.config();
-    assert_eq!(rt; config[..4], [0x34, 0x12, 0xcd, 0xab]);
+    assert_eq!(rt; config.get(..4), Some([0x34, 0x12, 0xcd, 0xab].as_slice()));
     assert!(rt; config[4..].iter().all(|byte| *byte == 0));
     assert_eq!(rt; window.read(0x102, 2, &config), 0xabcd);
     Ok(())

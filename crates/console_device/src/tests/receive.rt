@@ -2,8 +2,8 @@
 
 use crate::ConsoleDevice;
 use crate::tests::{
-    AVAILABLE, BASE, DATA, Descriptor, LEN, NEXT, RECEIVE, TABLE, UNUSED, USED, WRITE, descriptor,
-    fill, offer, put_table, status, up,
+    AVAILABLE, BASE, DATA, Descriptor, LEN, NEXT, RECEIVE, TABLE, UNUSED, USED, WRITE, fill, offer,
+    put_table, status, up,
 };
 use guest_memory::GuestMemory;
 use std::test::Fail;
@@ -21,27 +21,27 @@ struct Received {
 const RECEIVED: [Received; 7] = [
     // no writable buffer, and one without bytes: nothing is taken
     Received {
-        table: [descriptor(DATA, 4, 0, 0), UNUSED, UNUSED],
+        table: [Descriptor(DATA, 4, 0, 0), UNUSED, UNUSED],
         used_len: 0,
         found: [0xff; 8],
         room: 4090,
     },
     Received {
-        table: [descriptor(DATA, 0, WRITE, 0), UNUSED, UNUSED],
+        table: [Descriptor(DATA, 0, WRITE, 0), UNUSED, UNUSED],
         used_len: 0,
         found: [0xff; 8],
         room: 4090,
     },
     // less room than input
     Received {
-        table: [descriptor(DATA, 3, WRITE, 0), UNUSED, UNUSED],
+        table: [Descriptor(DATA, 3, WRITE, 0), UNUSED, UNUSED],
         used_len: 3,
         found: [0x61, 0x62, 0x63, 0xff, 0xff, 0xff, 0xff, 0xff],
         room: 4093,
     },
     // more room than input
     Received {
-        table: [descriptor(DATA, 0x1000, WRITE, 0), UNUSED, UNUSED],
+        table: [Descriptor(DATA, 0x1000, WRITE, 0), UNUSED, UNUSED],
         used_len: 6,
         found: [0x61, 0x62, 0x63, 0x64, 0x65, 0x66, 0xff, 0xff],
         room: 4096,
@@ -49,9 +49,9 @@ const RECEIVED: [Received; 7] = [
     // several buffers, one of them empty
     Received {
         table: [
-            descriptor(DATA, 2, WRITE | NEXT, 2),
-            descriptor(DATA + 5, 3, WRITE, 0),
-            descriptor(DATA + 3, 0, WRITE | NEXT, 1),
+            Descriptor(DATA, 2, WRITE | NEXT, 2),
+            Descriptor(DATA + 5, 3, WRITE, 0),
+            Descriptor(DATA + 3, 0, WRITE | NEXT, 1),
         ],
         used_len: 5,
         found: [0x61, 0x62, 0xff, 0xff, 0xff, 0x63, 0x64, 0x65],
@@ -60,9 +60,9 @@ const RECEIVED: [Received; 7] = [
     // readable buffers between
     Received {
         table: [
-            descriptor(DATA + 4, 1, WRITE | NEXT, 1),
-            descriptor(DATA, 8, NEXT, 2),
-            descriptor(DATA + 1, 2, WRITE, 0),
+            Descriptor(DATA + 4, 1, WRITE | NEXT, 1),
+            Descriptor(DATA, 8, NEXT, 2),
+            Descriptor(DATA + 1, 2, WRITE, 0),
         ],
         used_len: 3,
         found: [0xff, 0x62, 0x63, 0xff, 0x61, 0xff, 0xff, 0xff],
@@ -71,8 +71,8 @@ const RECEIVED: [Received; 7] = [
     // buffers that overlap: the later byte stands
     Received {
         table: [
-            descriptor(DATA, 3, WRITE | NEXT, 1),
-            descriptor(DATA + 2, 2, WRITE, 0),
+            Descriptor(DATA, 3, WRITE | NEXT, 1),
+            Descriptor(DATA + 2, 2, WRITE, 0),
             UNUSED,
         ],
         used_len: 5,
@@ -105,8 +105,8 @@ fn a_chain_takes_the_first_pending_bytes(rt: HostRuntime) -> Result<(), Fail> {
 fn a_chain_is_taken_only_while_input_is_pending(rt: HostRuntime) -> Result<(), Fail> {
     let mut mem = GuestMemory::new(rt.alloc(), BASE, LEN)?;
     let table = [
-        descriptor(DATA, 4, WRITE, 0),
-        descriptor(DATA + 4, 4, WRITE, 0),
+        Descriptor(DATA, 4, WRITE, 0),
+        Descriptor(DATA + 4, 4, WRITE, 0),
     ];
     put_table(&mut mem, TABLE, &table);
     offer(&mut mem, [1, 0], 2);
@@ -139,7 +139,7 @@ fn input_keeps_its_order_round_the_end_of_its_ring(rt: HostRuntime) -> Result<()
         }
         assert_eq!(rt; console.input(&typed), 3000);
         let mut mem = GuestMemory::new(rt.alloc(), BASE, LEN)?;
-        put_table(&mut mem, TABLE, &[descriptor(DATA, 0x1000, WRITE, 0)]);
+        put_table(&mut mem, TABLE, &[Descriptor(DATA, 0x1000, WRITE, 0)]);
         offer(&mut mem, [0, 0], 1);
         let mut window = up(&mem, RECEIVE);
         console.serve_receive(&mut mem, &mut window);
@@ -154,7 +154,7 @@ fn input_over_the_available_ring_is_a_jump_of_the_next_service(
     rt: HostRuntime,
 ) -> Result<(), Fail> {
     let mut mem = GuestMemory::new(rt.alloc(), BASE, LEN)?;
-    put_table(&mut mem, TABLE, &[descriptor(AVAILABLE, 8, WRITE, 0)]);
+    put_table(&mut mem, TABLE, &[Descriptor(AVAILABLE, 8, WRITE, 0)]);
     offer(&mut mem, [0, 0], 1);
     let mut window = up(&mem, RECEIVE);
     let mut console = ConsoleDevice::new(rt.alloc(), 80, 25)?;

@@ -1,7 +1,7 @@
 //! Each request for memory refused in turn.
 
 use crate::tests::{
-    BASE, DATA, LEN, TABLE, TRANSMIT, USED, WRITE, descriptor, fill, offer, put_table, status, up,
+    BASE, DATA, Descriptor, LEN, TABLE, TRANSMIT, USED, WRITE, fill, offer, put_table, status, up,
 };
 use crate::{ConsoleDevice, NoMemory};
 use guest_memory::GuestMemory;
@@ -78,8 +78,8 @@ fn a_chain_without_room_stays_on_offer(rt: HostRuntime) -> Result<(), Fail> {
         fill(&mut mem, DATA, 1, 0x41);
         fill(&mut mem, DATA + 0x1000, 0x1000, 0x42);
         let table = [
-            descriptor(DATA, 1, 0, 0),
-            descriptor(DATA + 0x1000, 0x1000, 0, 0),
+            Descriptor(DATA, 1, 0, 0),
+            Descriptor(DATA + 0x1000, 0x1000, 0, 0),
         ];
         put_table(&mut mem, TABLE, &table);
         offer(&mut mem, [0, 1], 2);
@@ -113,7 +113,7 @@ fn a_chain_without_room_stays_on_offer(rt: HostRuntime) -> Result<(), Fail> {
 fn chains_without_readable_bytes_take_no_memory(rt: HostRuntime) -> Result<(), Fail> {
     let heap = RefusingHeap::new(rt.alloc());
     let mut mem = GuestMemory::new(rt.alloc(), BASE, LEN)?;
-    let table = [descriptor(DATA, 8, WRITE, 0), descriptor(DATA, 0, 0, 0)];
+    let table = [Descriptor(DATA, 8, WRITE, 0), Descriptor(DATA, 0, 0, 0)];
     put_table(&mut mem, TABLE, &table);
     offer(&mut mem, [0, 1], 2);
     let mut window = up(&mem, TRANSMIT);

@@ -3,7 +3,7 @@
 use crate::ConsoleDevice;
 use crate::tests::{
     BASE, DATA, Descriptor, INDIRECT, INDIRECT_TABLE, LEN, NEXT, TABLE, TRANSMIT, UNUSED, USED,
-    WRITE, descriptor, offer, put, put_table, status, up,
+    WRITE, offer, put, put_table, status, up,
 };
 use guest_memory::GuestMemory;
 use std::test::Fail;
@@ -25,8 +25,8 @@ const TRANSMITTED: [Transmitted; 5] = [
     // two chains, one after another
     Transmitted {
         table: [
-            descriptor(DATA + 4, 2, 0, 0),
-            descriptor(DATA, 3, 0, 0),
+            Descriptor(DATA + 4, 2, 0, 0),
+            Descriptor(DATA, 3, 0, 0),
             UNUSED,
         ],
         heads: [0, 1],
@@ -39,9 +39,9 @@ const TRANSMITTED: [Transmitted; 5] = [
     // overlapping buffers, and a writable one between
     Transmitted {
         table: [
-            descriptor(DATA, 3, NEXT, 1),
-            descriptor(DATA + 1, 4, NEXT | WRITE, 2),
-            descriptor(DATA + 1, 2, 0, 0),
+            Descriptor(DATA, 3, NEXT, 1),
+            Descriptor(DATA + 1, 4, NEXT | WRITE, 2),
+            Descriptor(DATA + 1, 2, 0, 0),
         ],
         heads: [0, 2],
         out: *b">abcbcbc",
@@ -53,8 +53,8 @@ const TRANSMITTED: [Transmitted; 5] = [
     // no readable byte
     Transmitted {
         table: [
-            descriptor(DATA, 8, WRITE, 0),
-            descriptor(DATA, 0, 0, 0),
+            Descriptor(DATA, 8, WRITE, 0),
+            Descriptor(DATA, 0, 0, 0),
             UNUSED,
         ],
         heads: [0, 1],
@@ -67,9 +67,9 @@ const TRANSMITTED: [Transmitted; 5] = [
     // an indirect table behind a buffer
     Transmitted {
         table: [
-            descriptor(DATA + 7, 1, NEXT, 1),
-            descriptor(INDIRECT_TABLE, 32, INDIRECT, 0),
-            descriptor(DATA, 1, 0, 0),
+            Descriptor(DATA + 7, 1, NEXT, 1),
+            Descriptor(INDIRECT_TABLE, 32, INDIRECT, 0),
+            Descriptor(DATA, 1, 0, 0),
         ],
         heads: [0, 2],
         out: *b">hcdea..",
@@ -80,7 +80,7 @@ const TRANSMITTED: [Transmitted; 5] = [
     },
     // a fault in the second chain: what the first put out stays
     Transmitted {
-        table: [descriptor(DATA, 3, 0, 0), UNUSED, UNUSED],
+        table: [Descriptor(DATA, 3, 0, 0), UNUSED, UNUSED],
         heads: [0, 4],
         out: *b">abc....",
         len: 4,
@@ -97,8 +97,8 @@ fn readable_bytes_go_out_in_order(rt: HostRuntime) -> Result<(), Fail> {
         put(&mut mem, DATA, b"abcdefgh");
         put_table(&mut mem, TABLE, &row.table);
         let entries = [
-            descriptor(DATA + 2, 1, NEXT, 1),
-            descriptor(DATA + 3, 2, 0, 0),
+            Descriptor(DATA + 2, 1, NEXT, 1),
+            Descriptor(DATA + 3, 2, 0, 0),
         ];
         put_table(&mut mem, INDIRECT_TABLE, &entries);
         offer(&mut mem, row.heads, 2);
@@ -123,7 +123,7 @@ fn readable_bytes_go_out_in_order(rt: HostRuntime) -> Result<(), Fail> {
 #[test]
 fn a_queue_that_is_not_ready_is_not_served(rt: HostRuntime) -> Result<(), Fail> {
     let mut mem = GuestMemory::new(rt.alloc(), BASE, LEN)?;
-    put_table(&mut mem, TABLE, &[descriptor(DATA, 4, WRITE, 0)]);
+    put_table(&mut mem, TABLE, &[Descriptor(DATA, 4, WRITE, 0)]);
     offer(&mut mem, [0, 0], 1);
     let mut window = up(&mem, TRANSMIT);
     let mut console = ConsoleDevice::new(rt.alloc(), 80, 25)?;
