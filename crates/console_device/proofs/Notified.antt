@@ -10,8 +10,9 @@ use Rattle.mmio_window.specs.Soundness.{IsSound}
 use Rattle.mmio_window.specs.Window.{WindowState, queue_at, with_ring}
 use Rattle.mmio_window.proofs.Soundness.{serving_keeps_sound}
 use Rattle.mmio_window.proofs.Services.{notified_exact}
-use Rattle.console_device.specs.Device.{transmit, exact_transmit}
-use Rattle.console_device.proofs.Services.{exact_unless}
+use Rattle.console_device.specs.Input.{IsLeft}
+use Rattle.console_device.specs.Device.{receive, transmit, exact_transmit}
+use Rattle.console_device.proofs.Services.{exact_unless, receive_left}
 
 -- the queue that the window lent was served
 pub served : (device : Device (List ℕ)) (q : ℕ) (at : Option Queue) (queue last : Queue) (ending : Ending) (wanted : Bool) (old new : Memory) (before after : WindowState) (s s' : List ℕ)
@@ -40,3 +41,9 @@ served_exactly r fault q at old new before after s s' e h = record {
 pub sound_still : (old new : Memory) (w : WindowState) (q : ℕ) (queue last : Queue) → IsSound old w → SameRange old new → Some queue ≡ queue_at q w → made_as last ≡ made_as queue
     → IsSound new (with_ring q w last)
 sound_still old new w q queue last sound range lent made = serving_keeps_sound old new w q queue last sound range (sym lent) made
+
+-- what a notification of the receive queue leaves pending is the end of what was
+pub notified_left : (q : ℕ) (queue : Option Queue) (old new : Memory) (before after : WindowState) (s s' : List ℕ) → IsNotified receive q queue old new before after s s' → IsLeft s s'
+notified_left q None old new before after s s' h = record { taken = 0; rest = h.notified.1.state }
+notified_left q (Some queue) old new before after s s' h =
+    receive_left queue_kind (record { memory = old; ring = queue; state = s }) (record { memory = new; ring = h.notified.last; state = s' }) h.ending h.notified.wanted h.notified.service

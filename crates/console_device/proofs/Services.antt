@@ -1,12 +1,15 @@
 -- Whole services of the two queues, over any kind of ring.
 use Rattle.std.proofs.Common.{◌≡◌, ◌≢◌, ℕ, ◌+◌, ◌-◌, Bool, List, [], ◌∷◌, ◌++◌, length, map, take, drop, replicate, Option, Some, None, refl, sym, ap, subst, ◌∙◌, arith, append_assoc}
 use Rattle.std.specs.Prelude.{min}
-use Rattle.std.proofs.lemmas.List.{length-map, length-replicate, length-append, length-take, append-nil}
+use Rattle.std.proofs.lemmas.List.{drop-drop, length-map, length-replicate, length-append, length-take, append-nil}
 use Rattle.guest_memory.specs.Memory.{Memory}
-use Rattle.chain.specs.Service.{Kind, Given, Ending, Refused, Site, IsService, IsExactUnless, HasAtMostOneAnswer, used_len}
+use Rattle.chain.specs.declared.fault.Fault.{Fault}
+use Rattle.chain.specs.Bytes.{writable_of}
+use Rattle.chain.specs.Service.{Kind, Given, Ending, Spent, Faulted, Refused, Site, Served, after, ServesAll, stop, open_site, Works, IsService, IsExactUnless, HasAtMostOneAnswer, used_len}
 use Rattle.chain.proofs.Partial.{unwritten, used_len-run}
 use Rattle.chain.proofs.Servicing.{exact_service, never_refused}
 use Rattle.chain.proofs.Simulating.{Matches, DoesAs, ServedAs, service_as}
+use Rattle.console_device.specs.Input.{IsLeft}
 use Rattle.console_device.specs.Output.{PutsOut}
 use Rattle.console_device.specs.Device.{received, receive, transmitted, transmit, exact_transmit}
 use Rattle.console_device.proofs.Receiving.{used_len-none}
@@ -44,6 +47,33 @@ module _ {Ring : Type 0} (kind : Kind Ring) where
   pub receive_never_refused : (old new : Site Ring (List ℕ)) (ending : Ending) (wanted : Bool)
       → IsService kind receive old new ending wanted → ending ≢ Refused
   receive_never_refused old new ending wanted s = never_refused kind receive old new ending wanted (λ pending readable w h. h) s
+
+  -- each chain takes from the front of pending input
+  serves_left : (start at : Site Ring (List ℕ)) (chains : List (Served (List ℕ))) → ServesAll kind receive start chains at → IsLeft start.state at.state
+  serves_left start at [] p = record { taken = 0; rest = ap (λ (s : Site Ring (List ℕ)). s.state) (sym p) }
+  serves_left start at (s ∷ chains) p =
+      let w = length (writable_of s.buffers) in
+      let later = serves_left (after kind receive start s) at chains p.1 in
+      record {
+        taken = w + later.taken;
+        rest = later.rest ∙ ap (λ (g : Given (List ℕ)). drop later.taken g.state) p.0.gives ∙ drop-drop later.taken w start.state;
+      }
+
+  stop_state : (site : Site Ring (List ℕ)) (ending : Ending) → (stop kind receive site ending).state ≡ site.state
+  stop_state site Spent = refl
+  stop_state site (Faulted fault) = refl
+  stop_state site Refused = refl
+
+  works_left : (fault : Option Fault) (start last : Site Ring (List ℕ)) (ending : Ending) → Works kind receive fault start ending last → IsLeft start.state last.state
+  works_left (Some fault) start last ending w = record { taken = 0; rest = ap (λ (s : Site Ring (List ℕ)). s.state) w.1 }
+  works_left None start last ending w =
+      let left = serves_left start w.at w.chains w.serves in
+      record { taken = left.taken; rest = ap (λ (s : Site Ring (List ℕ)). s.state) w.stands ∙ stop_state w.at ending ∙ left.rest }
+
+  pub receive_left : (old new : Site Ring (List ℕ)) (ending : Ending) (wanted : Bool) → IsService kind receive old new ending wanted → IsLeft old.state new.state
+  receive_left old new ending wanted s =
+      let left = works_left (kind.opening_fault old.memory old.ring) (open_site kind receive old) s.last ending s.works in
+      record { taken = left.taken; rest = ap (λ (s : Site Ring (List ℕ)). s.state) s.closed ∙ left.rest }
 
   pub transmit_exact : (old new : Site Ring (List ℕ)) (ending : Ending) (wanted : Bool) → ending ≢ Refused
       → IsService kind transmit old new ending wanted → IsService kind exact_transmit old new ending wanted

@@ -6,6 +6,7 @@ ghost use Rattle.chain.specs.Service.{Ending, Refused, Site, IsService, IsRefuse
 ghost use Rattle.mmio_window.specs.declared.queue.Queue.{Queue};
 ghost use Rattle.mmio_window.specs.Queue.{queue_kind};
 ghost use Rattle.console_device.specs.Device.{received, receive, transmitted, transmit, exact_transmit};
+ghost use Rattle.console_device.specs.Input.{IsLeft};
 ghost use Rattle.console_device.specs.Output.{PutsOut};
 
 /// Each queue has at most one answer to a chain; and the one that it has accounts for each place of the chain,
@@ -25,6 +26,12 @@ pub fn used_len_counts_what_was_received()
         used_len (received pending w).written ≡ min w (length pending) }
     ensures transmitted { (out readable : List ℕ) (w : ℕ) →
         used_len (transmitted out readable w).written ≡ 0 }
+{}
+
+/// What a service of the receive queue leaves pending is the end of what was.
+pub fn input_is_taken_from_the_front()
+    ensures { (old new : Site Queue (List ℕ)) (ending : Ending) (wanted : Bool)
+        → IsService queue_kind receive old new ending wanted → IsLeft old.state new.state }
 {}
 
 /// A service of the receive queue never lacks memory, and one of the transmit queue that lacks none is the

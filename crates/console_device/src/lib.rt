@@ -15,7 +15,8 @@ mod transmit;
 
 pub use device::ConsoleDevice;
 pub use laws::{
-    a_refused_service_leaves_its_chain, a_service_with_memory_is_exact, one_answer,
-    output_goes_behind, used_len_counts_what_was_received,
+    a_refused_service_leaves_its_chain, a_service_with_memory_is_exact,
+    input_is_taken_from_the_front, one_answer, output_goes_behind,
+    used_len_counts_what_was_received,
 };
 pub use no_memory::NoMemory;

@@ -8,10 +8,12 @@ mod receive;
 mod refused;
 mod transmit;
 
+use crate::{ConsoleDevice, NoMemory};
 use guest_memory::GuestMemory;
 use mmio_window::{DeviceKind, Window};
 use negotiation::{Features, Flags};
-use std::alloc::Allocator;
+use std::alloc::{Allocator, Global};
+use std::test::Fail;
 
 /// The first address of the guest's memory, and how many bytes it has.
 const BASE: u64 = 0x8000_0000;
@@ -75,14 +77,6 @@ fn fill<M: Allocator>(mem: &mut GuestMemory<M>, addr: u64, len: u64, byte: u8) {
     }
 }
 
-/// Writes these bytes.
-fn put<M: Allocator>(mem: &mut GuestMemory<M>, addr: u64, bytes: &[u8]) {
-    if mem.holds(addr, bytes.len() as u64) {
-        mem.part_mut(addr, bytes.len() as u64)
-            .copy_from_slice(bytes);
-    }
-}
-
 /// Writes registers, each by its offset.
 fn write_all<M: Allocator>(window: &mut Window, mem: &GuestMemory<M>, writes: &[(u16, u32)])
     ensures { IsSound mem.now window.old → IsSound mem.now window.new }
@@ -122,7 +116,70 @@ fn up<M: Allocator>(mem: &GuestMemory<M>, queue: u32) -> Window
     window
 }
 
-/// What Status shows.
-fn status(window: &Window) -> u32 {
-    window.read(0x070, 4, &[0; 64])
+/// What a driver finds after a service.
+#[derive(Clone, Copy, Debug, PartialEq, Eq)]
+struct Seen {
+    /// The used ring's idx.
+    used: u16,
+    /// The head and the length of the first used entry (2.7.8).
+    head: u32,
+    len: u32,
+    interrupts: u8,
+    status: u32,
+}
+
+fn look<M: Allocator>(mem: &GuestMemory<M>, window: &Window) -> Seen {
+    Seen {
+        used: mem.get_u16(USED + 2).unwrap_or(0),
+        head: mem.get_u32(USED + 4).unwrap_or(0),
+        len: mem.get_u32(USED + 8).unwrap_or(0),
+        interrupts: window.interrupts(),
+        status: window.read(0x070, 4, &[0; 64]),
+    }
+}
+
+/// A guest with these descriptors in its table, that offers the chains of these heads, and whose data are
+/// `abcdefgh`. The indirect table has `c` and `de`.
+fn guest(
+    alloc: Global,
+    table: &[Descriptor],
+    heads: [u16; 2],
+    count: u16,
+) -> Result<GuestMemory, Fail> {
+    let mut mem = GuestMemory::new(alloc, BASE, LEN)?;
+    let _ = mem.put_u64(DATA, 0x6867_6665_6463_6261);
+    put_table(&mut mem, TABLE, table);
+    put_table(
+        &mut mem,
+        INDIRECT_TABLE,
+        &[
+            Descriptor(DATA + 2, 1, NEXT, 1),
+            Descriptor(DATA + 3, 2, 0, 0),
+        ],
+    );
+    offer(&mut mem, heads, count);
+    Ok(mem)
+}
+
+/// Serves the receive queue, and answers what is seen then.
+fn after_receive(console: &mut ConsoleDevice, mem: &mut GuestMemory, window: &mut Window) -> Seen
+    requires { IsSound mem.old window.old }
+    ensures { IsSound mem.new window.new }
+{
+    console.serve_receive(mem, window);
+    look(mem, window)
+}
+
+/// Serves the transmit queue, and answers what is seen then.
+fn after_transmit<B: Allocator>(
+    console: &mut ConsoleDevice,
+    mem: &mut GuestMemory,
+    window: &mut Window,
+    out: &mut Vec<u8, B>,
+) -> (Result<(), NoMemory>, Seen)
+    requires { IsSound mem.old window.old }
+    ensures { IsSound mem.new window.new }
+{
+    let answer = console.serve_transmit(mem, window, out);
+    (answer, look(mem, window))
 }

@@ -33,6 +33,8 @@ fn the_configuration_shows_the_size(rt: HostRuntime) -> Result<(), Fail> {
     let window = up(&mem, 0);
     let mut console = ConsoleDevice::new(rt.alloc(), 0x50, 0x19)?;
     assert_eq!(rt; window.read(0x100, 4, &console.config()), 0x0019_0050);
+    console.resize(0x64, 0x1e);
+    assert_eq!(rt; window.read(0x100, 4, &console.config()), 0x001e_0064);
     console.resize(0x1234, 0xabcd);
     let config = console.config();
     assert_eq!(rt; config.get(..4), Some([0x34, 0x12, 0xcd, 0xab].as_slice()));

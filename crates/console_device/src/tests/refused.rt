@@ -1,11 +1,9 @@
 //! Each request for memory refused in turn.
 
-use crate::tests::{
-    BASE, DATA, Descriptor, LEN, TABLE, TRANSMIT, USED, WRITE, fill, offer, put_table, status, up,
-};
+use crate::tests::{DATA, Descriptor, TRANSMIT, WRITE, after_transmit, fill, guest, up};
 use crate::{ConsoleDevice, NoMemory};
-use guest_memory::GuestMemory;
 use refusing::RefusingHeap;
+use std::alloc::Allocator;
 use std::test::Fail;
 
 #[test]
@@ -42,7 +40,7 @@ struct Refused {
     nth: u64,
     answer: Result<(), NoMemory>,
     out: usize,
-    used_idx: u16,
+    used: u16,
     interrupts: u8,
 }
 
@@ -51,80 +49,72 @@ const REFUSED: [Refused; 3] = [
         nth: 1,
         answer: Err(NoMemory),
         out: 0,
-        used_idx: 0,
+        used: 0,
         interrupts: 0,
     },
     Refused {
         nth: 2,
         answer: Err(NoMemory),
         out: 1,
-        used_idx: 1,
+        used: 1,
         interrupts: 1,
     },
     Refused {
         nth: 3,
         answer: Ok(()),
         out: 4097,
-        used_idx: 2,
+        used: 2,
         interrupts: 1,
     },
+];
+
+/// One chain of the byte `a`, and one of 4096 bytes 42.
+const CHAINS: [Descriptor; 2] = [
+    Descriptor(DATA, 1, 0, 0),
+    Descriptor(DATA + 0x1000, 0x1000, 0, 0),
 ];
 
 #[test]
 fn a_chain_without_room_stays_on_offer(rt: HostRuntime) -> Result<(), Fail> {
     for row in REFUSED {
         let heap = RefusingHeap::new(rt.alloc());
-        let mut mem = GuestMemory::new(rt.alloc(), BASE, LEN)?;
-        fill(&mut mem, DATA, 1, 0x41);
+        let mut mem = guest(rt.alloc(), &CHAINS, [0, 1], 2)?;
         fill(&mut mem, DATA + 0x1000, 0x1000, 0x42);
-        let table = [
-            Descriptor(DATA, 1, 0, 0),
-            Descriptor(DATA + 0x1000, 0x1000, 0, 0),
-        ];
-        put_table(&mut mem, TABLE, &table);
-        offer(&mut mem, [0, 1], 2);
         let mut window = up(&mem, TRANSMIT);
         let mut console = ConsoleDevice::new(rt.alloc(), 80, 25)?;
         let mut out = Vec::new(&heap);
         heap.refuse_from(row.nth);
+        let (answer, seen) = after_transmit(&mut console, &mut mem, &mut window, &mut out);
+        assert_eq!(rt; (answer, out.len()), (row.answer, row.out));
         assert_eq!(rt;
-            console.serve_transmit(&mut mem, &mut window, &mut out),
-            row.answer
+            (seen.used, seen.interrupts, seen.status),
+            (row.used, row.interrupts, 0x0f)
         );
-        assert_eq!(rt; out.len(), row.out);
-        assert_eq!(rt; mem.get_u16(USED + 2), Some(row.used_idx));
-        assert_eq!(rt; window.interrupts(), row.interrupts);
-        assert_eq!(rt; status(&window), 0x0f);
         // the next notify goes on with that chain
         heap.refuse_from(0);
-        assert_eq!(rt;
-            console.serve_transmit(&mut mem, &mut window, &mut out),
-            Ok(())
-        );
-        assert_eq!(rt; out.len(), 4097);
-        assert_eq!(rt; out.first(), Some(&0x41));
-        assert!(rt; out.iter().skip(1).all(|byte| *byte == 0x42));
-        assert_eq!(rt; mem.get_u16(USED + 2), Some(2));
+        let (answer, seen) = after_transmit(&mut console, &mut mem, &mut window, &mut out);
+        assert_eq!(rt; (answer, out.len(), seen.used), (Ok(()), 4097, 2));
+        assert_eq!(rt; out.first(), Some(&b'a'));
+        assert!(rt; is_all(&out, 0x42));
     }
     Ok(())
+}
+
+/// Whether all bytes behind the first are the same.
+fn is_all<A: Allocator>(out: &Vec<u8, A>, byte: u8) -> bool {
+    out.iter().skip(1).all(|b| *b == byte)
 }
 
 #[test]
 fn chains_without_readable_bytes_take_no_memory(rt: HostRuntime) -> Result<(), Fail> {
     let heap = RefusingHeap::new(rt.alloc());
-    let mut mem = GuestMemory::new(rt.alloc(), BASE, LEN)?;
     let table = [Descriptor(DATA, 8, WRITE, 0), Descriptor(DATA, 0, 0, 0)];
-    put_table(&mut mem, TABLE, &table);
-    offer(&mut mem, [0, 1], 2);
+    let mut mem = guest(rt.alloc(), &table, [0, 1], 2)?;
     let mut window = up(&mem, TRANSMIT);
     let mut console = ConsoleDevice::new(rt.alloc(), 80, 25)?;
     let mut out = Vec::new(&heap);
     heap.refuse_from(1);
-    assert_eq!(rt;
-        console.serve_transmit(&mut mem, &mut window, &mut out),
-        Ok(())
-    );
-    assert!(rt; !heap.has_refused());
-    assert_eq!(rt; mem.get_u16(USED + 2), Some(2));
+    let (answer, seen) = after_transmit(&mut console, &mut mem, &mut window, &mut out);
+    assert_eq!(rt; (answer, seen.used, heap.has_refused()), (Ok(()), 2, false));
     Ok(())
 }
