@@ -135,12 +135,12 @@ fn a_chain_is_taken_only_while_input_is_pending(rt: HostRuntime) -> Result<(), F
 #[test]
 fn input_keeps_its_order_round_the_end_of_its_ring(rt: HostRuntime) -> Result<(), Fail> {
     let mut console = ConsoleDevice::new(rt.alloc(), 80, 25)?;
-    let mut next = 0;
+    let mut next = 0u8;
     for _ in 0..5 {
         let mut typed = [0; 3000];
         for byte in &mut typed {
             *byte = next;
-            next = (next + 1) % 251;
+            next = next.wrapping_add(1);
         }
         let _ = console.input(&typed);
         let mut mem = guest(rt.alloc(), &[Descriptor(DATA, 0x1000, WRITE, 0)], [0, 0], 1)?;
@@ -160,14 +160,14 @@ fn input_waits_for_its_buffers(rt: HostRuntime) -> Result<(), Fail> {
     let mut window = up(&mem, RECEIVE);
     let seen = after_receive(&mut console, &mut mem, &mut window);
     assert_eq!(rt; seen, used(3));
-    assert_eq!(rt; mem.part(DATA, 4), Some(b"aaad".as_slice()));
+    assert_eq!(rt; mem.get_u32(DATA), Some(0x6461_6161));
     assert_eq!(rt; console.input(b"zzzz"), 3);
     // what is pending stays when the window comes up anew
     let mut mem = guest(rt.alloc(), &[Descriptor(DATA, 0x1000, WRITE, 0)], [0, 0], 1)?;
     let mut window = up(&mem, RECEIVE);
     let seen = after_receive(&mut console, &mut mem, &mut window);
     assert_eq!(rt; seen, used(0x1000));
-    assert_eq!(rt; mem.part(DATA + 4090, 7), Some(b"aaazzz\0".as_slice()));
+    assert_eq!(rt; mem.get_u64(DATA + 4089), Some(0x007a_7a7a_6161_6161));
     Ok(())
 }
 
