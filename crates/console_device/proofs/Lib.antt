@@ -1,0 +1,5 @@
+pub mod Courses
+pub mod Notified
+pub mod Receiving
+pub mod Services
+pub mod Transmitting

@@ -1,0 +1,5 @@
+pub mod Config
+pub mod Console
+pub mod Device
+pub mod Input
+pub mod Output

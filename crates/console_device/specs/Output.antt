@@ -1,0 +1,12 @@
+-- What a service of the transmit queue puts out.
+use Rattle.std.specs.Prelude.{◌≡◌, Bool, ℕ, List, [], ◌++◌}
+use Rattle.guest_memory.specs.Memory.{Memory}
+use Rattle.chain.specs.Service.{Kind, Ending, IsService}
+use Rattle.console_device.specs.Device.{transmit}
+
+-- A service puts these bytes out behind what stood there before: they are those of the same service into an
+-- empty output.
+pub record PutsOut {Ring : Type 0} (kind : Kind Ring) (old new : Memory) (ring last : Ring) (before after : List ℕ) (ending : Ending) (wanted : Bool) : Type 0 where
+  pub sent : List ℕ
+  pub behind : after ≡ before ++ sent
+  pub service : IsService kind transmit (record { memory = old; ring = ring; state = [] }) (record { memory = new; ring = last; state = sent }) ending wanted

@@ -1,0 +1,87 @@
+//! The device: its size, its pending input, and its configuration space (5.3.4).
+
+ghost use Rattle.std.specs.Prelude.{◌≡◌, ◌++◌, ◌∷◌, ◌≤◌, [], length, take, IfOk, OnOk, OnErr};
+ghost use Rattle.console_device.specs.Config.{config_of};
+ghost use Rattle.console_device.specs.Console.{Console};
+ghost use Rattle.console_device.specs.Input.{fitting};
+
+use crate::no_memory::NoMemory;
+use crate::pending::Pending;
+use byteorder::{ByteOrder, LittleEndian};
+use std::alloc::{Allocator, Global};
+use std::marker::Model;
+
+/// A console of one port.
+#[derive(Drop)]
+pub struct ConsoleDevice<A: Allocator = Global> {
+    pub(crate) pending: Pending<A>,
+    cols: u16,
+    rows: u16,
+}
+
+impl<A: Allocator> Model for ConsoleDevice<A> {
+    ghost use Rattle.console_device.specs.Console.{Console};
+
+    ghost Value = { Console };
+
+    ghost view = { λ c. record { pending = c.pending; cols = c.cols; rows = c.rows } };
+}
+
+impl<A: Allocator + Copy> ConsoleDevice<A> {
+    /// A console of this size with no input. All the room that its input may need is made here.
+    pub fn new(alloc: A, cols: u16, rows: u16) -> Result<ConsoleDevice<A>, NoMemory>
+        ensures { IfOk result (λ console. console ≡ record { pending = []; cols = cols; rows = rows }) }
+    {
+        let pending = Pending::new(alloc)?;
+        Ok(ConsoleDevice {
+            pending,
+            cols,
+            rows,
+        })
+    }
+}
+
+impl<A: Allocator> ConsoleDevice<A> {
+    /// Takes what is typed: the first bytes that fit become pending. Answers how many they are.
+    pub fn input(&mut self, bytes: &[u8]) -> usize
+        ensures count { result ≡ fitting self.old.pending bytes.now }
+        ensures taken { self.new ≡ record self.old { pending = self.old.pending ++ take result bytes.now } }
+        ensures limit { length self.new.pending ≤ 4096 }
+    {
+        self.pending.append(bytes)
+    }
+
+    /// Puts out the byte of an emergency write (5.3.4, 5.3.5.1).
+    pub fn emergency<B: Allocator>(
+        &mut self,
+        byte: u8,
+        out: &mut Vec<u8, B>,
+    ) -> Result<(), NoMemory>
+        ensures ok { OnOk result (out.new.items ≡ out.old.items ++ byte ∷ []) }
+        ensures err { OnErr result (out.new.items ≡ out.old.items) }
+        ensures same { self.new ≡ self.old }
+    {
+        match out.push(byte) {
+            Ok(()) => Ok(()),
+            Err(_) => Err(NoMemory),
+        }
+    }
+
+    /// Changes the size. Its window is told by the caller.
+    pub fn resize(&mut self, cols: u16, rows: u16)
+        ensures { self.new ≡ record self.old { cols = cols; rows = rows } }
+    {
+        self.cols = cols;
+        self.rows = rows;
+    }
+
+    /// The configuration space (5.3.4), little-endian: cols at 0, rows at 2; max_nr_ports and emerg_wr read 0.
+    pub fn config(&self) -> [u8; 64]
+        ensures { result ≡ config_of self.now.cols self.now.rows }
+    {
+        let mut config = [0; 64];
+        LittleEndian::write_u16(&mut config[..2], self.cols);
+        LittleEndian::write_u16(&mut config[2..4], self.rows);
+        config
+    }
+}

@@ -1,0 +1,185 @@
+//! Values from outside: consoles behind real rings, driven by register writes, with bytes and lengths counted
+//! by hand.
+
+ghost use Rattle.mmio_window.specs.Soundness.{IsSound};
+
+mod console;
+mod receive;
+mod refused;
+mod transmit;
+
+use crate::{ConsoleDevice, NoMemory};
+use guest_memory::GuestMemory;
+use mmio_window::{DeviceKind, Window};
+use negotiation::{Features, Flags};
+use std::alloc::{Allocator, Global};
+use std::test::Fail;
+
+/// The first address of the guest's memory, and how many bytes it has.
+const BASE: u64 = 0x8000_0000;
+
+const LEN: u64 = 0x1_0000;
+
+/// Where the queue has its descriptor table, its available ring and its used ring.
+const TABLE: u64 = BASE + 0x1000;
+
+const AVAILABLE: u64 = BASE + 0x2000;
+
+const USED: u64 = BASE + 0x3000;
+
+/// Where buffers lie, and an indirect table.
+const DATA: u64 = BASE + 0x4000;
+
+const INDIRECT_TABLE: u64 = BASE + 0x7000;
+
+/// The queues (5.3.2).
+const RECEIVE: u32 = 0;
+
+const TRANSMIT: u32 = 1;
+
+/// Flags of a descriptor (2.7.5).
+const NEXT: u16 = 1;
+
+const WRITE: u16 = 2;
+
+const INDIRECT: u16 = 4;
+
+/// A descriptor of a split queue (2.7.5): its address, length, flags and next descriptor.
+#[derive(Clone, Copy)]
+struct Descriptor(u64, u32, u16, u16);
+
+/// A descriptor that no chain leads to.
+const UNUSED: Descriptor = Descriptor(0, 0, 0, 0);
+
+/// Writes a table of descriptors.
+fn put_table<M: Allocator>(mem: &mut GuestMemory<M>, table: u64, descriptors: &[Descriptor]) {
+    let mut at = table;
+    for Descriptor(addr, len, flags, next) in descriptors {
+        let _ = mem.put_u64(at, *addr);
+        let _ = mem.put_u32(at.wrapping_add(8), *len);
+        let _ = mem.put_u16(at.wrapping_add(12), *flags);
+        let _ = mem.put_u16(at.wrapping_add(14), *next);
+        at = at.wrapping_add(16);
+    }
+}
+
+/// Offers the chains of these two heads, or of the first alone (2.7.6).
+fn offer<M: Allocator>(mem: &mut GuestMemory<M>, heads: [u16; 2], count: u16) {
+    let _ = mem.put_u16(AVAILABLE + 4, heads[0]);
+    let _ = mem.put_u16(AVAILABLE + 6, heads[1]);
+    let _ = mem.put_u16(AVAILABLE + 2, count);
+}
+
+/// The same byte again and again.
+fn fill<M: Allocator>(mem: &mut GuestMemory<M>, addr: u64, len: u64, byte: u8) {
+    if mem.holds(addr, len) {
+        mem.part_mut(addr, len).fill(byte);
+    }
+}
+
+/// Writes registers, each by its offset.
+fn write_all<M: Allocator>(window: &mut Window, mem: &GuestMemory<M>, writes: &[(u16, u32)])
+    ensures { IsSound mem.now window.old → IsSound mem.now window.new }
+{
+    for (offset, value) in writes {
+        let _ = window.write(*offset, 4, *value, mem);
+    }
+}
+
+/// A live console window with one queue of four descriptors that is ready; indirect tables are negotiated.
+fn up<M: Allocator>(mem: &GuestMemory<M>, queue: u32) -> Window
+    ensures { IsSound mem.now result }
+{
+    let mut window = Window::new(
+        DeviceKind::Console,
+        Features::from_bits_retain(0x1_1000_0005),
+    );
+    let negotiation = [
+        (0x070, 1),
+        (0x070, 3),
+        (0x020, 0x1000_0000),
+        (0x024, 1),
+        (0x020, 1),
+        (0x070, 0x0b),
+    ];
+    let setup = [
+        (0x030, queue),
+        (0x038, 4),
+        (0x080, 0x8000_1000),
+        (0x090, 0x8000_2000),
+        (0x0a0, 0x8000_3000),
+        (0x044, 1),
+        (0x070, 0x0f),
+    ];
+    write_all(&mut window, mem, &negotiation);
+    write_all(&mut window, mem, &setup);
+    window
+}
+
+/// What a driver finds after a service.
+#[derive(Clone, Copy, Debug, PartialEq, Eq)]
+struct Seen {
+    /// The used ring's idx.
+    used: u16,
+    /// The head and the length of the first used entry (2.7.8).
+    head: u32,
+    len: u32,
+    interrupts: u8,
+    status: u32,
+}
+
+fn look<M: Allocator>(mem: &GuestMemory<M>, window: &Window) -> Seen {
+    Seen {
+        used: mem.get_u16(USED + 2).unwrap_or(0),
+        head: mem.get_u32(USED + 4).unwrap_or(0),
+        len: mem.get_u32(USED + 8).unwrap_or(0),
+        interrupts: window.interrupts(),
+        status: window.read(0x070, 4, &[0; 64]),
+    }
+}
+
+/// A guest with these descriptors in its table, that offers the chains of these heads, and whose data are
+/// `abcdefgh`. The indirect table has `c` and `de`.
+fn guest(
+    alloc: Global,
+    table: &[Descriptor],
+    heads: [u16; 2],
+    count: u16,
+) -> Result<GuestMemory, Fail> {
+    let mut mem = GuestMemory::new(alloc, BASE, LEN)?;
+    let _ = mem.put_u64(DATA, 0x6867_6665_6463_6261);
+    put_table(&mut mem, TABLE, table);
+    put_table(
+        &mut mem,
+        INDIRECT_TABLE,
+        &[
+            Descriptor(DATA + 2, 1, NEXT, 1),
+            Descriptor(DATA + 3, 2, 0, 0),
+        ],
+    );
+    offer(&mut mem, heads, count);
+    Ok(mem)
+}
+
+/// Serves the receive queue, and answers what is seen then.
+fn after_receive(console: &mut ConsoleDevice, mem: &mut GuestMemory, window: &mut Window) -> Seen
+    requires { IsSound mem.old window.old }
+    ensures { IsSound mem.new window.new }
+{
+    console.serve_receive(mem, window);
+    look(mem, window)
+}
+
+/// Serves the transmit queue, and answers what is seen then.
+fn after_transmit<B: Allocator>(
+    console: &mut ConsoleDevice,
+    mem: &mut GuestMemory,
+    window: &mut Window,
+    out: &mut Vec<u8, B>,
+) -> (Result<(), NoMemory>, Seen)
+    requires { IsSound mem.old window.old }
+    ensures { IsSound mem.new window.new }
+{
+    let answer = console.serve_transmit(mem, window, out);
+    (answer, look(mem, window))
+}

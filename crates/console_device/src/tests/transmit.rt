@@ -1,0 +1,120 @@
+//! The transmit queue: which bytes go out, in which order, and what becomes of a fault.
+
+use crate::ConsoleDevice;
+use crate::tests::{
+    DATA, Descriptor, INDIRECT, INDIRECT_TABLE, NEXT, Seen, TRANSMIT, UNUSED, WRITE, after_receive,
+    after_transmit, guest, up,
+};
+use std::test::Fail;
+
+/// Two chains, with `>` out before.
+#[derive(Clone, Copy)]
+struct Transmitted {
+    table: [Descriptor; 3],
+    heads: [u16; 2],
+    out: [u8; 8],
+    /// How many of them stand in the output.
+    len: usize,
+    seen: Seen,
+}
+
+/// What is seen of two used chains, the first of head 0.
+const BOTH: Seen = Seen {
+    used: 2,
+    head: 0,
+    len: 0,
+    interrupts: 1,
+    status: 0x0f,
+};
+
+const TRANSMITTED: [Transmitted; 5] = [
+    // one after another
+    Transmitted {
+        table: [
+            Descriptor(DATA + 4, 2, 0, 0),
+            Descriptor(DATA, 3, 0, 0),
+            UNUSED,
+        ],
+        heads: [0, 1],
+        out: *b">efabc..",
+        len: 6,
+        seen: BOTH,
+    },
+    // overlapping buffers, and a writable one between
+    Transmitted {
+        table: [
+            Descriptor(DATA, 3, NEXT, 1),
+            Descriptor(DATA + 1, 4, NEXT | WRITE, 2),
+            Descriptor(DATA + 1, 2, 0, 0),
+        ],
+        heads: [0, 2],
+        out: *b">abcbcbc",
+        len: 8,
+        seen: BOTH,
+    },
+    // no readable byte
+    Transmitted {
+        table: [
+            Descriptor(DATA, 8, WRITE, 0),
+            Descriptor(DATA, 0, 0, 0),
+            UNUSED,
+        ],
+        heads: [0, 1],
+        out: *b">.......",
+        len: 1,
+        seen: BOTH,
+    },
+    // an indirect table behind a buffer
+    Transmitted {
+        table: [
+            Descriptor(DATA + 7, 1, NEXT, 1),
+            Descriptor(INDIRECT_TABLE, 32, INDIRECT, 0),
+            Descriptor(DATA, 1, 0, 0),
+        ],
+        heads: [0, 2],
+        out: *b">hcdea..",
+        len: 6,
+        seen: BOTH,
+    },
+    // a fault in the second chain: what the first put out stays
+    Transmitted {
+        table: [Descriptor(DATA, 3, 0, 0), UNUSED, UNUSED],
+        heads: [0, 4],
+        out: *b">abc....",
+        len: 4,
+        seen: Seen {
+            used: 1,
+            interrupts: 3,
+            status: 0x4f,
+            ..BOTH
+        },
+    },
+];
+
+#[test]
+fn readable_bytes_go_out_in_order(rt: HostRuntime) -> Result<(), Fail> {
+    for row in TRANSMITTED {
+        let mut mem = guest(rt.alloc(), &row.table, row.heads, 2)?;
+        let mut window = up(&mem, TRANSMIT);
+        let mut console = ConsoleDevice::new(rt.alloc(), 80, 25)?;
+        let mut out = Vec::new(rt.alloc());
+        out.push(b'>')?;
+        let answer = after_transmit(&mut console, &mut mem, &mut window, &mut out);
+        assert_eq!(rt; answer, (Ok(()), row.seen));
+        assert_eq!(rt; Some(out.as_slice()), row.out.get(..row.len));
+        assert_eq!(rt; mem.get_u64(DATA), Some(0x6867_6665_6463_6261));
+    }
+    Ok(())
+}
+
+#[test]
+fn a_queue_that_is_not_ready_is_not_served(rt: HostRuntime) -> Result<(), Fail> {
+    let mut mem = guest(rt.alloc(), &[Descriptor(DATA, 4, WRITE, 0)], [0, 0], 1)?;
+    let mut window = up(&mem, TRANSMIT);
+    let mut console = ConsoleDevice::new(rt.alloc(), 80, 25)?;
+    let _ = console.input(b"ABCD");
+    let seen = after_receive(&mut console, &mut mem, &mut window);
+    assert_eq!(rt; (seen.used, seen.interrupts, seen.status), (0, 0, 0x0f));
+    assert_eq!(rt; mem.get_u32(DATA), Some(0x6463_6261));
+    Ok(())
+}
