@@ -119,10 +119,6 @@ run_of old new events before after reached = record {
   quiet = λ stood g had. quiet g old reached.moves new reached.line stood had;
 }
 
--- a run that stops before it asks for more: its records are those so far
-pub run_stopped : {A : Type 0} {old new : World} {events : List (Event A)} {before so_far after : List (Record A)} → Reached old new events before so_far → after ≡ so_far → IsRun old new events before after
-run_stopped {A} {old} {new} {events} {before} {so_far} {after} reached same = run_of old new events before after (subst (λ (rs : List (Record A)). Reached old new events before rs) (sym same) reached)
-
 -- two lines, the second from where the first ends, are one
 lines_join : {A : Type 0} (old mid new : World) (moves more : List (Move A)) → IsLine old moves mid → IsLine mid more new → IsLine old (moves ++ more) new
 lines_join old mid new [] more line rest = subst (λ (w : World). IsLine w more new) line rest

@@ -126,7 +126,6 @@ impl<I: Image, A: Allocator + Copy> Board<I, A> {
 
     /// Handles the events in their order, and appends a record for each. Where there is no memory
     /// for the next record it stops before its event.
-    #[tactic(auto, using(crate::proofs::Runs::run_stopped))]
     pub fn run(
         &mut self,
         events: &[Event<A>],

@@ -1,7 +1,10 @@
 use Rattle.std.proofs.Common.{◌+◌, ◌≤◌, vec_len, vec_capacity, sym, ◌∙◌, arith}
 use Rattle.board.specs.World.{world_of}
-use Rattle.board.proofs.Runs.{reached_next, run_whole, where_ok, words_more, line_outside}
+use Rattle.board.proofs.Runs.{reached_next, run_of, run_whole, where_ok, words_more, line_outside}
 use Rattle.board.proofs.board.Board.run.Goals as goal
+
+pub returns-then-is_err-clause-run : goal.returns-then-is_err-clause-run
+returns-then-is_err-clause-run g c tells = rw c.reserve.ensures.items (run_of _ _ _ _ _ (c.loop-done.invariant.reached tells))
 
 pub returns-then-is_err-clause-words : goal.returns-then-is_err-clause-words
 returns-then-is_err-clause-words g c = λ before. rw c.reserve.ensures.items (c.loop-done.invariant.words before)
