@@ -5,7 +5,7 @@ use Rattle.chain.specs.declared.segment.Buffer.{Buffer}
 use Rattle.chain.specs.declared.fault.Fault.{Fault}
 use Rattle.chain.specs.Service.{Entry, Kind}
 use Rattle.indirect.specs.Lists.{packed_tables, ListResolves, ListFails}
-use Rattle.suppression.specs.Places.{place_back}
+use Rattle.suppression.specs.Places.{Passed, place_back}
 use Rattle.suppression.specs.Packed.{PackedWants}
 use Rattle.packed_ring.specs.Ring.{PackedRingState, descriptor_addr, id_of, table_of, head_of, is_available, place_behind, with_used}
 use Rattle.packed_ring.specs.declared.ring.Token.{Token}
@@ -62,6 +62,10 @@ closed m ring = put_num m ring.setup.device 4 0
 -- the first of the places that the service has passed; the ring's own place is behind the last
 abbrev pub first_passed : PackedRingState → ℕ
 first_passed ring = place_back (2 * ring.setup.size) ring.place ring.passed
+
+-- the place is one of those that the service has passed
+abbrev pub HasPassed : PackedRingState → ℕ → Type 0
+HasPassed ring place = Passed (2 * ring.setup.size) (first_passed ring) ring.passed place
 
 -- the driver wants a notification of the places that the service has passed
 abbrev pub Wants : Memory → PackedRingState → Type 0

@@ -10,7 +10,7 @@ mod laws;
 mod ring;
 mod walk;
 
-pub use laws::one_chain_or_fault_at_a_place;
+pub use laws::{a_list_passes_its_places, one_chain_or_fault_at_a_place};
 pub use ring::{PackedRing, Token};
 
 #[cfg(test)]

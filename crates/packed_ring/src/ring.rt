@@ -194,7 +194,7 @@ impl PackedRing {
     }
 
     /// The wrap counter of the ring's place, as whether it is 1 (2.8.1).
-    fn wraps(&self) -> bool
+    fn wrap_counter(&self) -> bool
         ensures { wrap_counter self.now ≡ (if result then 1 else 0) }
     {
         self.place < self.size
@@ -208,7 +208,7 @@ impl PackedRing {
         let offset = 16 * u64::from(self.head());
         prove!(mem.holds(self.desc, 16 * u64::from(self.size)));
         let flags = mem.read_u16(self.desc + offset + 14);
-        (flags & AVAIL != 0) == self.wraps() && (flags & USED != 0) != self.wraps()
+        (flags & AVAIL != 0) == self.wrap_counter() && (flags & USED != 0) != self.wrap_counter()
     }
 
     /// The buffer id of the descriptor at a position (2.8.13).
@@ -256,7 +256,7 @@ impl PackedRing {
         let descriptor = self.desc + offset;
         mem.write_u32(descriptor + 8, len);
         mem.write_u16(descriptor + 12, id);
-        mem.write_u16(descriptor + 14, flags_of_used(self.wraps(), wrote));
+        mem.write_u16(descriptor + 14, flags_of_used(self.wrap_counter(), wrote));
     }
 
     /// Closes a service: asks the driver to notify of what it offers next (2.8.10), and answers whether it
@@ -295,10 +295,10 @@ impl PackedRing {
 }
 
 /// The flags of a used descriptor at a wrap counter (2.8.1, 2.8.3).
-fn flags_of_used(wraps: bool, wrote: bool) -> u16
-    ensures { result ≡ used_flags (if wraps then 1 else 0) wrote }
+fn flags_of_used(wrap_counter: bool, wrote: bool) -> u16
+    ensures { result ≡ used_flags (if wrap_counter then 1 else 0) wrote }
 {
-    let both = if wraps { AVAIL | USED } else { 0 };
+    let both = if wrap_counter { AVAIL | USED } else { 0 };
     let write = if wrote { WRITE } else { 0 };
     both | write
 }
