@@ -1,0 +1,4 @@
+pub mod Areas
+pub mod Positions
+pub mod Passing
+pub mod Outcomes

@@ -1,0 +1,3 @@
+pub use Rattle.guest_memory.specs.Memory
+pub mod Ring
+pub mod Kind

@@ -1,0 +1,23 @@
+//! Laws of the definitions. The bodies are empty: each contract is a theorem.
+
+ghost use Rattle.std.specs.Prelude.{◌≡◌, ℕ, ◌+◌, ◌*◌, ◌<◌, ◌≤◌, ◌↔◌, ◌⊎◌};
+ghost use Rattle.chain.specs.Service.{HasAtMostOneChain, HasSomeChain};
+ghost use Rattle.suppression.specs.Places.{Passed};
+ghost use Rattle.packed_ring.specs.Ring.{PackedRingState};
+ghost use Rattle.packed_ring.specs.Kind.{HasPassed, first_passed, packed_kind, past};
+
+/// A packed ring has one chain or one fault at each place: at most one chain, at most one fault, not both, and
+/// one of the two.
+pub fn one_chain_or_fault_at_a_place()
+    ensures at_most_one { HasAtMostOneChain packed_kind }
+    ensures some { HasSomeChain packed_kind }
+{}
+
+/// What a service has passed are the places of its lists: behind one more list it has the same first place, and
+/// has passed the places of that list beside those before.
+pub fn a_list_passes_its_places()
+    ensures first { (ring : PackedRingState) (length : ℕ) → ring.passed + length ≤ 2 * ring.setup.size
+        → first_passed (past ring length) ≡ first_passed ring }
+    ensures passed { (ring : PackedRingState) (length place : ℕ) → ring.place < 2 * ring.setup.size → ring.passed + length ≤ 2 * ring.setup.size
+        → HasPassed (past ring length) place ↔ (HasPassed ring place ⊎ Passed (2 * ring.setup.size) ring.place length place) }
+{}

@@ -1,0 +1,17 @@
+//! The packed virtqueue (2.8), served by its device.
+//!
+//! A service of a queue is four calls: `open` begins it, `take` resolves the next list of descriptors where
+//! that is available, `give` puts it back as used, and `close` tells the driver that all was seen and whether
+//! it is to be notified. A device calls them through its window's queue and never sees a descriptor or a wrap
+//! counter.
+#![tactic(auto)]
+
+mod laws;
+mod ring;
+mod walk;
+
+pub use laws::{a_list_passes_its_places, one_chain_or_fault_at_a_place};
+pub use ring::{PackedRing, Token};
+
+#[cfg(test)]
+mod tests;

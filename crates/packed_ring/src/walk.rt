@@ -1,0 +1,107 @@
+//! The walk from a position through the descriptor ring.
+
+ghost use Rattle.std.specs.Prelude.{◌≡◌, ◌*◌, ◌<◌, [], OnOk, IfOk, IfErr};
+ghost use Rattle.guest_memory.specs.Memory.{Inside};
+ghost use Rattle.indirect.specs.Lists.{packed_tables, EndsInTable, TableRefused, ListResolves, ListFails};
+ghost use Rattle.packed_ring.specs.Ring.{ring_descriptor};
+
+use chain::{Chain, Fault};
+use guest_memory::GuestMemory;
+use indirect::{Descriptor, INDIRECT, NEXT, append_packed, read_packed_buffer};
+use std::alloc::Allocator;
+
+/// Where a descriptor ring lies, and whether its descriptors may refer to tables of their own.
+#[derive(Clone, Copy)]
+pub(crate) struct Table {
+    pub addr: u64,
+    pub size: u16,
+    pub indirect: bool,
+}
+
+/// Where a list of descriptors ends: how many come before its last one, and the position of that.
+#[derive(Clone, Copy)]
+pub(crate) struct End {
+    pub count: u16,
+    pub last: u16,
+}
+
+/// Fills the empty chain with the buffers of the list that begins at a position (2.8.6). After a fault the
+/// chain holds those before it.
+pub(crate) fn append_list<A: Allocator>(
+    mem: &GuestMemory<A>,
+    table: Table,
+    first: u16,
+    chain: &mut Chain,
+) -> Result<End, Fault>
+    requires area { Inside mem.now table.addr (16 * table.size) }
+    requires first { first < table.size }
+    requires empty { chain.old ≡ [] }
+    ensures ok { IfOk result (λ end. ListResolves packed_tables table.indirect mem.now (ring_descriptor mem.now table.addr table.size)
+        table.size first end.count end.last chain.new) }
+    ensures fault { IfErr result (ListFails packed_tables table.indirect mem.now (ring_descriptor mem.now table.addr table.size) table.size first) }
+{
+    let mut index = first;
+    for count in 0..table.size {
+        let descriptor = read_descriptor(mem, table, index);
+        if descriptor.indirect {
+            return match append_table(mem, table.indirect, count, descriptor, chain) {
+                Ok(()) => Ok(End { count, last: index }),
+                Err(fault) => Err(fault),
+            };
+        }
+        let segment = descriptor.buffer.segment;
+        match chain.push(mem, segment.addr, segment.len, descriptor.buffer.writable) {
+            Ok(()) => {}
+            Err(fault) => return Err(fault),
+        }
+        match descriptor.next {
+            None => return Ok(End { count, last: index }),
+            Some(next) => index = next,
+        }
+    }
+    Err(Fault::Loop)
+}
+
+/// The descriptor at a position of the ring (2.8.13). One with NEXT goes on at the next position, and behind
+/// the last at the first.
+fn read_descriptor<A: Allocator>(mem: &GuestMemory<A>, table: Table, index: u16) -> Descriptor
+    requires area { Inside mem.now table.addr (16 * table.size) }
+    requires below { index < table.size }
+    ensures { result ≡ ring_descriptor mem.now table.addr table.size index }
+{
+    // So no address in the ring passes 2^64.
+    prove!(mem.holds(table.addr, 16 * u64::from(table.size)));
+    let addr = table.addr + 16 * u64::from(index);
+    let flags = mem.read_u16(addr + 14);
+    Descriptor {
+        buffer: read_packed_buffer(mem, addr),
+        indirect: flags & INDIRECT != 0,
+        next: if flags & NEXT != 0 {
+            Some((index + 1) % table.size)
+        } else {
+            None
+        },
+    }
+}
+
+/// Puts the buffers of the indirect table that `descriptor` refers to behind those of the chain (2.8.7).
+/// `count` is how many descriptors of its list come before it.
+fn append_table<A: Allocator>(
+    mem: &GuestMemory<A>,
+    negotiated: bool,
+    count: u16,
+    descriptor: Descriptor,
+    chain: &mut Chain,
+) -> Result<(), Fault>
+    ensures ok { OnOk result (EndsInTable packed_tables negotiated mem.now chain.old count descriptor chain.new) }
+    ensures fault { IfErr result (TableRefused packed_tables negotiated mem.now chain.old count descriptor) }
+{
+    if !negotiated {
+        return Err(Fault::NoIndirect);
+    }
+    if count > 0 || descriptor.next.is_some() {
+        return Err(Fault::Joined);
+    }
+    let table = descriptor.buffer.segment;
+    append_packed(mem, table.addr, table.len, chain)
+}
