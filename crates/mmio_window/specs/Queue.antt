@@ -7,65 +7,85 @@ use Rattle.chain.specs.Service.{Entry, Kind}
 use Rattle.split_ring.specs.Kind as split
 use Rattle.split_ring.specs.Kind.{split_kind}
 use Rattle.split_ring.specs.Ring as split_ring
+use Rattle.packed_ring.specs.Kind as packed
+use Rattle.packed_ring.specs.Kind.{packed_kind}
+use Rattle.packed_ring.specs.Ring as packed_ring
 use Rattle.mmio_window.specs.declared.queue.Queue.{Queue}
-use Rattle.mmio_window.specs.declared.queue.Queue.TheVariants.{Split}
+use Rattle.mmio_window.specs.declared.queue.Queue.TheVariants.{Split, Packed}
 use Rattle.mmio_window.specs.declared.queue.Token.{Token}
 use Rattle.mmio_window.specs.declared.queue.Token.TheVariants as token
 
 -- the queue's areas lie in the memory
 abbrev pub LiesIn : Memory → Queue → Type 0
 LiesIn m (Split ring) = split_ring.LiesIn m ring.setup
+LiesIn m (Packed ring) = packed_ring.LiesIn m ring.setup
 
 -- the queue as it was when it was made ready: of the same size, areas and features, at its first place
 abbrev pub made_as : Queue → Queue
 made_as (Split ring) = Split (split_ring.new_ring ring.setup)
+made_as (Packed ring) = Packed (packed_ring.new_ring ring.setup)
 
--- how many chains a service may still take
+-- how much a service may still take: so many chains of a split ring, so many places of a packed one
 abbrev pub left_of : Queue → ℕ
 left_of (Split ring) = ring.left
+left_of (Packed ring) = ring.left
 
 -- the entry that a taken chain is given back by
 abbrev pub entry_of : Token → Entry
 entry_of (token.Split taken) = split.entry_of taken.head
+entry_of (token.Packed taken) = packed.entry_of taken.id taken.length
 
--- the token names the chain at the queue's place, and the service may still take it
+-- the token is of the queue's kind and names the chain at its place, and the service may still take it
 abbrev pub IsTaken : Queue → Token → Type 0
 IsTaken (Split ring) (token.Split taken) = split.IsTaken ring taken
+IsTaken (Packed ring) (token.Packed taken) = packed.IsTaken ring taken
+IsTaken _ _ = ⊥
 
 -- ---- the kind, each part by cases
 
 abbrev pub opening_fault : Memory → Queue → Option Fault
 opening_fault m (Split ring) = split_kind.opening_fault m ring
+opening_fault m (Packed ring) = packed_kind.opening_fault m ring
 
 abbrev pub opened : Memory → Queue → Queue
 opened m (Split ring) = Split (split_kind.opened m ring)
+opened m (Packed ring) = Packed (packed_kind.opened m ring)
 
 abbrev pub offers : Memory → Queue → Bool
 offers m (Split ring) = split_kind.offers m ring
+offers m (Packed ring) = packed_kind.offers m ring
 
 abbrev pub Offers : Memory → Queue → List Buffer → Entry → Type 0
 Offers m (Split ring) buffers entry = split_kind.Offers m ring buffers entry
+Offers m (Packed ring) buffers entry = packed_kind.Offers m ring buffers entry
 
 abbrev pub HasFault : Memory → Queue → Fault → Type 0
 HasFault m (Split ring) fault = split_kind.HasFault m ring fault
+HasFault m (Packed ring) fault = packed_kind.HasFault m ring fault
 
 abbrev pub used : Memory → Queue → Entry → ℕ → Bool → Memory
 used m (Split ring) entry len wrote = split_kind.used m ring entry len wrote
+used m (Packed ring) entry len wrote = packed_kind.used m ring entry len wrote
 
 abbrev pub past : Queue → Entry → Queue
 past (Split ring) entry = Split (split_kind.past ring entry)
+past (Packed ring) entry = Packed (packed_kind.past ring entry)
 
 abbrev pub stopped : Queue → Queue
 stopped (Split ring) = Split (split_kind.stopped ring)
+stopped (Packed ring) = Packed (packed_kind.stopped ring)
 
 abbrev pub closed : Memory → Queue → Memory
 closed m (Split ring) = split_kind.closed m ring
+closed m (Packed ring) = packed_kind.closed m ring
 
 abbrev pub Wants : Memory → Queue → Type 0
 Wants m (Split ring) = split_kind.Wants m ring
+Wants m (Packed ring) = packed_kind.Wants m ring
 
 abbrev pub shut : Queue → Queue
 shut (Split ring) = Split (split_kind.shut ring)
+shut (Packed ring) = Packed (packed_kind.shut ring)
 
 -- a ready queue as a kind of ring
 abbrev pub queue_kind : Kind Queue

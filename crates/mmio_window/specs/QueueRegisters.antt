@@ -5,9 +5,12 @@ use Rattle.negotiation.specs.Features.{indirect_desc, event_idx, ring_packed}
 use Rattle.negotiation.specs.Negotiation.{NegotiationState, negotiated_of}
 use Rattle.negotiation.specs.Sets.{has}
 use Rattle.negotiation.specs.Status.{features_ok}
-use Rattle.split_ring.specs.Ring.{SplitSetup, setup_of, can_set_up, new_ring}
+use Rattle.split_ring.specs.Ring as split
+use Rattle.split_ring.specs.Ring.{SplitSetup}
+use Rattle.packed_ring.specs.Ring as packed
+use Rattle.packed_ring.specs.Ring.{PackedSetup}
 use Rattle.mmio_window.specs.declared.queue.Queue.{Queue}
-use Rattle.mmio_window.specs.declared.queue.Queue.TheVariants.{Split}
+use Rattle.mmio_window.specs.declared.queue.Queue.TheVariants.{Split, Packed}
 use Rattle.mmio_window.specs.declared.queue_registers.QueueRegisters.{QueueRegisters}
 use Rattle.mmio_window.specs.declared.register.Register.{Register}
 use Rattle.mmio_window.specs.declared.register.Register.TheVariants.{QueueNum, QueueReady, QueueDescLow, QueueDescHigh, QueueDriverLow, QueueDriverHigh, QueueDeviceLow, QueueDeviceHigh}
@@ -19,18 +22,29 @@ no_queue = record { number = 0; descriptor_area = 0; driver_area = 0; device_are
 -- how a split ring of these registers and of these negotiated features is set up (2.7)
 abbrev pub split_setup_of : ℕ → QueueRegisters → SplitSetup
 split_setup_of features queue =
-    setup_of queue.number queue.descriptor_area queue.driver_area queue.device_area (has features indirect_desc)
+    split.setup_of queue.number queue.descriptor_area queue.driver_area queue.device_area (has features indirect_desc)
     (has features event_idx)
 
--- The ring that a queue gets as it is made ready, at its first place: a split ring, if its size is a power of two
--- up to 256, and its areas are aligned and lie in the memory (2.7). There is no packed ring yet, so with
--- RING_PACKED no queue is made ready.
+-- how a packed ring of them is set up (2.8)
+abbrev pub packed_setup_of : ℕ → QueueRegisters → PackedSetup
+packed_setup_of features queue =
+    packed.setup_of queue.number queue.descriptor_area queue.driver_area queue.device_area (has features indirect_desc)
+    (has features event_idx)
+
+-- a split ring, if its size is a power of two up to 256, and its areas are aligned and lie in the memory (2.7)
+abbrev pub split_ring_of : Memory → SplitSetup → Option Queue
+split_ring_of m setup = if split.can_set_up m setup then Some (Split (split.new_ring setup)) else None
+
+-- a packed ring, if its size is any number from 1 to 256, and its areas are aligned and lie in the memory (2.8)
+abbrev pub packed_ring_of : Memory → PackedSetup → Option Queue
+packed_ring_of m setup = if packed.can_set_up m setup then Some (Packed (packed.new_ring setup)) else None
+
+-- the ring that a queue gets as it is made ready, at its first place: a packed one exactly where RING_PACKED was
+-- negotiated (6)
 abbrev pub ring_of : Memory → ℕ → QueueRegisters → Option Queue
 ring_of m features queue =
-    let setup = split_setup_of features queue in
-    if has features ring_packed then None
-    else if can_set_up m setup then Some (Split (new_ring setup))
-    else None
+    if has features ring_packed then packed_ring_of m (packed_setup_of features queue)
+    else split_ring_of m (split_setup_of features queue)
 
 -- a write to QueueReady: 0 stops the queue; 1 makes it ready where it isn't, the features are settled, and
 -- there is a ring for it; other values do nothing

@@ -8,6 +8,7 @@ ghost use Rattle.mmio_window.specs.Queue.{IsTaken, LiesIn, entry_of, left_of, ma
 
 use chain::{Chain, Fault};
 use guest_memory::GuestMemory;
+use packed_ring::PackedRing;
 use split_ring::SplitRing;
 use std::alloc::Allocator;
 
@@ -16,6 +17,8 @@ use std::alloc::Allocator;
 pub enum Queue {
     /// A split ring (2.7).
     Split(SplitRing),
+    /// A packed ring (2.8).
+    Packed(PackedRing),
 }
 
 /// A chain that was taken and not yet given back.
@@ -23,6 +26,8 @@ pub enum Queue {
 pub enum Token {
     /// One of a split ring.
     Split(split_ring::Token),
+    /// One of a packed ring.
+    Packed(packed_ring::Token),
 }
 
 impl Queue {
@@ -36,6 +41,7 @@ impl Queue {
     {
         match self {
             Queue::Split(ring) => ring.open(mem),
+            Queue::Packed(ring) => ring.open(mem),
         }
     }
 
@@ -65,11 +71,8 @@ impl Queue {
         ensures made { made_as self.new ≡ made_as self.old }
     {
         match self {
-            Queue::Split(ring) => match ring.take(mem, chain) {
-                Ok(Some(token)) => Ok(Some(Token::Split(token))),
-                Ok(None) => Ok(None),
-                Err(fault) => Err(fault),
-            },
+            Queue::Split(ring) => Ok(ring.take(mem, chain)?.map(Token::Split)),
+            Queue::Packed(ring) => Ok(ring.take(mem, chain)?.map(Token::Packed)),
         }
     }
 
@@ -91,11 +94,10 @@ impl Queue {
         ensures lies { LiesIn mem.new self.new }
         ensures made { made_as self.new ≡ made_as self.old }
     {
-        match self {
-            Queue::Split(ring) => {
-                let Token::Split(token) = token;
-                ring.give(mem, token, len, wrote);
-            }
+        match (self, token) {
+            (Queue::Split(ring), Token::Split(token)) => ring.give(mem, token, len, wrote),
+            (Queue::Packed(ring), Token::Packed(token)) => ring.give(mem, token, len, wrote),
+            _ => unreachable!(),
         }
     }
 
@@ -111,6 +113,7 @@ impl Queue {
     {
         match self {
             Queue::Split(ring) => ring.close(mem),
+            Queue::Packed(ring) => ring.close(mem),
         }
     }
 }

@@ -8,6 +8,7 @@ use crate::queue::Queue;
 use crate::register::Register;
 use guest_memory::GuestMemory;
 use negotiation::{Features, Flags, Negotiation, Status};
+use packed_ring::PackedRing;
 use split_ring::SplitRing;
 use std::alloc::Allocator;
 
@@ -97,19 +98,19 @@ impl QueueRegisters {
     fn new_ring<A: Allocator>(&self, features: Features, mem: &GuestMemory<A>) -> Option<Queue>
         ensures { result ≡ ring_of mem.now (feature_bits features) self.now }
     {
+        let n = self.number;
+        let descriptors = self.descriptor_area;
+        let driver = self.driver_area;
+        let device = self.device_area;
+        let indirect = features.contains(Features::INDIRECT_DESC);
+        let event_idx = features.contains(Features::EVENT_IDX);
         if features.contains(Features::RING_PACKED) {
-            return None;
+            let ring = PackedRing::new(mem, n, descriptors, driver, device, indirect, event_idx)?;
+            Some(Queue::Packed(ring))
+        } else {
+            let ring = SplitRing::new(mem, n, descriptors, driver, device, indirect, event_idx)?;
+            Some(Queue::Split(ring))
         }
-        let ring = SplitRing::new(
-            mem,
-            self.number,
-            self.descriptor_area,
-            self.driver_area,
-            self.device_area,
-            features.contains(Features::INDIRECT_DESC),
-            features.contains(Features::EVENT_IDX),
-        )?;
-        Some(Queue::Split(ring))
     }
 }
 

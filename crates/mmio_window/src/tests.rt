@@ -1,6 +1,6 @@
-//! What no trace shows: the actions of writes, features that no board offers yet, a configuration that changes,
-//! and a queue that is served from the contracts alone. Windows as a driver finds them are worked out in
-//! `conformance`.
+//! What no trace shows: the actions of writes, a feature that no board offers yet, a configuration that changes,
+//! and queues of both kinds that are served from the contracts alone. Windows as a driver finds them are worked
+//! out in `conformance`.
 
 ghost use Rattle.std.specs.Prelude.{◌≡◌};
 ghost use Rattle.guest_memory.specs.Memory.{SameRange};
@@ -21,19 +21,18 @@ const BLOCK: u64 = 0x5_3000_0244;
 
 const CONSOLE: u64 = 0x5_3000_0005;
 
+const VERSION_1: u64 = 0x1_0000_0000;
+
+const EVENT_IDX: u64 = 0x2000_0000;
+
+const RING_PACKED: u64 = 0x4_0000_0000;
+
 const NOTIFICATION_DATA: u64 = 0x40_0000_0000;
 
 const NO_CONFIGURATION: [u8; CONFIGURATION_LEN] = [0; CONFIGURATION_LEN];
 
-/// What a driver writes from a reset on, up to the high word of the features that it asks for.
-const BEGIN: [(u16, u32); 6] = [
-    (0x070, 0),
-    (0x070, 1),
-    (0x070, 3),
-    (0x024, 0),
-    (0x020, 0),
-    (0x024, 1),
-];
+/// What a driver writes from a reset on, before the features that it asks for.
+const BEGIN: [(u16, u32); 3] = [(0x070, 0), (0x070, 1), (0x070, 3)];
 
 /// What it writes from FEATURES_OK to DRIVER_OK: the selected queue has a size of 4 and three areas.
 const SET_UP: [(u16, u32); 10] = [
@@ -62,13 +61,19 @@ fn write_all<A: Allocator>(window: &mut Window, mem: &GuestMemory<A>, writes: &[
     }
 }
 
-/// A window of a driver that asked for this high word of the features, and set up one queue.
-fn up<A: Allocator>(kind: DeviceKind, offered: u64, high: u32, mem: &GuestMemory<A>) -> Window
+/// A window of a driver that asked for these features, and set up one queue.
+fn up<A: Allocator>(kind: DeviceKind, offered: u64, asked: u64, mem: &GuestMemory<A>) -> Window
     ensures sound { IsSound mem.now result }
 {
     let mut window = Window::new(kind, Features::from_bits_retain(offered));
+    let low = (asked & 0xffff_ffff) as u32;
+    let high = (asked >> 32) as u32;
     write_all(&mut window, mem, &BEGIN);
-    write_all(&mut window, mem, &[(0x020, high)]);
+    write_all(
+        &mut window,
+        mem,
+        &[(0x024, 0), (0x020, low), (0x024, 1), (0x020, high)],
+    );
     write_all(&mut window, mem, &SET_UP);
     window
 }
@@ -84,7 +89,7 @@ const fn configured(offset: u16, width: u8, value: u32) -> Action {
 #[test]
 fn actions(rt: HostRuntime) -> Result<(), Fail> {
     let mem = GuestMemory::new(rt.alloc(), BASE, 0x1_0000)?;
-    let mut window = up(DeviceKind::Block, BLOCK, 1, &mem);
+    let mut window = up(DeviceKind::Block, BLOCK, VERSION_1, &mem);
     for (offset, width, value, action) in [
         (0x050, 4, 0, Action::Notify(0)),
         (0x050, 4, 1, Action::None),
@@ -112,18 +117,59 @@ fn actions(rt: HostRuntime) -> Result<(), Fail> {
 }
 
 #[test]
-fn features_that_no_board_offers_yet(rt: HostRuntime) -> Result<(), Fail> {
+fn a_feature_that_no_board_offers_yet(rt: HostRuntime) -> Result<(), Fail> {
     let mem = GuestMemory::new(rt.alloc(), BASE, 0x1_0000)?;
-    // RING_PACKED was negotiated, and there is no packed ring.
-    let window = up(DeviceKind::Block, BLOCK, 5, &mem);
-    assert_eq!(rt; read(&window, 0x010), 0x3000_0244);
-    assert_eq!(rt; read(&window, 0x044), 0);
-    // With NOTIFICATION_DATA the low half of a notification names the queue.
-    let mut window = up(DeviceKind::Block, BLOCK | NOTIFICATION_DATA, 0x41, &mem);
+    let offered = BLOCK | NOTIFICATION_DATA;
+    let mut window = up(
+        DeviceKind::Block,
+        offered,
+        VERSION_1 | NOTIFICATION_DATA,
+        &mem,
+    );
+    // The low half of a notification names the queue.
     assert_eq!(rt;
         window.write(0x050, 4, 0x8001_0000, &mem),
         Action::Notify(0)
     );
+    Ok(())
+}
+
+/// The size of a queue and its three areas, and whether it is made ready: as a split queue, as a packed one.
+const QUEUES: [(u32, u32, u32, u32, u32, u32); 13] = [
+    (4, 0x8000_1000, 0x8000_2000, 0x8000_3000, 1, 1),
+    (0, 0x8000_1000, 0x8000_2000, 0x8000_3000, 0, 0),
+    (1, 0x8000_1000, 0x8000_2000, 0x8000_3000, 1, 1),
+    (3, 0x8000_1000, 0x8000_2000, 0x8000_3000, 0, 1),
+    (255, 0x8000_1000, 0x8000_2000, 0x8000_3000, 0, 1),
+    (256, 0x8000_1000, 0x8000_2000, 0x8000_3000, 1, 1),
+    (257, 0x8000_1000, 0x8000_2000, 0x8000_3000, 0, 0),
+    (4, 0x8000_1008, 0x8000_2000, 0x8000_3000, 0, 0),
+    (4, 0x8000_1000, 0x8000_2002, 0x8000_3000, 1, 0),
+    (4, 0x8000_1000, 0x8000_2000, 0x8000_3002, 0, 0),
+    (4, 0x8000_ffc0, 0x8000_fffc, 0x8000_fffc, 0, 1),
+    (4, 0x8000_ffd0, 0x8000_2000, 0x8000_3000, 0, 0),
+    (4, 0x8000_1000, 0x8001_0000, 0x8000_3000, 0, 0),
+];
+
+#[test]
+fn which_queues_are_made_ready(rt: HostRuntime) -> Result<(), Fail> {
+    let mem = GuestMemory::new(rt.alloc(), BASE, 0x1_0000)?;
+    let mut split = up(DeviceKind::Block, BLOCK, VERSION_1, &mem);
+    let mut packed = up(DeviceKind::Block, BLOCK, VERSION_1 | RING_PACKED, &mem);
+    for (size, descriptors, driver, device, as_split, as_packed) in QUEUES {
+        let writes = [
+            (0x044, 0),
+            (0x038, size),
+            (0x080, descriptors),
+            (0x090, driver),
+            (0x0a0, device),
+            (0x044, 1),
+        ];
+        write_all(&mut split, &mem, &writes);
+        write_all(&mut packed, &mem, &writes);
+        assert_eq!(rt; read(&split, 0x044), as_split, "a split queue of {size}");
+        assert_eq!(rt; read(&packed, 0x044), as_packed, "a packed queue of {size}");
+    }
     Ok(())
 }
 
@@ -162,7 +208,7 @@ fn configuration_by_widths(rt: HostRuntime) {
 #[test]
 fn interrupts(rt: HostRuntime) -> Result<(), Fail> {
     let mem = GuestMemory::new(rt.alloc(), BASE, 0x1_0000)?;
-    let mut window = up(DeviceKind::Block, BLOCK, 1, &mem);
+    let mut window = up(DeviceKind::Block, BLOCK, VERSION_1, &mem);
     window.used_interrupt();
     assert_eq!(rt; window.interrupts(), 1);
     window.config_interrupt();
@@ -206,8 +252,9 @@ fn a_reset_keeps_the_generation(rt: HostRuntime) -> Result<(), Fail> {
     Ok(())
 }
 
-/// Serves a queue and gives every chain back. How many there were.
-fn served<A: Allocator>(queue: &mut Queue, mem: &mut GuestMemory<A>) -> u64
+/// Serves a queue and gives every chain back, with so many bytes written. How many chains there were, and whether
+/// the driver wants a notification.
+fn served<A: Allocator>(queue: &mut Queue, mem: &mut GuestMemory<A>, len: u32) -> (u64, bool)
     requires { LiesIn mem.old queue.old }
     ensures range { SameRange mem.old mem.new }
     ensures made { made_as queue.new ≡ made_as queue.old }
@@ -216,20 +263,23 @@ fn served<A: Allocator>(queue: &mut Queue, mem: &mut GuestMemory<A>) -> u64
     let mut count = 0u64;
     if queue.open(mem).is_ok() {
         while let Ok(Some(token)) = queue.take(mem, &mut chain) {
-            queue.give(mem, token, 0, false);
+            queue.give(mem, token, len, len != 0);
             count = count.saturating_add(1);
         }
     }
-    let _ = queue.close(mem);
-    count
+    (count, queue.close(mem))
 }
 
-fn serve<A: Allocator>(window: &mut Window, mem: &mut GuestMemory<A>) -> Option<u64>
+fn serve<A: Allocator>(
+    window: &mut Window,
+    mem: &mut GuestMemory<A>,
+    len: u32,
+) -> Option<(u64, bool)>
     requires { IsSound mem.old window.old }
     ensures { IsSound mem.new window.new }
 {
     match window.queue(0) {
-        Some(queue) => Some(served(queue, mem)),
+        Some(queue) => Some(served(queue, mem, len)),
         None => None,
     }
 }
@@ -241,10 +291,109 @@ fn a_queue_that_is_ready_again_begins_at_place_0(rt: HostRuntime) -> Result<(), 
     let _ = mem.put_u64(BASE + 0x1000, BASE + 0x4000);
     let _ = mem.put_u32(BASE + 0x1008, 0x10);
     let _ = mem.put_u16(BASE + 0x2002, 2);
-    let mut window = up(DeviceKind::Block, BLOCK, 1, &mem);
-    assert_eq!(rt; serve(&mut window, &mut mem), Some(2));
-    assert_eq!(rt; serve(&mut window, &mut mem), Some(0));
+    let mut window = up(DeviceKind::Block, BLOCK, VERSION_1, &mem);
+    assert_eq!(rt; serve(&mut window, &mut mem, 0), Some((2, true)));
+    assert_eq!(rt; serve(&mut window, &mut mem, 0), Some((0, false)));
     write_all(&mut window, &mem, &[(0x044, 0), (0x044, 1)]);
-    assert_eq!(rt; serve(&mut window, &mut mem), Some(2));
+    assert_eq!(rt; serve(&mut window, &mut mem, 0), Some((2, true)));
+    Ok(())
+}
+
+/// A list of two descriptors: the addresses at which they stand, and of each the word behind its address (length,
+/// buffer id and flags).
+type List = [(u64, u64); 2];
+
+/// Lists one after another in a ring of three, and the word that stands in the first descriptor of each once it is
+/// used.
+const LISTS: [(List, u64); 3] = [
+    (
+        [
+            (0x8000_1000, 0x0081_0000_0000_0010),
+            (0x8000_1010, 0x0082_0007_0000_0201),
+        ],
+        0x8082_0007_0000_0201,
+    ),
+    (
+        [
+            (0x8000_1020, 0x0081_0000_0000_0010),
+            (0x8000_1000, 0x8002_0008_0000_0201),
+        ],
+        0x8082_0008_0000_0201,
+    ),
+    (
+        [
+            (0x8000_1010, 0x8001_0000_0000_0010),
+            (0x8000_1020, 0x8002_0009_0000_0201),
+        ],
+        0x0002_0009_0000_0201,
+    ),
+];
+
+/// Puts a list on offer and serves the queue. What `served` tells.
+#[tactic(auto, using(crate::proofs::Soundness::sound_for_the_range))]
+fn serve_list<A: Allocator>(
+    window: &mut Window,
+    mem: &mut GuestMemory<A>,
+    list: List,
+) -> Option<(u64, bool)>
+    requires { IsSound mem.old window.old }
+    ensures { IsSound mem.new window.new }
+{
+    put_list(mem, list);
+    serve(window, mem, 0x201)
+}
+
+fn put_list<A: Allocator>(mem: &mut GuestMemory<A>, list: List)
+    ensures range { SameRange mem.old mem.new }
+{
+    let [(at, first), (next, second)] = list;
+    let _ = mem.put_u64(at, BASE + 0x4000);
+    let _ = mem.put_u64(at.wrapping_add(8), first);
+    let _ = mem.put_u64(next, BASE + 0x5000);
+    let _ = mem.put_u64(next.wrapping_add(8), second);
+}
+
+#[test]
+fn a_packed_queue_of_three_is_served_over_its_end(rt: HostRuntime) -> Result<(), Fail> {
+    let mut mem = GuestMemory::new(rt.alloc(), BASE, 0x1_0000)?;
+    let mut window = up(DeviceKind::Block, BLOCK, VERSION_1 | RING_PACKED, &mem);
+    write_all(&mut window, &mem, &[(0x044, 0), (0x038, 3), (0x044, 1)]);
+    for (list, used) in LISTS {
+        assert_eq!(rt; serve_list(&mut window, &mut mem, list), Some((1, true)));
+        let [(at, _), _] = list;
+        assert_eq!(rt; mem.get_u64(at), Some(BASE + 0x4000));
+        assert_eq!(rt; mem.get_u64(at.wrapping_add(8)), Some(used));
+    }
+    Ok(())
+}
+
+/// What a driver asked for, and what becomes of one memory that is a queue of either kind: how many chains there
+/// are, and whether a notification is wanted.
+const KINDS: [(u64, u64, bool); 4] = [
+    (VERSION_1, 2, false),
+    (VERSION_1 | EVENT_IDX, 2, true),
+    (VERSION_1 | RING_PACKED, 1, true),
+    (VERSION_1 | RING_PACKED | EVENT_IDX, 1, false),
+];
+
+#[test]
+fn one_memory_is_a_queue_of_either_kind(rt: HostRuntime) -> Result<(), Fail> {
+    let mut mem = GuestMemory::new(rt.alloc(), BASE, 0x1_0000)?;
+    for (asked, chains, wanted) in KINDS {
+        // One readable buffer; to a packed queue it is available with wrap counter 1.
+        let _ = mem.put_u64(BASE + 0x1000, BASE + 0x4000);
+        let _ = mem.put_u64(BASE + 0x1008, 0x0080_0000_0000_0010);
+        // To a split queue, flags that want no interrupt and an idx of 2, with used_event 0; to a packed one,
+        // place 1, which isn't reached, and flags that name it.
+        let _ = mem.put_u16(BASE + 0x2000, 0x8001);
+        let _ = mem.put_u16(BASE + 0x2002, 2);
+        let mut window = up(DeviceKind::Block, BLOCK, asked, &mem);
+        let found = serve(&mut window, &mut mem, 0);
+        assert_eq!(rt;
+            found,
+            Some((chains, wanted)),
+            "with the features {asked:x}"
+        );
+    }
     Ok(())
 }
