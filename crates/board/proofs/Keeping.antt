@@ -16,7 +16,7 @@ use Rattle.mmio_window.specs.declared.action.Action.TheVariants as action
 use Rattle.mmio_window.specs.declared.device_kind.DeviceKind.{DeviceKind}
 use Rattle.mmio_window.specs.declared.device_kind.DeviceKind.TheVariants.{Block, Console}
 use Rattle.mmio_window.specs.declared.queue.Queue.{Queue}
-use Rattle.mmio_window.specs.declared.queue.Queue.TheVariants.{Split}
+use Rattle.mmio_window.specs.declared.queue.Queue.TheVariants.{Split, Packed}
 use Rattle.mmio_window.specs.Queue.{queue_kind}
 use Rattle.mmio_window.specs.Window.{WindowState, queue_at}
 use Rattle.block_device.specs.declared.device.BlockDevice.{BlockDevice}
@@ -59,6 +59,8 @@ num_range m a k v = put_range m a (little_bytes k v)
 used_range : (m : Memory) (queue : Queue) (entry : Entry) (len : ℕ) (any : Bool) → SameRange m (queue_kind.used m queue entry len any)
 used_range m (Split ring) entry len any =
     same_trans m _ _ (same_trans m _ _ (num_range m _ 4 entry.id) (num_range _ _ 4 len)) (num_range _ _ 2 _)
+used_range m (Packed ring) entry len any =
+    same_trans m _ _ (same_trans m _ _ (num_range m _ 4 len) (num_range _ _ 2 entry.id)) (num_range _ _ 2 _)
 
 flags_range : (m : Memory) (flags : Memory) (idx : Bool) (a v : ℕ) → SameRange m flags → SameRange m (if idx then put_num flags a 2 v else flags)
 flags_range m flags true a v same = same_trans m flags _ same (num_range flags a 2 v)
@@ -66,6 +68,7 @@ flags_range m flags false a v same = same
 
 closed_range : (m : Memory) (queue : Queue) → SameRange m (queue_kind.closed m queue)
 closed_range m (Split ring) = flags_range m _ ring.setup.event_idx _ ring.place (num_range m ring.setup.device 2 0)
+closed_range m (Packed ring) = num_range m ring.setup.device 4 0
 
 -- ---- a request keeps how many bytes the disk tells
 

@@ -1,7 +1,7 @@
 -- A slot: what its guest can see, and what the board keeps of it.
 use Rattle.std.specs.Prelude.{◌≡◌, ℕ, ◌+◌, Bool, false, if◌then◌else◌, List, [], length, ◌≤◌}
 use Rattle.guest_memory.specs.Memory.{Memory, SameRange, zeroed}
-use Rattle.negotiation.specs.Features.{block_seg_max, block_ro, block_blk_size, block_flush, indirect_desc, version_1}
+use Rattle.negotiation.specs.Features.{block_seg_max, block_ro, block_blk_size, block_flush, indirect_desc, event_idx, version_1, ring_packed}
 use Rattle.mmio_window.specs.declared.device_kind.DeviceKind.TheVariants.{Block, Console}
 use Rattle.mmio_window.specs.Soundness.{IsSound}
 use Rattle.mmio_window.specs.Window.{WindowState, fresh_window}
@@ -68,7 +68,7 @@ pub record IsSoundSlot (memory : Memory) (block console : WindowState) (pending 
 
 -- the features that every device offers (6)
 abbrev pub device_features : ℕ
-device_features = indirect_desc + version_1
+device_features = indirect_desc + event_idx + version_1 + ring_packed
 
 -- the features that a block device offers (5.2.3); one that refuses writes says so
 abbrev pub block_features : Bool → ℕ

@@ -32,5 +32,8 @@ pub(crate) fn of_console() -> Features
 fn of_every_device() -> Features
     ensures { feature_bits result ≡ device_features }
 {
-    Features::INDIRECT_DESC.union(Features::VERSION_1)
+    Features::INDIRECT_DESC
+        .union(Features::EVENT_IDX)
+        .union(Features::VERSION_1)
+        .union(Features::RING_PACKED)
 }
