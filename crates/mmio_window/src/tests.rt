@@ -12,6 +12,8 @@ use chain::Chain;
 use guest_memory::GuestMemory;
 use negotiation::{Features, Flags};
 use std::alloc::Allocator;
+use std::fmt::Debug;
+use std::process::Abort;
 use std::test::Fail;
 
 const BASE: u64 = 0x8000_0000;
@@ -78,6 +80,12 @@ fn up<A: Allocator>(kind: DeviceKind, offered: u64, asked: u64, mem: &GuestMemor
     window
 }
 
+/// Tells of which row something else was found than what is wanted. The one assertion with a message: a message is
+/// dear to prove.
+fn same<R: Debug, T: PartialEq + Debug>(rt: &impl Abort, row: &R, found: &T, wanted: &T) {
+    assert_eq!(rt; found, wanted, "{row:?}");
+}
+
 const fn configured(offset: u16, width: u8, value: u32) -> Action {
     Action::ConfigWrite {
         offset,
@@ -86,34 +94,49 @@ const fn configured(offset: u16, width: u8, value: u32) -> Action {
     }
 }
 
+/// A write by offset, width and value.
+type Write = (u16, u8, u32);
+
 #[test]
 fn actions(rt: HostRuntime) -> Result<(), Fail> {
     let mem = GuestMemory::new(rt.alloc(), BASE, 0x1_0000)?;
     let mut window = up(DeviceKind::Block, BLOCK, VERSION_1, &mem);
-    for (offset, width, value, action) in [
-        (0x050, 4, 0, Action::Notify(0)),
-        (0x050, 4, 1, Action::None),
-        (0x050, 4, 0x1_0000, Action::None),
-        (0x050, 2, 0, Action::None),
-        (0x108, 1, 0x141, configured(0x108, 1, 0x41)),
-        (0x108, 2, 0x1_0041, configured(0x108, 2, 0x41)),
-        (0x108, 4, 0x1_0041, configured(0x108, 4, 0x1_0041)),
-        (0x109, 2, 0x41, Action::None),
-        (0x108, 8, 0x41, Action::None),
-        (0x140, 4, 0x41, configured(0x140, 4, 0x41)),
-        (0x070, 4, 0x100, Action::None),
-        (0x070, 4, 0x80, Action::None),
+    for (write, action) in [
+        ((0x050, 4, 0), Action::Notify(0)),
+        ((0x050, 4, 1), Action::None),
+        ((0x050, 4, 0x1_0000), Action::None),
+        ((0x050, 2, 0), Action::None),
+        ((0x108, 1, 0x141), configured(0x108, 1, 0x41)),
+        ((0x108, 2, 0x1_0041), configured(0x108, 2, 0x41)),
+        ((0x108, 4, 0x1_0041), configured(0x108, 4, 0x1_0041)),
+        ((0x109, 2, 0x41), Action::None),
+        ((0x108, 8, 0x41), Action::None),
+        ((0x140, 4, 0x41), configured(0x140, 4, 0x41)),
+        ((0x070, 4, 0x100), Action::None),
+        ((0x070, 4, 0x80), Action::None),
         // The driver has failed.
-        (0x050, 4, 0, Action::None),
-        (0x070, 4, 0, Action::Reset),
+        ((0x050, 4, 0), Action::None),
+        ((0x070, 4, 0), Action::Reset),
     ] {
-        assert_eq!(rt;
-            window.write(offset, width, value, &mem),
-            action,
-            "of {value:x} to {width} at {offset:x}"
-        );
+        check_action(&rt, &mut window, &mem, write, action);
     }
     Ok(())
+}
+
+fn check_action(
+    rt: &impl Abort,
+    window: &mut Window,
+    mem: &GuestMemory,
+    write: Write,
+    action: Action,
+) {
+    let (offset, width, value) = write;
+    same(
+        rt,
+        &write,
+        &window.write(offset, width, value, mem),
+        &action,
+    );
 }
 
 #[test]
@@ -135,7 +158,9 @@ fn a_feature_that_no_board_offers_yet(rt: HostRuntime) -> Result<(), Fail> {
 }
 
 /// The size of a queue and its three areas, and whether it is made ready: as a split queue, as a packed one.
-const QUEUES: [(u32, u32, u32, u32, u32, u32); 13] = [
+type QueueRow = (u32, u32, u32, u32, u32, u32);
+
+const QUEUES: [QueueRow; 13] = [
     (4, 0x8000_1000, 0x8000_2000, 0x8000_3000, 1, 1),
     (0, 0x8000_1000, 0x8000_2000, 0x8000_3000, 0, 0),
     (1, 0x8000_1000, 0x8000_2000, 0x8000_3000, 1, 1),
@@ -156,21 +181,31 @@ fn which_queues_are_made_ready(rt: HostRuntime) -> Result<(), Fail> {
     let mem = GuestMemory::new(rt.alloc(), BASE, 0x1_0000)?;
     let mut split = up(DeviceKind::Block, BLOCK, VERSION_1, &mem);
     let mut packed = up(DeviceKind::Block, BLOCK, VERSION_1 | RING_PACKED, &mem);
-    for (size, descriptors, driver, device, as_split, as_packed) in QUEUES {
-        let writes = [
-            (0x044, 0),
-            (0x038, size),
-            (0x080, descriptors),
-            (0x090, driver),
-            (0x0a0, device),
-            (0x044, 1),
-        ];
-        write_all(&mut split, &mem, &writes);
-        write_all(&mut packed, &mem, &writes);
-        assert_eq!(rt; read(&split, 0x044), as_split, "a split queue of {size}");
-        assert_eq!(rt; read(&packed, 0x044), as_packed, "a packed queue of {size}");
+    for queue in &QUEUES {
+        let (_, _, _, _, as_split, as_packed) = *queue;
+        same(&rt, queue, &made_ready(&mut split, &mem, queue), &as_split);
+        same(
+            &rt,
+            queue,
+            &made_ready(&mut packed, &mem, queue),
+            &as_packed,
+        );
     }
     Ok(())
+}
+
+fn made_ready(window: &mut Window, mem: &GuestMemory, queue: &QueueRow) -> u32 {
+    let (size, descriptors, driver, device, _, _) = *queue;
+    let writes = [
+        (0x044, 0),
+        (0x038, size),
+        (0x080, descriptors),
+        (0x090, driver),
+        (0x0a0, device),
+        (0x044, 1),
+    ];
+    write_all(window, mem, &writes);
+    read(window, 0x044)
 }
 
 #[test]
@@ -181,7 +216,7 @@ fn configuration_by_widths(rt: HostRuntime) {
     config[12] = 126;
     config[21] = 2;
     config[63] = 0xff;
-    for (offset, width, value) in [
+    for row in &[
         (0x100, 4, 8),
         (0x10c, 1, 0x7e),
         (0x114, 4, 0x200),
@@ -197,12 +232,19 @@ fn configuration_by_widths(rt: HostRuntime) {
         (0x100, 0, 0),
         (0xffff, 1, 0),
     ] {
-        assert_eq!(rt;
-            window.read(offset, width, &config),
-            value,
-            "of {width} at {offset:x}"
-        );
+        check_value(&rt, &window, &config, row);
     }
+}
+
+/// A read of a configuration by offset and width, and its value.
+fn check_value(
+    rt: &impl Abort,
+    window: &Window,
+    config: &[u8; CONFIGURATION_LEN],
+    row: &(u16, u8, u32),
+) {
+    let (offset, width, value) = *row;
+    same(rt, row, &window.read(offset, width, config), &value);
 }
 
 #[test]
@@ -230,13 +272,14 @@ fn a_reset_keeps_the_generation(rt: HostRuntime) -> Result<(), Fail> {
     let mem = GuestMemory::new(rt.alloc(), BASE, 0x1_0000)?;
     let mut window = Window::new(DeviceKind::Console, Features::from_bits_retain(CONSOLE));
     window.config_changed();
-    assert_eq!(rt; window.interrupts(), 0, "before DRIVER_OK");
+    // Before DRIVER_OK.
+    assert_eq!(rt; window.interrupts(), 0);
     write_all(&mut window, &mem, &[(0x070, 4), (0x0ac, 7)]);
     window.config_changed();
     assert_eq!(rt; window.interrupts(), 2);
     assert_eq!(rt; read(&window, 0x0fc), 2);
     write_all(&mut window, &mem, &[(0x070, 0)]);
-    for (offset, value) in [
+    for register in &[
         (0x010, 0x3000_0005),
         (0x034, 256),
         (0x044, 0),
@@ -244,11 +287,11 @@ fn a_reset_keeps_the_generation(rt: HostRuntime) -> Result<(), Fail> {
         (0x070, 0),
         (0x0fc, 2),
     ] {
-        assert_eq!(rt; read(&window, offset), value, "at {offset:x}");
+        same(&rt, register, &read(&window, register.0), &register.1);
     }
     let mut block = Window::new(DeviceKind::Block, Features::from_bits_retain(BLOCK));
     block.config_changed();
-    assert_eq!(rt; read(&block, 0x0fc), 0, "of a block device");
+    assert_eq!(rt; read(&block, 0x0fc), 0);
     Ok(())
 }
 
@@ -369,7 +412,9 @@ fn a_packed_queue_of_three_is_served_over_its_end(rt: HostRuntime) -> Result<(),
 
 /// What a driver asked for, and what becomes of one memory that is a queue of either kind: how many chains there
 /// are, and whether a notification is wanted.
-const KINDS: [(u64, u64, bool); 4] = [
+type Kind = (u64, u64, bool);
+
+const KINDS: [Kind; 4] = [
     (VERSION_1, 2, false),
     (VERSION_1 | EVENT_IDX, 2, true),
     (VERSION_1 | RING_PACKED, 1, true),
@@ -379,21 +424,22 @@ const KINDS: [(u64, u64, bool); 4] = [
 #[test]
 fn one_memory_is_a_queue_of_either_kind(rt: HostRuntime) -> Result<(), Fail> {
     let mut mem = GuestMemory::new(rt.alloc(), BASE, 0x1_0000)?;
-    for (asked, chains, wanted) in KINDS {
-        // One readable buffer; to a packed queue it is available with wrap counter 1.
-        let _ = mem.put_u64(BASE + 0x1000, BASE + 0x4000);
-        let _ = mem.put_u64(BASE + 0x1008, 0x0080_0000_0000_0010);
-        // To a split queue, flags that want no interrupt and an idx of 2, with used_event 0; to a packed one,
-        // place 1, which isn't reached, and flags that name it.
-        let _ = mem.put_u16(BASE + 0x2000, 0x8001);
-        let _ = mem.put_u16(BASE + 0x2002, 2);
-        let mut window = up(DeviceKind::Block, BLOCK, asked, &mem);
-        let found = serve(&mut window, &mut mem, 0);
-        assert_eq!(rt;
-            found,
-            Some((chains, wanted)),
-            "with the features {asked:x}"
-        );
+    for kind in &KINDS {
+        check_kind(&rt, &mut mem, kind);
     }
     Ok(())
+}
+
+fn check_kind(rt: &impl Abort, mem: &mut GuestMemory, kind: &Kind) {
+    let (asked, chains, wanted) = *kind;
+    // One readable buffer; to a packed queue it is available with wrap counter 1.
+    let _ = mem.put_u64(BASE + 0x1000, BASE + 0x4000);
+    let _ = mem.put_u64(BASE + 0x1008, 0x0080_0000_0000_0010);
+    // To a split queue, flags that want no interrupt and an idx of 2, with used_event 0; to a packed one, place 1,
+    // which isn't reached, and flags that name it.
+    let _ = mem.put_u16(BASE + 0x2000, 0x8001);
+    let _ = mem.put_u16(BASE + 0x2002, 2);
+    let mut window = up(DeviceKind::Block, BLOCK, asked, mem);
+    let found = serve(&mut window, mem, 0);
+    same(rt, kind, &found, &Some((chains, wanted)));
 }
