@@ -4,7 +4,7 @@ ghost use Rattle.std.specs.Prelude.{◌≡◌, ◌≢◌, ◌<◌, ℕ, List};
 ghost use Rattle.guest_memory.specs.Memory.{Inside};
 ghost use Rattle.board.specs.declared.event.EventKind.{EventKind};
 ghost use Rattle.board.specs.Image.{Health};
-ghost use Rattle.board.specs.Machine.{replies};
+ghost use Rattle.board.specs.Outcome.{replies};
 ghost use Rattle.board.specs.Slot.{state_of};
 ghost use Rattle.board.specs.World.{MayGive};
 

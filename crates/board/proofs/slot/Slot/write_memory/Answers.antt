@@ -10,4 +10,5 @@ invariant_of-self g c =
     record {
       block_sound = IsSound-same_range c.self.inside.memory new c.self.inside.block same c.self.invariant.block_sound;
       console_sound = IsSound-same_range c.self.inside.memory new c.self.inside.console same c.self.invariant.console_sound;
+      pending_fits = c.self.invariant.pending_fits;
     }
