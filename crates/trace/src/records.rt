@@ -90,10 +90,26 @@ fn put_reply<W: Write, A: Allocator, B: Allocator>(
             buffer.put(out, b"b:");
             put_bytes(buffer, out, bytes.as_slice());
         }
+        Reply::Took(n) => {
+            buffer.put(out, b"took:");
+            put_num(buffer, out, *n as u64);
+        }
         Reply::BadSlot => buffer.put(out, b"badslot"),
         Reply::BadRange => buffer.put(out, b"badrange"),
         Reply::NoMemory => buffer.put(out, b"nomem"),
     }
+}
+
+// Puts a number without leading zeros.
+fn put_num<W: Write, B: Allocator>(buffer: &mut Buffer<B>, out: &mut W, n: u64)
+    ensures { Sends (W.contents out.old) (W.contents out.new) (waiting buffer.old) (num n) (waiting buffer.new) }
+{
+    if n < 16 {
+        buffer.put(out, &[digit_of(n as u8)]);
+        return;
+    }
+    put_num(buffer, out, n / 16);
+    buffer.put(out, &[digit_of((n % 16) as u8)]);
 }
 
 // A value by eight digits, after the letter for it.
