@@ -101,7 +101,7 @@ bytes_digits [] h = above_tested 32 (45 ∷ []) refl
 bytes_digits (b ∷ bs) h = above_digits (encode_lower (b ∷ bs)) (recursion_from_All IsDigit (encode_lower (b ∷ bs)) (digits_encoded (b ∷ bs) (is_bytes (b ∷ bs) h)))
 
 -- one run of bytes after another
-encode_append : (xs ys : List ℕ) → encode_lower (xs ++ ys) ≡ encode_lower xs ++ encode_lower ys
+pub encode_append : (xs ys : List ℕ) → encode_lower (xs ++ ys) ≡ encode_lower xs ++ encode_lower ys
 unfolding encode_with
 encode_append [] ys = refl
 encode_append (x ∷ xs) ys = ap (λ (t : List ℕ). get_or lower_digits (x / 16) 0 ∷ get_or lower_digits (x % 16) 0 ∷ t) (encode_append xs ys)

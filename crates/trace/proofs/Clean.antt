@@ -6,7 +6,7 @@ use Rattle.std.proofs.lemmas.List.Elements.{All-get_or}
 use Rattle.trace.specs.declared.fault.FaultKind.{FaultKind}
 use Rattle.trace.specs.declared.fault.FaultKind.TheVariants as kind
 use Rattle.trace.specs.declared.word.Word.{Word}
-use Rattle.trace.specs.declared.word.Word.TheVariants.{Cache, Slot, Read, Write, MemRead, MemWrite}
+use Rattle.trace.specs.declared.word.Word.TheVariants.{Cache, Slot, Read, Write, MemRead, MemWrite, Input, Resize}
 use Rattle.trace.specs.Cuts.{lines_of}
 use Rattle.trace.specs.Faults.{AllSay, AreAsMany, MayStand, HasWord, IsEnded, Passes, first_field, line_at, other_fields}
 use Rattle.trace.specs.Text.{header}
@@ -57,6 +57,8 @@ may_later Read k le h = le
 may_later Write k le h = le
 may_later MemRead k le h = le
 may_later MemWrite k le h = le
+may_later Input k le h = le
+may_later Resize k le h = le
 
 pub may_earlier : (w : Word) (k : ℕ) → 3 ≤ k → MayStand k w → MayStand 3 w
 may_earlier Cache k le h = absurd (omega arith)
@@ -65,6 +67,8 @@ may_earlier Read k le h = omega arith
 may_earlier Write k le h = omega arith
 may_earlier MemRead k le h = omega arith
 may_earlier MemWrite k le h = omega arith
+may_earlier Input k le h = omega arith
+may_earlier Resize k le h = omega arith
 
 abbrev pub IsSlotLine : List ℕ → Type 0
 IsSlotLine l = Entered l Slot

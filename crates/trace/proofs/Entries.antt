@@ -9,7 +9,7 @@ use Rattle.board.specs.declared.event.EventKind.TheVariants as what
 use Rattle.board.specs.declared.spec.SlotSpec.{SlotSpec}
 use Rattle.trace.specs.declared.fault.FaultKind.{FaultKind}
 use Rattle.trace.specs.declared.word.Word.{Word}
-use Rattle.trace.specs.declared.word.Word.TheVariants.{Cache, Slot, Read, Write, MemRead, MemWrite}
+use Rattle.trace.specs.declared.word.Word.TheVariants.{Cache, Slot, Read, Write, MemRead, MemWrite, Input, Resize}
 use Rattle.trace.specs.Cuts.{fields_of}
 use Rattle.trace.specs.Faults.{AllSay, AreAsMany, MayStand, order, fault_of}
 use Rattle.trace.specs.Printable.{EventInRange, KindInRange, IsPrintableKind, SlotInRange}
@@ -26,7 +26,7 @@ abbrev key : List ℕ → ℕ
 key xs = get_or xs 0 0 * 1000 + get_or xs 1 0
 
 abbrev word_at : ℕ → Word
-word_at n = cond (eqb n 99097) Cache (cond (eqb n 115108) Slot (cond (eqb n 114000) Read (cond (eqb n 119000) Write (cond (eqb n 109114) MemRead MemWrite))))
+word_at n = cond (eqb n 99097) Cache (cond (eqb n 115108) Slot (cond (eqb n 114000) Read (cond (eqb n 119000) Write (cond (eqb n 109114) MemRead (cond (eqb n 109119) MemWrite (cond (eqb n 105110) Input Resize))))))
 
 found : (w : Word) → word_at (key (spelled w)) ≡ w
 found Cache = refl
@@ -35,6 +35,8 @@ found Read = refl
 found Write = refl
 found MemRead = refl
 found MemWrite = refl
+found Input = refl
+found Resize = refl
 
 -- a spelling is one word's
 pub same_word : (v w : Word) → spelled v ≡ spelled w → v ≡ w
@@ -47,6 +49,8 @@ above_word Read = above_tested 32 (spelled Read) refl
 above_word Write = above_tested 32 (spelled Write) refl
 above_word MemRead = above_tested 32 (spelled MemRead) refl
 above_word MemWrite = above_tested 32 (spelled MemWrite) refl
+above_word Input = above_tested 32 (spelled Input) refl
+above_word Resize = above_tested 32 (spelled Resize) refl
 
 -- ---- fields
 
@@ -169,6 +173,26 @@ entered_what slot (what.MemWrite addr bs) lt range fine =
           (number 8 slot lt, (number 64 addr range.from, ((bs, record { fits = range.each; spelled = refl }), tt)))
           (above_num slot, (above_num addr, (bytes_digits bs range.each, tt)));
     }
+entered_what slot (what.Input bs) lt range fine =
+    record {
+      word = Input;
+      may = omega arith;
+      other = λ e. absurd cc;
+      entry =
+          entered _ Input (num slot ∷ bytes bs ∷ []) refl refl
+          (number 8 slot lt, ((bs, record { fits = range.each; spelled = refl }), tt))
+          (above_num slot, (bytes_digits bs range.each, tt));
+    }
+entered_what slot (what.Resize cols rows) lt range fine =
+    record {
+      word = Resize;
+      may = omega arith;
+      other = λ e. absurd cc;
+      entry =
+          entered _ Resize (num slot ∷ num cols ∷ num rows ∷ []) refl refl
+          (number 8 slot lt, (number 16 cols range.across, (number 16 rows range.down, tt)))
+          (above_num slot, (above_num cols, (above_num rows, tt)));
+    }
 
 pub entered_event : {A : Type 0} (e : Event A) → IsFine e → EnteredEvent (event_line e)
 unfolding event_line
@@ -202,6 +226,10 @@ cut_what slot (what.MemRead addr len) range =
     fields_of-line (spelled MemRead) (num slot ∷ num addr ∷ num len ∷ []) (above_word MemRead, (above_num slot, (above_num addr, (above_num len, tt))))
 cut_what slot (what.MemWrite addr bs) range =
     fields_of-line (spelled MemWrite) (num slot ∷ num addr ∷ bytes bs ∷ []) (above_word MemWrite, (above_num slot, (above_num addr, (bytes_digits bs range.each, tt))))
+cut_what slot (what.Input bs) range =
+    fields_of-line (spelled Input) (num slot ∷ bytes bs ∷ []) (above_word Input, (above_num slot, (bytes_digits bs range.each, tt)))
+cut_what slot (what.Resize cols rows) range =
+    fields_of-line (spelled Resize) (num slot ∷ num cols ∷ num rows ∷ []) (above_word Resize, (above_num slot, (above_num cols, (above_num rows, tt))))
 
 pub cut_event : {A : Type 0} (e : Event A) → EventInRange e → fields_of (event_line e) ≡ event_fields e
 unfolding event_line

@@ -4,7 +4,7 @@ use Rattle.std.proofs.lemmas.List.{append_assoc, append-nil}
 use Rattle.trace.specs.declared.fault.FaultKind.{FaultKind}
 use Rattle.trace.specs.declared.fault.FaultKind.TheVariants as kind
 use Rattle.trace.specs.declared.word.Word.{Word}
-use Rattle.trace.specs.declared.word.Word.TheVariants.{Cache, Slot, Read, Write, MemRead, MemWrite}
+use Rattle.trace.specs.declared.word.Word.TheVariants.{Cache, Slot, Read, Write, MemRead, MemWrite, Input, Resize}
 use Rattle.trace.specs.Cuts.{lines_of}
 use Rattle.trace.specs.Faults.{MayStand, IsCleanBefore, IsEnded, IsFault, Passes, first_field, line_at, other_fields}
 use Rattle.trace.specs.Refusals.{RefusesCache, RefusesFields, RefusesHead, RefusesSecond}
@@ -60,6 +60,8 @@ module _ (text rest : List ℕ) (whole : text ≡ header ++ 10 ∷ rest) where
   only_cache Write h = absurd (omega arith)
   only_cache MemRead h = absurd (omega arith)
   only_cache MemWrite h = absurd (omega arith)
+  only_cache Input h = absurd (omega arith)
+  only_cache Resize h = absurd (omega arith)
 
   fields_of_cache : (fault : FaultKind) → RefusesCache rest fault → fault ≢ kind.NoMemory → IsFault text 2 fault
   fields_of_cache fault h known =

@@ -13,6 +13,7 @@ pub mod Unique
 pub mod Printed
 pub mod RecordLines
 pub mod Sending
+pub mod Passing
 pub mod LastLines
 pub mod Gathering
 pub mod Inputs

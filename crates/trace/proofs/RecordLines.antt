@@ -1,11 +1,50 @@
--- The line of a record, written field after field.
-use Rattle.std.proofs.Common.{◌≡◌, ℕ, List, [], ◌∷◌, ◌++◌, append_assoc}
+-- The line of a record, put field after field.
+use Rattle.std.proofs.Common.{◌≡◌, ℕ, ◌/◌, ◌%◌, ◌<◌, ◌≤◌, List, [], ◌∷◌, ◌++◌, Option, length, take, drop, refl, sym, ap, ◌∙◌, append_assoc, append-nil, take-append-drop, arith}
+use Rattle.hex.specs.Hex.{encode_lower}
+use Rattle.trace.specs.Sends.{Sends}
+use Rattle.trace.specs.Spelling.{digit, num}
 use Rattle.trace.specs.Text.{line, ended}
+use Rattle.trace.proofs.ByteFields.{all_written, encode_append}
+use Rattle.trace.proofs.Numbers.{num_digit, num_split}
+use Rattle.trace.proofs.Passing.{sends_more, sends_same}
+
+-- a slot's number by one digit, or by two
+pub slot_one : (n d : ℕ) → n < 16 → d ≡ digit n → d ∷ 32 ∷ [] ≡ num n ++ 32 ∷ []
+slot_one n d lt is = rw (is, num_digit n lt) refl
+
+pub slot_two : (n d e : ℕ) → 16 ≤ n → n < 256 → d ≡ digit (n / 16) → e ≡ digit (n % 16) → d ∷ e ∷ 32 ∷ [] ≡ num n ++ 32 ∷ []
+slot_two n d e le lt p q =
+    let small : n / 16 < 16 = omega arith in
+    rw (p, q, num_split n le, num_digit (n / 16) small) refl
+
+-- some of the bytes were put, and these are left
+pub record PutFront (a b s t : Option (List ℕ)) (bytes rest : List ℕ) : Type 0 where
+  pub done : List ℕ
+  pub sent : Sends a b s done t
+  pub whole : done ++ encode_lower rest ≡ encode_lower bytes
+
+-- n bytes more
+pub put_more : (a b c s t u : Option (List ℕ)) (bytes rest : List ℕ) (n : ℕ) → PutFront a b s t bytes rest → Sends b c t (encode_lower (take n rest)) u → PutFront a c s u bytes (drop n rest)
+put_more a b c s t u bytes rest n p q = record {
+  done = p.done ++ encode_lower (take n rest);
+  sent = sends_more a b c s t u p.done (encode_lower (take n rest)) p.sent q;
+  whole =
+      append_assoc p.done (encode_lower (take n rest)) (encode_lower (drop n rest))
+      ∙ ap (λ (x : List ℕ). p.done ++ x) (sym (encode_append (take n rest) (drop n rest)) ∙ ap encode_lower (take-append-drop n rest))
+      ∙ p.whole;
+}
+
+-- none is left
+pub put_all : (a b s t : Option (List ℕ)) (bytes rest text : List ℕ) → PutFront a b s t bytes rest → length rest ≡ 0 → text ≡ encode_lower bytes → Sends a b s text t
+put_all a b s t bytes rest text p none is = sends_same a b s t p.done text (all_written p.done (encode_lower bytes) rest p.whole none ∙ sym is) p.sent
+
+line_is : (a b c : List ℕ) (x y : ℕ) → (a ++ 32 ∷ []) ++ (b ++ (32 ∷ c ++ 32 ∷ x ∷ 32 ∷ y ∷ 10 ∷ [])) ≡ ended (line (a ∷ b ∷ c ∷ (x ∷ []) ∷ (y ∷ []) ∷ []))
+line_is a b c x y = simp append_assoc
 
 -- five fields, each but the first after a space, and a line feed
-line_ended : (old a b c : List ℕ) (x y : ℕ) → (((((old ++ a) ++ 32 ∷ []) ++ b) ++ 32 ∷ []) ++ c) ++ 32 ∷ x ∷ 32 ∷ y ∷ 10 ∷ [] ≡ old ++ ended (line (a ∷ b ∷ c ∷ (x ∷ []) ∷ (y ∷ []) ∷ []))
-line_ended old a b c x y = simp append_assoc
-
--- the same, appended one after another
-pub line_pushed : (old one two three four five new a b c : List ℕ) (x y : ℕ) → one ≡ old ++ a → two ≡ one ++ 32 ∷ [] → three ≡ two ++ b → four ≡ three ++ 32 ∷ [] → five ≡ four ++ c → new ≡ five ++ 32 ∷ x ∷ 32 ∷ y ∷ 10 ∷ [] → new ≡ old ++ ended (line (a ∷ b ∷ c ∷ (x ∷ []) ∷ (y ∷ []) ∷ []))
-line_pushed old one two three four five new a b c x y p q r s t u = cc (line_ended old a b c x y)
+pub line_put : (i j k l m s t u v w : Option (List ℕ)) (a b c : List ℕ) (x y : ℕ) → Sends i j s (a ++ 32 ∷ []) t → Sends j k t b u → Sends k l u (32 ∷ c) v → Sends l m v (32 ∷ x ∷ 32 ∷ y ∷ 10 ∷ []) w → Sends i m s (ended (line (a ∷ b ∷ c ∷ (x ∷ []) ∷ (y ∷ []) ∷ []))) w
+line_put i j k l m s t u v w a b c x y p q r e =
+    sends_same i m s w _ _ (line_is a b c x y)
+    (sends_more i j m s t w (a ++ 32 ∷ []) (b ++ (32 ∷ c ++ 32 ∷ x ∷ 32 ∷ y ∷ 10 ∷ [])) p
+    (sends_more j k m t u w b (32 ∷ c ++ 32 ∷ x ∷ 32 ∷ y ∷ 10 ∷ []) q
+    (sends_more k l m u v w (32 ∷ c) (32 ∷ x ∷ 32 ∷ y ∷ 10 ∷ []) r e)))

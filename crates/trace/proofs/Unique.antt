@@ -115,18 +115,45 @@ same_what m n (what.MemWrite a xs) (what.MemWrite b ys) rv rw' fv fw e =
     let addr = same_num a b (ap (λ (fs : List (List ℕ)). get_or fs 2 []) e) in
     let data' = same_bytes xs ys rv.each rw'.each (ap (λ (fs : List (List ℕ)). get_or fs 3 []) e) in
     (slot, cc)
-same_what m n (what.Read k o w) (what.Write l p x v) rv rw' fv fw e = absurd (omega (arith, ap sign e))
+same_what m n (what.Input xs) (what.Input ys) rv rw' fv fw e =
+    let slot = same_num m n (ap (λ (fs : List (List ℕ)). get_or fs 1 []) e) in
+    let data' = same_bytes xs ys rv.each rw'.each (ap (λ (fs : List (List ℕ)). get_or fs 2 []) e) in
+    (slot, cc)
+same_what m n (what.Resize a l) (what.Resize b k) rv rw' fv fw e =
+    let slot = same_num m n (ap (λ (fs : List (List ℕ)). get_or fs 1 []) e) in
+    let cols = same_num a b (ap (λ (fs : List (List ℕ)). get_or fs 2 []) e) in
+    let rows = same_num l k (ap (λ (fs : List (List ℕ)). get_or fs 3 []) e) in
+    (slot, cc)
+same_what m n (what.Read k o w) (what.Write l p x v') rv rw' fv fw e = absurd (omega (arith, ap sign e))
 same_what m n (what.Read k o w) (what.MemRead b t) rv rw' fv fw e = absurd (omega (arith, ap sign e))
 same_what m n (what.Read k o w) (what.MemWrite b ys) rv rw' fv fw e = absurd (omega (arith, ap sign e))
+same_what m n (what.Read k o w) (what.Input ys) rv rw' fv fw e = absurd (omega (arith, ap sign e))
+same_what m n (what.Read k o w) (what.Resize b t) rv rw' fv fw e = absurd (omega (arith, ap sign e))
 same_what m n (what.Write k o w u) (what.Read l p x) rv rw' fv fw e = absurd (omega (arith, ap sign e))
 same_what m n (what.Write k o w u) (what.MemRead b t) rv rw' fv fw e = absurd (omega (arith, ap sign e))
 same_what m n (what.Write k o w u) (what.MemWrite b ys) rv rw' fv fw e = absurd (omega (arith, ap sign e))
+same_what m n (what.Write k o w u) (what.Input ys) rv rw' fv fw e = absurd (omega (arith, ap sign e))
+same_what m n (what.Write k o w u) (what.Resize b t) rv rw' fv fw e = absurd (omega (arith, ap sign e))
 same_what m n (what.MemRead a r) (what.Read l p x) rv rw' fv fw e = absurd (omega (arith, ap sign e))
-same_what m n (what.MemRead a r) (what.Write l p x v) rv rw' fv fw e = absurd (omega (arith, ap sign e))
+same_what m n (what.MemRead a r) (what.Write l p x v') rv rw' fv fw e = absurd (omega (arith, ap sign e))
 same_what m n (what.MemRead a r) (what.MemWrite b ys) rv rw' fv fw e = absurd (omega (arith, ap sign e))
+same_what m n (what.MemRead a r) (what.Input ys) rv rw' fv fw e = absurd (omega (arith, ap sign e))
+same_what m n (what.MemRead a r) (what.Resize b t) rv rw' fv fw e = absurd (omega (arith, ap sign e))
 same_what m n (what.MemWrite a xs) (what.Read l p x) rv rw' fv fw e = absurd (omega (arith, ap sign e))
-same_what m n (what.MemWrite a xs) (what.Write l p x v) rv rw' fv fw e = absurd (omega (arith, ap sign e))
+same_what m n (what.MemWrite a xs) (what.Write l p x v') rv rw' fv fw e = absurd (omega (arith, ap sign e))
 same_what m n (what.MemWrite a xs) (what.MemRead b t) rv rw' fv fw e = absurd (omega (arith, ap sign e))
+same_what m n (what.MemWrite a xs) (what.Input ys) rv rw' fv fw e = absurd (omega (arith, ap sign e))
+same_what m n (what.MemWrite a xs) (what.Resize b t) rv rw' fv fw e = absurd (omega (arith, ap sign e))
+same_what m n (what.Input xs) (what.Read l p x) rv rw' fv fw e = absurd (omega (arith, ap sign e))
+same_what m n (what.Input xs) (what.Write l p x v') rv rw' fv fw e = absurd (omega (arith, ap sign e))
+same_what m n (what.Input xs) (what.MemRead b t) rv rw' fv fw e = absurd (omega (arith, ap sign e))
+same_what m n (what.Input xs) (what.MemWrite b ys) rv rw' fv fw e = absurd (omega (arith, ap sign e))
+same_what m n (what.Input xs) (what.Resize b t) rv rw' fv fw e = absurd (omega (arith, ap sign e))
+same_what m n (what.Resize a r) (what.Read l p x) rv rw' fv fw e = absurd (omega (arith, ap sign e))
+same_what m n (what.Resize a r) (what.Write l p x v') rv rw' fv fw e = absurd (omega (arith, ap sign e))
+same_what m n (what.Resize a r) (what.MemRead b t) rv rw' fv fw e = absurd (omega (arith, ap sign e))
+same_what m n (what.Resize a r) (what.MemWrite b ys) rv rw' fv fw e = absurd (omega (arith, ap sign e))
+same_what m n (what.Resize a r) (what.Input ys) rv rw' fv fw e = absurd (omega (arith, ap sign e))
 
 same_event_fields : {A : Type 0} (d e : Event A) → IsFine d → IsFine e → event_fields d ≡ event_fields e → d ≡ e
 same_event_fields d e fd fe h =

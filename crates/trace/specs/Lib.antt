@@ -7,5 +7,6 @@ pub mod Faults
 pub mod Refusals
 pub mod Records
 pub mod LastLine
+pub mod Sends
 pub mod OneSlot
 pub mod Replay

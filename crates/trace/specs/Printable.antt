@@ -2,7 +2,7 @@
 use Rattle.std.specs.Prelude.{ℕ, ◌*◌, ◌^◌, ◌<◌, List, All, ⊤}
 use Rattle.board.specs.declared.event.Event.{Event}
 use Rattle.board.specs.declared.event.EventKind.{EventKind}
-use Rattle.board.specs.declared.event.EventKind.TheVariants.{Read, Write, MemRead, MemWrite}
+use Rattle.board.specs.declared.event.EventKind.TheVariants.{Read, Write, MemRead, MemWrite, Input, Resize}
 use Rattle.board.specs.declared.spec.SlotSpec.{SlotSpec}
 use Rattle.trace.specs.Text.{Content}
 use Rattle.trace.specs.Words.{IsWidth}
@@ -23,6 +23,8 @@ IsPrintableKind (Read kind offset width) = IsAccess offset width
 IsPrintableKind (Write kind offset width value) = IsWriteAccess offset width value
 IsPrintableKind (MemRead addr len) = ⊤
 IsPrintableKind (MemWrite addr bs) = ⊤
+IsPrintableKind (Input bs) = ⊤
+IsPrintableKind (Resize cols rows) = ⊤
 
 -- a trace that has a text: each of its events has a line
 abbrev pub IsPrintable : {A : Type 0} → Content A → Type 0
@@ -46,11 +48,20 @@ pub record BytesInRange (addr : ℕ) (bs : List ℕ) : Type 0 where
   pub from : addr < 2 ^ 64
   pub each : All (λ b. b < 2 ^ 8) bs
 
+pub record InputInRange (bs : List ℕ) : Type 0 where
+  pub each : All (λ b. b < 2 ^ 8) bs
+
+pub record SizeInRange (cols rows : ℕ) : Type 0 where
+  pub across : cols < 2 ^ 16
+  pub down : rows < 2 ^ 16
+
 abbrev pub KindInRange : {A : Type 0} → EventKind A → Type 0
 KindInRange (Read kind offset width) = ⊤
 KindInRange (Write kind offset width value) = ⊤
 KindInRange (MemRead addr len) = RangeInRange addr len
 KindInRange (MemWrite addr bs) = BytesInRange addr bs
+KindInRange (Input bs) = InputInRange bs
+KindInRange (Resize cols rows) = SizeInRange cols rows
 
 pub record EventInRange {A : Type 0} (e : Event A) : Type 0 where
   pub slot : e.slot < 2 ^ 8

@@ -6,11 +6,12 @@ use Rattle.board.specs.declared.reply.Reply.TheVariants as reply
 use Rattle.trace.specs.Spelling.{digit, num, fixed, bytes}
 use Rattle.trace.specs.Text.{line, joined}
 
--- what was answered: a value by eight digits, bytes, or a word
+-- what was answered: a value by eight digits, bytes, how many of them were taken, or a word
 abbrev pub reply_field : {A : Type 0} → Reply A → List ℕ
 reply_field (reply.Value v) = codes "v:" ++ fixed 8 v
 reply_field reply.Done = codes "done"
 reply_field (reply.Bytes bs) = codes "b:" ++ bytes bs
+reply_field (reply.Took n) = codes "took:" ++ num n
 reply_field reply.BadSlot = codes "badslot"
 reply_field reply.BadRange = codes "badrange"
 reply_field reply.NoMemory = codes "nomem"

@@ -7,7 +7,7 @@ use Rattle.board.specs.declared.event.EventKind.{EventKind}
 use Rattle.board.specs.declared.event.EventKind.TheVariants as what
 use Rattle.board.specs.declared.spec.SlotSpec.{SlotSpec}
 use Rattle.trace.specs.declared.trace.Trace.{Trace}
-use Rattle.trace.specs.declared.word.Word.TheVariants.{Cache, Slot, Read, Write, MemRead, MemWrite}
+use Rattle.trace.specs.declared.word.Word.TheVariants.{Cache, Slot, Read, Write, MemRead, MemWrite, Input, Resize}
 use Rattle.trace.specs.Spelling.{num, fixed, bytes, window, width_digit, mode}
 use Rattle.trace.specs.Words.{spelled}
 
@@ -49,12 +49,21 @@ mem_read_fields slot addr len = spelled MemRead ∷ num slot ∷ num addr ∷ nu
 abbrev pub mem_write_fields : ℕ → ℕ → List ℕ → List (List ℕ)
 mem_write_fields slot addr bs = spelled MemWrite ∷ num slot ∷ num addr ∷ bytes bs ∷ []
 
+-- console input, and a new size of the console
+abbrev pub input_fields : ℕ → List ℕ → List (List ℕ)
+input_fields slot bs = spelled Input ∷ num slot ∷ bytes bs ∷ []
+
+abbrev pub resize_fields : ℕ → ℕ → ℕ → List (List ℕ)
+resize_fields slot cols rows = spelled Resize ∷ num slot ∷ num cols ∷ num rows ∷ []
+
 -- the fields of what a slot does
 abbrev pub what_fields : {A : Type 0} → ℕ → EventKind A → List (List ℕ)
 what_fields slot (what.Read kind offset width) = read_fields slot kind offset width
 what_fields slot (what.Write kind offset width value) = write_fields slot kind offset width value
 what_fields slot (what.MemRead addr len) = mem_read_fields slot addr len
 what_fields slot (what.MemWrite addr bs) = mem_write_fields slot addr bs
+what_fields slot (what.Input bs) = input_fields slot bs
+what_fields slot (what.Resize cols rows) = resize_fields slot cols rows
 
 abbrev pub event_fields : {A : Type 0} → Event A → List (List ℕ)
 event_fields e = what_fields e.slot e.what

@@ -2,7 +2,7 @@
 use Rattle.std.specs.Prelude.{◌≡◌, ℕ, ◌*◌, ◌^◌, ◌<◌, ◌⊎◌, Bool, List, [], ◌∷◌, codes, length, slice_index_or, ◌%◌, All}
 use Rattle.mmio_window.specs.declared.device_kind.DeviceKind.{DeviceKind}
 use Rattle.trace.specs.declared.word.Word.{Word}
-use Rattle.trace.specs.declared.word.Word.TheVariants.{Cache, Slot, Read, Write, MemRead, MemWrite}
+use Rattle.trace.specs.declared.word.Word.TheVariants.{Cache, Slot, Read, Write, MemRead, MemWrite, Input, Resize}
 use Rattle.trace.specs.Spelling.{digit, num, fixed, bytes, window, width_digit, mode}
 
 -- the field is a number of that many bits, without leading zeros
@@ -70,6 +70,8 @@ spelled Read = codes "r"
 spelled Write = codes "w"
 spelled MemRead = codes "mr"
 spelled MemWrite = codes "mw"
+spelled Input = codes "in"
+spelled Resize = codes "sz"
 
 -- the shapes of the fields after each word, where these are the fields
 abbrev pub shapes : Word → List (List ℕ) → List Shape
@@ -79,3 +81,5 @@ shapes Read fields = Num 8 ∷ Window ∷ Offset ∷ Width ∷ []
 shapes Write fields = Num 8 ∷ Window ∷ Offset ∷ Width ∷ Value (slice_index_or fields 3 []) ∷ []
 shapes MemRead fields = Num 8 ∷ Num 64 ∷ Num 32 ∷ []
 shapes MemWrite fields = Num 8 ∷ Num 64 ∷ Bytes ∷ []
+shapes Input fields = Num 8 ∷ Bytes ∷ []
+shapes Resize fields = Num 8 ∷ Num 16 ∷ Num 16 ∷ []

@@ -43,6 +43,16 @@ pub(crate) fn one(rest: Option<&[u8]>) -> Option<&[u8]>
     Some(a)
 }
 
+/// The fields that are left of a line, where they are two.
+pub(crate) fn two(rest: Option<&[u8]>) -> Option<(&[u8], &[u8])>
+    ensures some { IfSome result (λ f. fields_left (option_copied rest.entry) ≡ f.0.now ∷ f.1.now ∷ []) }
+    ensures none { IfNone result (length (fields_left (option_copied rest.entry)) ≢ 2) }
+{
+    let (a, rest) = take_field(rest?);
+    let b = one(rest)?;
+    Some((a, b))
+}
+
 /// The fields that are left of a line, where they are three.
 pub(crate) fn three(rest: Option<&[u8]>) -> Option<(&[u8], &[u8], &[u8])>
     ensures some { IfSome result (λ f. fields_left (option_copied rest.entry) ≡ f.0.now ∷ f.1.now ∷ f.2.now ∷ []) }

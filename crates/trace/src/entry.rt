@@ -10,9 +10,9 @@ ghost use Rattle.trace.specs.Refusals.{RefusesFields, RefusesLine, IsFine, IsFin
 ghost use Rattle.trace.specs.Text.{event_fields, slot_fields};
 ghost use Rattle.trace.specs.Words.{spelled};
 
-use crate::cut::{five, four, seven, take_field, three};
+use crate::cut::{five, four, seven, take_field, three, two};
 use crate::fault::FaultKind;
-use crate::fields::{mem_read_of, mem_write_of, read_of, slot_of, write_of};
+use crate::fields::{input_of, mem_read_of, mem_write_of, read_of, resize_of, slot_of, write_of};
 use crate::word::{Word, word_of};
 use board::{Event, SlotSpec};
 use std::alloc::Allocator;
@@ -46,6 +46,8 @@ pub(crate) fn entry_of<A: Allocator>(
         Word::Write => Ok(Entry::Event(write_in(rest)?)),
         Word::MemRead => Ok(Entry::Event(mem_read_in(rest)?)),
         Word::MemWrite => Ok(Entry::Event(mem_write_in(alloc, rest)?)),
+        Word::Input => Ok(Entry::Event(input_in(alloc, rest)?)),
+        Word::Resize => Ok(Entry::Event(resize_in(rest)?)),
     }
 }
 
@@ -104,4 +106,26 @@ fn mem_write_in<A: Allocator>(alloc: A, rest: Option<&[u8]>) -> Result<Event<A>,
         return Err(FaultKind::Fields);
     };
     mem_write_of(alloc, slot, addr, bytes)
+}
+
+fn input_in<A: Allocator>(alloc: A, rest: Option<&[u8]>) -> Result<Event<A>, FaultKind>
+    ensures ok { IfOk result (λ e. event_fields e ≡ spelled Word.Input ∷ fields_left (option_copied rest.entry)) }
+    ensures fine { IfOk result IsFine }
+    ensures err { IfErr result (λ fault. RefusesFields Word.Input (fields_left (option_copied rest.entry)) fault) }
+{
+    let Some((slot, bytes)) = two(rest) else {
+        return Err(FaultKind::Fields);
+    };
+    input_of(alloc, slot, bytes)
+}
+
+fn resize_in<A: Allocator>(rest: Option<&[u8]>) -> Result<Event<A>, FaultKind>
+    ensures ok { IfOk result (λ e. event_fields e ≡ spelled Word.Resize ∷ fields_left (option_copied rest.entry)) }
+    ensures fine { IfOk result IsFine }
+    ensures err { IfErr result (λ fault. RefusesFields Word.Resize (fields_left (option_copied rest.entry)) fault) }
+{
+    let Some((slot, cols, rows)) = three(rest) else {
+        return Err(FaultKind::Fields);
+    };
+    resize_of(slot, cols, rows)
 }

@@ -132,6 +132,51 @@ pub(crate) fn mem_write_of<A: Allocator>(
     }
 }
 
+/// Console input: slot and bytes.
+pub(crate) fn input_of<A: Allocator>(
+    alloc: A,
+    slot: &[u8],
+    bytes: &[u8],
+) -> Result<Event<A>, FaultKind>
+    ensures ok { IfOk result (λ e. event_fields e ≡ spelled Word.Input ∷ slot.now ∷ bytes.now ∷ []) }
+    ensures fine { IfOk result IsFine }
+    ensures err { IfErr result (λ fault. RefusesFields Word.Input (slot.now ∷ bytes.now ∷ []) fault) }
+{
+    let Some(slot) = number_u8(slot) else {
+        return Err(FaultKind::Number);
+    };
+    match bytes_of(alloc, bytes) {
+        Ok(bytes) => {
+            let what = EventKind::Input { bytes };
+            Ok(Event { slot, what })
+        }
+        Err(fault) => Err(fault),
+    }
+}
+
+/// A new size of the console: slot, columns and rows.
+pub(crate) fn resize_of<A: Allocator>(
+    slot: &[u8],
+    cols: &[u8],
+    rows: &[u8],
+) -> Result<Event<A>, FaultKind>
+    ensures ok { IfOk result (λ e. event_fields e ≡ spelled Word.Resize ∷ slot.now ∷ cols.now ∷ rows.now ∷ []) }
+    ensures fine { IfOk result IsFine }
+    ensures err { IfErr result (λ fault. RefusesFields Word.Resize (slot.now ∷ cols.now ∷ rows.now ∷ []) fault) }
+{
+    let Some(slot) = number_u8(slot) else {
+        return Err(FaultKind::Number);
+    };
+    let Some(cols) = number_u16(cols) else {
+        return Err(FaultKind::Number);
+    };
+    let Some(rows) = number_u16(rows) else {
+        return Err(FaultKind::Number);
+    };
+    let what = EventKind::Resize { cols, rows };
+    Ok(Event { slot, what })
+}
+
 /// A slot: its memory, its extent, its mode and its console's size.
 pub(crate) fn slot_of(
     base: &[u8],

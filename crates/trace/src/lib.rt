@@ -10,6 +10,7 @@
 //! `last_line` tells how a program ends after it.
 #![tactic(auto)]
 
+mod buffer;
 mod bytes;
 mod choice;
 mod cut;

@@ -3,7 +3,7 @@
 ghost use Rattle.std.specs.Prelude.{◌≡◌, ◌*◌, ◌^◌, ◌<◌, ◌↔◌, ◌++◌, ◌∷◌, [], All, IsTrue, IfOk, OnOk, map};
 ghost use Rattle.trace.specs.Printable.{InRange, IsAccess, IsPrintable, IsPrintableKind, IsWriteAccess};
 ghost use Rattle.trace.specs.Spelling.{fixed, mode, num, width_digit, window as window_name};
-ghost use Rattle.trace.specs.Text.{content, text as text_of, ended, event_line, front_text, joined, line, mem_read_fields, mem_write_fields, read_fields, slot_line, write_fields};
+ghost use Rattle.trace.specs.Text.{content, text as text_of, ended, event_line, front_text, input_fields, joined, line, mem_read_fields, mem_write_fields, read_fields, resize_fields, slot_line, write_fields};
 ghost use Rattle.trace.specs.Words.{IsWidth};
 
 use crate::no_memory::NoMemory;
@@ -35,6 +35,8 @@ fn has_line<A: Allocator>(what: &EventKind<A>) -> bool
         } => is_access(*offset, *width) && is_within(*value, *width),
         EventKind::MemRead { .. } => true,
         EventKind::MemWrite { .. } => true,
+        EventKind::Input { .. } => true,
+        EventKind::Resize { .. } => true,
     }
 }
 
@@ -171,6 +173,8 @@ fn push_event<A: Allocator>(out: &mut Vec<u8, A>, event: &Event<A>) -> Result<()
         EventKind::MemWrite { addr, bytes } => {
             push_mem_write(out, event.slot, *addr, bytes.as_slice())
         }
+        EventKind::Input { bytes } => push_input(out, event.slot, bytes.as_slice()),
+        EventKind::Resize { cols, rows } => push_resize(out, event.slot, *cols, *rows),
     }
 }
 
@@ -270,6 +274,35 @@ fn push_mem_write<A: Allocator>(
     push_next(out, addr)?;
     out.push(b' ')?;
     push_bytes(out, bytes)?;
+    out.push(b'\n')?;
+    Ok(())
+}
+
+// Appends the line of console input.
+fn push_input<A: Allocator>(out: &mut Vec<u8, A>, slot: u8, bytes: &[u8]) -> Result<(), AllocError>
+    ensures { OnOk result (out.new.items ≡ out.old.items ++ ended (line (input_fields slot bytes.now))) }
+{
+    out.extend_from_slice(b"in")?;
+    push_next(out, u64::from(slot))?;
+    out.push(b' ')?;
+    push_bytes(out, bytes)?;
+    out.push(b'\n')?;
+    Ok(())
+}
+
+// Appends the line of a new size of the console.
+fn push_resize<A: Allocator>(
+    out: &mut Vec<u8, A>,
+    slot: u8,
+    cols: u16,
+    rows: u16,
+) -> Result<(), AllocError>
+    ensures { OnOk result (out.new.items ≡ out.old.items ++ ended (line (resize_fields slot cols rows))) }
+{
+    out.extend_from_slice(b"sz")?;
+    push_next(out, u64::from(slot))?;
+    push_next(out, u64::from(cols))?;
+    push_next(out, u64::from(rows))?;
     out.push(b'\n')?;
     Ok(())
 }

@@ -66,6 +66,11 @@ fn kind_in_range<A: Allocator>(what: &EventKind<A>)
             let _addr = *addr;
             bytes_in_range(bytes.as_slice());
         }
+        EventKind::Input { bytes } => bytes_in_range(bytes.as_slice()),
+        EventKind::Resize { cols, rows } => {
+            let _cols = *cols;
+            let _rows = *rows;
+        }
         _ => {}
     }
 }

@@ -121,8 +121,12 @@ fn add_line<A: Allocator + Copy>(
     ensures err { IfErr result (λ fault. RefusesLine (has_begun (content trace.old)) line.now fault) }
 {
     let begun = !trace.events.is_empty();
-    match entry_of(alloc, line, begun) {
-        Ok(entry) => trace.push(entry).map_err(|_| FaultKind::NoMemory),
-        Err(fault) => Err(fault),
+    let entry = match entry_of(alloc, line, begun) {
+        Ok(entry) => entry,
+        Err(fault) => return Err(fault),
+    };
+    if trace.push(entry).is_err() {
+        return Err(FaultKind::NoMemory);
     }
+    Ok(())
 }

@@ -1,16 +1,19 @@
 //! The text of records.
 
-ghost use Rattle.std.specs.Prelude.{◌≡◌, ◌≤◌, ◌∷◌, [], ◌++◌, All, IfOk, OnOk};
+ghost use Rattle.std.specs.Prelude.{◌≡◌, ◌≤◌, ◌∷◌, [], ◌++◌, All, IfOk, codes, length};
 ghost use Rattle.board.specs.Line.{HasInterruptWords};
+ghost use Rattle.hex.specs.Hex.{encode_lower};
 ghost use Rattle.trace.specs.Records.{record_line, records_text, reply_field};
-ghost use Rattle.trace.specs.Spelling.{digit};
+ghost use Rattle.trace.specs.Sends.{Sends, waiting};
+ghost use Rattle.trace.specs.Spelling.{bytes as bytes_field, digit, fixed, num};
 ghost use Rattle.trace.specs.Text.{ended};
 
+use crate::buffer::{Buffer, Nowhere};
 use crate::digit::digit_of;
 use crate::no_memory::NoMemory;
-use crate::push::{push_bytes, push_fixed, push_num};
 use board::{Record, Reply};
-use std::alloc::{AllocError, Allocator};
+use std::alloc::Allocator;
+use std::io::Write;
 
 /// The room that is made ahead for a line. A line without bytes has no more.
 const LINE_ROOM: usize = 24;
@@ -20,52 +23,155 @@ pub fn print_records<A: Allocator>(alloc: A, records: &[Record<A>]) -> Result<Ve
     requires { All HasInterruptWords records.now }
     ensures { IfOk result (λ text. text.items ≡ records_text records.now) }
 {
-    let mut text = Vec::with_capacity(alloc, records.len().saturating_mul(LINE_ROOM))?;
-    for entry in records {
-        push_record(&mut text, entry)?;
-    }
-    Ok(text)
+    let mut text = Buffer::growing(alloc, records.len().saturating_mul(LINE_ROOM))?;
+    put_records(&mut text, &mut Nowhere, records);
+    text.into_bytes()
 }
 
-// Appends the line of a record.
-fn push_record<A: Allocator>(out: &mut Vec<u8, A>, entry: &Record<A>) -> Result<(), AllocError>
-    requires { HasInterruptWords entry.now }
-    ensures { OnOk result (out.new.items ≡ out.old.items ++ ended (record_line entry.now)) }
+/// Puts the text of records.
+pub(crate) fn put_records<W: Write, A: Allocator, B: Allocator>(
+    buffer: &mut Buffer<B>,
+    out: &mut W,
+    records: &[Record<A>],
+)
+    requires { All HasInterruptWords records.now }
+    ensures { Sends (W.contents out.old) (W.contents out.new) (waiting buffer.old) (records_text records.now) (waiting buffer.new) }
 {
-    push_num(out, u64::from(entry.slot))?;
-    out.push(b' ')?;
-    push_reply(out, &entry.reply)?;
-    out.push(b' ')?;
-    push_bytes(out, entry.output.as_slice())?;
-    push_words(out, entry.block_irq, entry.console_irq)?;
-    Ok(())
+    for entry in records {
+        put_record(buffer, out, entry);
+    }
 }
 
-// Appends what was answered.
-fn push_reply<A: Allocator>(out: &mut Vec<u8, A>, reply: &Reply<A>) -> Result<(), AllocError>
-    ensures { OnOk result (out.new.items ≡ out.old.items ++ reply_field reply.now) }
+// Puts the line of a record.
+fn put_record<W: Write, A: Allocator, B: Allocator>(
+    buffer: &mut Buffer<B>,
+    out: &mut W,
+    entry: &Record<A>,
+)
+    requires { HasInterruptWords entry.now }
+    ensures { Sends (W.contents out.old) (W.contents out.new) (waiting buffer.old) (ended (record_line entry.now)) (waiting buffer.new) }
+{
+    put_slot(buffer, out, entry.slot);
+    put_reply(buffer, out, &entry.reply);
+    put_output(buffer, out, entry.output.as_slice());
+    let words = [
+        b' ',
+        digit_of(entry.block_irq),
+        b' ',
+        digit_of(entry.console_irq),
+        b'\n',
+    ];
+    buffer.put(out, &words);
+}
+
+// Puts a slot's number and a space.
+fn put_slot<W: Write, B: Allocator>(buffer: &mut Buffer<B>, out: &mut W, slot: u8)
+    ensures { Sends (W.contents out.old) (W.contents out.new) (waiting buffer.old) (num slot ++ 32 ∷ []) (waiting buffer.new) }
+{
+    if slot < 16 {
+        buffer.put(out, &[digit_of(slot), b' ']);
+    } else {
+        buffer.put(out, &[digit_of(slot / 16), digit_of(slot % 16), b' ']);
+    }
+}
+
+// Puts what was answered.
+fn put_reply<W: Write, A: Allocator, B: Allocator>(
+    buffer: &mut Buffer<B>,
+    out: &mut W,
+    reply: &Reply<A>,
+)
+    ensures { Sends (W.contents out.old) (W.contents out.new) (waiting buffer.old) (reply_field reply.now) (waiting buffer.new) }
 {
     match reply {
-        Reply::Value(value) => {
-            out.extend_from_slice(b"v:")?;
-            push_fixed(out, 8, *value)
-        }
-        Reply::Done => out.extend_from_slice(b"done"),
+        Reply::Value(value) => buffer.put(out, &value_field(*value)),
+        Reply::Done => buffer.put(out, b"done"),
         Reply::Bytes(bytes) => {
-            out.extend_from_slice(b"b:")?;
-            push_bytes(out, bytes.as_slice())
+            buffer.put(out, b"b:");
+            put_bytes(buffer, out, bytes.as_slice());
         }
-        Reply::BadSlot => out.extend_from_slice(b"badslot"),
-        Reply::BadRange => out.extend_from_slice(b"badrange"),
-        Reply::NoMemory => out.extend_from_slice(b"nomem"),
+        Reply::Took(n) => {
+            buffer.put(out, b"took:");
+            put_num(buffer, out, *n as u64);
+        }
+        Reply::BadSlot => buffer.put(out, b"badslot"),
+        Reply::BadRange => buffer.put(out, b"badrange"),
+        Reply::NoMemory => buffer.put(out, b"nomem"),
     }
 }
 
-// Appends the end of a line: both interrupt words by one digit each.
-fn push_words<A: Allocator>(out: &mut Vec<u8, A>, block: u8, console: u8) -> Result<(), AllocError>
-    requires block { block ≤ 3 }
-    requires console { console ≤ 3 }
-    ensures { OnOk result (out.new.items ≡ out.old.items ++ 32 ∷ digit block ∷ 32 ∷ digit console ∷ 10 ∷ []) }
+// Puts a number without leading zeros.
+fn put_num<W: Write, B: Allocator>(buffer: &mut Buffer<B>, out: &mut W, n: u64)
+    ensures { Sends (W.contents out.old) (W.contents out.new) (waiting buffer.old) (num n) (waiting buffer.new) }
 {
-    out.extend_from_slice(&[b' ', digit_of(block), b' ', digit_of(console), b'\n'])
+    if n < 16 {
+        buffer.put(out, &[digit_of(n as u8)]);
+        return;
+    }
+    put_num(buffer, out, n / 16);
+    buffer.put(out, &[digit_of((n % 16) as u8)]);
+}
+
+// A value by eight digits, after the letter for it.
+#[tactic(auto, unfolding(crate::specs::Spelling::fixed))]
+fn value_field(value: u32) -> [u8; 10]
+    ensures { result ≡ codes "v:" ++ fixed 8 value }
+{
+    let (a, b, c, d) = (value, value / 16, value / 16 / 16, value / 16 / 16 / 16);
+    let top = d / 16;
+    let (e, f, g, h) = (top, top / 16, top / 16 / 16, top / 16 / 16 / 16);
+    [
+        b'v',
+        b':',
+        digit_of((h % 16) as u8),
+        digit_of((g % 16) as u8),
+        digit_of((f % 16) as u8),
+        digit_of((e % 16) as u8),
+        digit_of((d % 16) as u8),
+        digit_of((c % 16) as u8),
+        digit_of((b % 16) as u8),
+        digit_of((a % 16) as u8),
+    ]
+}
+
+// Puts a space and the output.
+fn put_output<W: Write, B: Allocator>(buffer: &mut Buffer<B>, out: &mut W, output: &[u8])
+    ensures { Sends (W.contents out.old) (W.contents out.new) (waiting buffer.old) (32 ∷ bytes_field output.now) (waiting buffer.new) }
+{
+    if output.is_empty() {
+        buffer.put(out, b" -");
+        return;
+    }
+    buffer.put(out, b" ");
+    put_bytes(buffer, out, output);
+}
+
+/// How many bytes are spelled at a time.
+const BLOCK: usize = 512;
+
+// Puts bytes by two digits each, or `-` where there are none.
+fn put_bytes<W: Write, B: Allocator>(buffer: &mut Buffer<B>, out: &mut W, bytes: &[u8])
+    ensures { Sends (W.contents out.old) (W.contents out.new) (waiting buffer.old) (bytes_field bytes.now) (waiting buffer.new) }
+{
+    if bytes.is_empty() {
+        buffer.put(out, b"-");
+        return;
+    }
+    let mut rest = bytes;
+    while !rest.is_empty() {
+        let (block, after) = rest.split_at(rest.len().min(BLOCK));
+        put_block(buffer, out, block);
+        rest = after;
+    }
+}
+
+// Puts at most `BLOCK` bytes, by two digits each.
+fn put_block<W: Write, B: Allocator>(buffer: &mut Buffer<B>, out: &mut W, bytes: &[u8])
+    requires { length bytes.now ≤ 512 }
+    ensures { Sends (W.contents out.old) (W.contents out.new) (waiting buffer.old) (encode_lower bytes.now) (waiting buffer.new) }
+{
+    let mut digits = [0; 2 * BLOCK];
+    let text = &mut digits[..2 * bytes.len()];
+    let _ = hex::encode_to_slice(bytes, text);
+    buffer.put(out, text);
 }

@@ -13,6 +13,8 @@ pub(crate) enum Word {
     Write,
     MemRead,
     MemWrite,
+    Input,
+    Resize,
 }
 
 /// The word that a field is.
@@ -25,6 +27,8 @@ pub(crate) fn word_of(field: &[u8]) -> Option<Word>
         b"w" => Some(Word::Write),
         b"mr" => Some(Word::MemRead),
         b"mw" => Some(Word::MemWrite),
+        b"in" => Some(Word::Input),
+        b"sz" => Some(Word::Resize),
         b"slot" => Some(Word::Slot),
         b"cache" => Some(Word::Cache),
         _ => None,

@@ -12,6 +12,7 @@ enum Answer<'a> {
     Value(u32),
     Done,
     Bytes(&'a [u8]),
+    Took(usize),
     BadSlot,
     BadRange,
     NoMemory,
@@ -25,6 +26,7 @@ fn reply_of(alloc: Global, answer: Answer<'_>) -> Result<Reply, AllocError> {
         Answer::Value(value) => Ok(Reply::Value(value)),
         Answer::Done => Ok(Reply::Done),
         Answer::Bytes(bytes) => Ok(Reply::Bytes(bytes.to_vec(alloc)?.into())),
+        Answer::Took(n) => Ok(Reply::Took(n)),
         Answer::BadSlot => Ok(Reply::BadSlot),
         Answer::BadRange => Ok(Reply::BadRange),
         Answer::NoMemory => Ok(Reply::NoMemory),
@@ -49,7 +51,7 @@ fn line_of(rt: &(impl Abort + AllocGlobal), row: Row<'_>) -> Result<Vec<u8>, Fai
 }
 
 /// Records of each reply, each with its line.
-const ROWS: [(Row<'static>, &[u8]); 7] = [
+const ROWS: [(Row<'static>, &[u8]); 10] = [
     (
         (0, Answer::Bytes(&[0, 0, 1, 2, 0]), b"", 1, 0),
         b"0 b:0000010200 - 1 0\n",
@@ -64,6 +66,12 @@ const ROWS: [(Row<'static>, &[u8]); 7] = [
     ),
     ((5, Answer::Bytes(b""), b"\xf0", 2, 3), b"5 b:- f0 2 3\n"),
     ((0, Answer::Done, b"", 0, 0), b"0 done - 0 0\n"),
+    ((0, Answer::Took(0), b"", 0, 0), b"0 took:0 - 0 0\n"),
+    ((1, Answer::Took(0x1000), b"", 0, 1), b"1 took:1000 - 0 1\n"),
+    (
+        (15, Answer::Took(usize::MAX), b"", 0, 3),
+        b"f took:ffffffffffffffff - 0 3\n",
+    ),
     ((17, Answer::BadSlot, b"", 0, 0), b"11 badslot - 0 0\n"),
     ((1, Answer::BadRange, b"", 0, 1), b"1 badrange - 0 1\n"),
 ];
@@ -79,7 +87,7 @@ fn lines_of_records(rt: HostRuntime) -> Result<(), Fail> {
 /// Output of any length, of which the last byte is another one.
 #[test]
 fn long_outputs(rt: HostRuntime) -> Result<(), Fail> {
-    for len in [1, 31, 32, 33, 63, 64, 65, 1000] {
+    for len in [1, 510, 511, 512, 1023, 1500] {
         let mut output = vec![in rt.alloc(); 0x4f; len]?;
         output.push(0xe1)?;
         let text = line_of(&rt, (0, Answer::Done, &output, 0, 0))?;

@@ -26,7 +26,12 @@ mr 0 80000fff 2\n\
 mr 1 ffffffffffffffff ffffffff\n\
 mw 0 80000ffe 4142\n\
 mw a 0 -\n\
-mw 1 1 00ff0a\n";
+mw 1 1 00ff0a\n\
+in 0 61\n\
+in ff -\n\
+in 1 00ff0a\n\
+sz 0 0 ffff\n\
+sz ff ffff 0\n";
 
 /// What a slot does, as a plain value.
 #[derive(Clone, Copy)]
@@ -35,10 +40,12 @@ enum What<'a> {
     Write(DeviceKind, u16, u8, u32),
     MemRead(u64, u32),
     MemWrite(u64, &'a [u8]),
+    Input(&'a [u8]),
+    Resize(u16, u16),
 }
 
 use DeviceKind::{Block, Console};
-use What::{MemRead, MemWrite, Read, Write};
+use What::{Input, MemRead, MemWrite, Read, Resize, Write};
 
 fn event_of(alloc: Global, slot: u8, what: What<'_>) -> Result<Event, AllocError> {
     let what = match what {
@@ -58,6 +65,11 @@ fn event_of(alloc: Global, slot: u8, what: What<'_>) -> Result<Event, AllocError
             let bytes = bytes.to_vec(alloc)?.into();
             EventKind::MemWrite { addr, bytes }
         }
+        Input(bytes) => {
+            let bytes = bytes.to_vec(alloc)?.into();
+            EventKind::Input { bytes }
+        }
+        Resize(cols, rows) => EventKind::Resize { cols, rows },
     };
     Ok(Event { slot, what })
 }
@@ -86,7 +98,7 @@ const SLOTS: [SlotSpec; 2] = [
 ];
 
 /// The events that it says.
-const EVENTS: [(u8, What<'static>); 16] = [
+const EVENTS: [(u8, What<'static>); 21] = [
     (0, Read(Block, 0, 4)),
     (255, Read(Console, 0xfff, 1)),
     (16, Read(Block, 12, 2)),
@@ -103,6 +115,11 @@ const EVENTS: [(u8, What<'static>); 16] = [
     (0, MemWrite(0x8000_0ffe, b"AB")),
     (10, MemWrite(0, b"")),
     (1, MemWrite(1, &[0, 255, 10])),
+    (0, Input(b"a")),
+    (255, Input(b"")),
+    (1, Input(&[0, 255, 10])),
+    (0, Resize(0, 65535)),
+    (255, Resize(65535, 0)),
 ];
 
 #[test]
