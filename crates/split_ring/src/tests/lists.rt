@@ -2,11 +2,13 @@
 
 use super::{
     AVAIL, BASE, DESC, Descriptor, Guest, INDIRECT, NEXT, REQUEST, USED, USED_ONCE, WRITE,
-    put_descriptors,
+    put_descriptors, same,
 };
 use crate::SplitRing;
 use chain::Fault;
 use guest_memory::GuestMemory;
+use std::alloc::Global;
+use std::process::Abort;
 use std::test::Fail;
 
 const TABLE: u64 = BASE + 0x7000;
@@ -26,7 +28,9 @@ const TO_3: Descriptor = (BASE, 1, NEXT, 3);
 const TO_4: Descriptor = (BASE, 1, NEXT, 4);
 
 /// A head, the ring's descriptors, and the fault.
-const LISTS: [(u16, [Descriptor; 4], Option<Fault>); 12] = [
+type List = (u16, [Descriptor; 4], Option<Fault>);
+
+const LISTS: [List; 12] = [
     (4, [LAST; 4], Some(Fault::Index)),
     (3, [LAST; 4], None),
     (0, [TO_4; 4], Some(Fault::Index)),
@@ -45,23 +49,27 @@ const LISTS: [(u16, [Descriptor; 4], Option<Fault>); 12] = [
 
 #[test]
 fn a_list_has_its_fault(rt: HostRuntime) -> Result<(), Fail> {
-    for (head, descriptors, fault) in LISTS {
-        let mut guest = Guest::new(rt.alloc(), true, true)?;
-        put_descriptors(&mut guest.mem, DESC, &descriptors);
-        let _ = guest.mem.put_u16(AVAIL + 4, head);
-        guest.offer(1);
-        assert_eq!(rt;
-            guest.serve(&rt, 1).0,
-            fault,
-            "head {head}, {descriptors:?}"
-        );
+    for list in &LISTS {
+        check_list(&rt, rt.alloc(), list)?;
     }
+    Ok(())
+}
+
+fn check_list(rt: &impl Abort, alloc: Global, list: &List) -> Result<(), Fail> {
+    let (head, descriptors, fault) = list;
+    let mut guest = Guest::new(alloc, true, true)?;
+    put_descriptors(&mut guest.mem, DESC, descriptors);
+    let _ = guest.mem.put_u16(AVAIL + 4, *head);
+    guest.offer(1);
+    same(rt, list, &guest.serve(rt, 1).0, fault);
     Ok(())
 }
 
 /// The ring's first descriptor, in front of one that refers to the request as a table; whether
 /// VIRTIO_F_INDIRECT_DESC was negotiated; and the fault.
-const TABLES: [(Descriptor, bool, Option<Fault>); 12] = [
+type Table = (Descriptor, bool, Option<Fault>);
+
+const TABLES: [Table; 12] = [
     ((TABLE, 0x30, INDIRECT, 0), true, None),
     ((TABLE, 0x30, INDIRECT | WRITE, 0), true, None),
     // Plain descriptors may stand before a table.
@@ -83,21 +91,29 @@ const TABLES: [(Descriptor, bool, Option<Fault>); 12] = [
 
 #[test]
 fn a_table_is_a_list(rt: HostRuntime) -> Result<(), Fail> {
-    for (first, indirect, fault) in TABLES {
-        let mut guest = Guest::new(rt.alloc(), indirect, false)?;
-        put_descriptors(&mut guest.mem, DESC, &[first, (TABLE, 0x30, INDIRECT, 0)]);
-        put_descriptors(&mut guest.mem, TABLE, &REQUEST);
-        guest.offer(1);
-        let met = guest.serve(&rt, 0x201).0;
-        assert_eq!(rt; met, fault, "{first:?}");
-        let used = if met.is_none() { USED_ONCE } else { [0; 12] };
-        assert!(rt; guest.mem.part(USED, 12) == Some(used.as_slice()));
+    for table in &TABLES {
+        check_table(&rt, rt.alloc(), table)?;
     }
     Ok(())
 }
 
+fn check_table(rt: &impl Abort, alloc: Global, table: &Table) -> Result<(), Fail> {
+    let (first, indirect, fault) = table;
+    let mut guest = Guest::new(alloc, *indirect, false)?;
+    put_descriptors(&mut guest.mem, DESC, &[*first, (TABLE, 0x30, INDIRECT, 0)]);
+    put_descriptors(&mut guest.mem, TABLE, &REQUEST);
+    guest.offer(1);
+    let met = guest.serve(rt, 0x201).0;
+    same(rt, table, &met, fault);
+    let used = if met.is_none() { USED_ONCE } else { [0; 12] };
+    same(rt, table, &guest.has(USED, &used), &true);
+    Ok(())
+}
+
 /// Each of three entries of a table, the table's len, and the fault.
-const ENTRIES: [(Descriptor, u32, Fault); 5] = [
+type Entry = (Descriptor, u32, Fault);
+
+const ENTRIES: [Entry; 5] = [
     ((TABLE, 0x30, INDIRECT, 0), 0x30, Fault::Nested),
     (TO_2, 0x20, Fault::Index),
     (TO_0, 0x20, Fault::Loop),
@@ -107,19 +123,27 @@ const ENTRIES: [(Descriptor, u32, Fault); 5] = [
 
 #[test]
 fn a_table_has_faults_of_its_own(rt: HostRuntime) -> Result<(), Fail> {
-    for (entry, len, fault) in ENTRIES {
-        let mut guest = Guest::new(rt.alloc(), true, false)?;
-        put_descriptors(&mut guest.mem, DESC, &[(TABLE, len, INDIRECT, 0)]);
-        put_descriptors(&mut guest.mem, TABLE, &[entry; 3]);
-        guest.offer(1);
-        assert_eq!(rt; guest.serve(&rt, 1).0, Some(fault), "{entry:?}");
+    for entry in &ENTRIES {
+        check_entry(&rt, rt.alloc(), entry)?;
     }
+    Ok(())
+}
+
+fn check_entry(rt: &impl Abort, alloc: Global, row: &Entry) -> Result<(), Fail> {
+    let (entry, len, fault) = row;
+    let mut guest = Guest::new(alloc, true, false)?;
+    put_descriptors(&mut guest.mem, DESC, &[(TABLE, *len, INDIRECT, 0)]);
+    put_descriptors(&mut guest.mem, TABLE, &[*entry; 3]);
+    guest.offer(1);
+    same(rt, row, &guest.serve(rt, 1).0, &Some(*fault));
     Ok(())
 }
 
 /// In a ring of 256: the len of all descriptors but the last, which refer each to the one behind it, the last
 /// one, and the fault.
-const LONG_LISTS: [(u32, Descriptor, Option<Fault>); 7] = [
+type LongList = (u32, Descriptor, Option<Fault>);
+
+const LONG_LISTS: [LongList; 7] = [
     (1, LAST, None),
     (1, TO_0, Some(Fault::Loop)),
     (1, (BASE, 1, NEXT, 256), Some(Fault::Loop)),
@@ -143,16 +167,21 @@ fn a_long_list_has_its_fault(rt: HostRuntime) -> Result<(), Fail> {
         mem,
         ring: ring.ok_or("no ring")?,
     };
-    for (len, last, fault) in LONG_LISTS {
-        for index in 0..255 {
-            let descriptor = (BASE, len, NEXT, index as u16 + 1);
-            put_descriptors(&mut guest.mem, DESC + 16 * index, &[descriptor]);
-        }
-        put_descriptors(&mut guest.mem, DESC + 16 * 255, &[last]);
-        // Each chain that was used stands at a place of its own.
-        let place = guest.mem.get_u16(USED + 2).unwrap_or(0);
-        guest.offer(place.wrapping_add(1));
-        assert_eq!(rt; guest.serve(&rt, 1).0, fault, "{len:x}, {last:?}");
+    for list in &LONG_LISTS {
+        check_long_list(&rt, &mut guest, list);
     }
     Ok(())
+}
+
+fn check_long_list(rt: &impl Abort, guest: &mut Guest, list: &LongList) {
+    let (len, last, fault) = list;
+    for index in 0..255 {
+        let descriptor = (BASE, *len, NEXT, index as u16 + 1);
+        put_descriptors(&mut guest.mem, DESC + 16 * index, &[descriptor]);
+    }
+    put_descriptors(&mut guest.mem, DESC + 16 * 255, &[*last]);
+    // Each chain that was used stands at a place of its own.
+    let place = guest.mem.get_u16(USED + 2).unwrap_or(0);
+    guest.offer(place.wrapping_add(1));
+    same(rt, list, &guest.serve(rt, 1).0, fault);
 }

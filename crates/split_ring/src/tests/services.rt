@@ -1,7 +1,9 @@
 //! Services row by row: what they use, how they close, and whether a notification is wanted.
 
-use super::{AVAIL, BASE, DESC, Guest, USED, USED_ONCE};
+use super::{AVAIL, BASE, DESC, Guest, USED, USED_ONCE, same};
 use chain::{Chain, Fault};
+use std::alloc::Global;
+use std::process::Abort;
 use std::test::Fail;
 
 /// What stands behind the used ring's entries before the service.
@@ -39,49 +41,54 @@ const SERVICES: [Service; 16] = [
 /// The used flags aren't zero before the service, as a device that doesn't use them leaves what the driver put.
 #[test]
 fn a_service_closes(rt: HostRuntime) -> Result<(), Fail> {
-    for (event_idx, second, idx, flags, used_event, fault, wanted, used_idx, behind) in SERVICES {
-        let mut guest = Guest::new(rt.alloc(), true, event_idx)?;
-        guest.offer(idx);
-        let _ = guest.mem.put_u16(AVAIL, flags);
-        let _ = guest.mem.put_u16(AVAIL + 6, second);
-        let _ = guest.mem.put_u16(AVAIL + 12, used_event);
-        let _ = guest.mem.put_u16(USED, 0xffff);
-        let _ = guest.mem.put_u16(USED + 36, MARK);
-        assert_eq!(rt;
-            guest.serve(&rt, 1),
-            (fault, wanted),
-            "{event_idx}, idx {idx:x}, flags {flags:x}, used_event {used_event:x}"
-        );
-        assert_eq!(rt;
-            guest.used(),
-            (Some(0), Some(used_idx), Some(behind)),
-            "{event_idx}, idx {idx:x}, flags {flags:x}, used_event {used_event:x}"
-        );
+    for service in &SERVICES {
+        check_service(&rt, rt.alloc(), service)?;
     }
     Ok(())
 }
 
-/// Places 0 and 1 are passed in the first service, and 2 in the second.
+fn check_service(rt: &impl Abort, alloc: Global, service: &Service) -> Result<(), Fail> {
+    let (event_idx, second, idx, flags, used_event, fault, wanted, used_idx, behind) = *service;
+    let mut guest = Guest::new(alloc, true, event_idx)?;
+    guest.offer(idx);
+    let _ = guest.mem.put_u16(AVAIL, flags);
+    let _ = guest.mem.put_u16(AVAIL + 6, second);
+    let _ = guest.mem.put_u16(AVAIL + 12, used_event);
+    let _ = guest.mem.put_u16(USED, 0xffff);
+    let _ = guest.mem.put_u16(USED + 36, MARK);
+    same(rt, service, &guest.serve(rt, 1), &(fault, wanted));
+    let used = (Some(0), Some(used_idx), Some(behind));
+    same(rt, service, &guest.used(), &used);
+    Ok(())
+}
+
+/// used_event, and whether a notification is wanted of the first service, which passes places 0 and 1, and of
+/// the second, which passes place 2.
+type Event = (u16, bool, bool);
+
+const EVENTS: [Event; 4] = [
+    (0, true, false),
+    (1, true, false),
+    (2, false, true),
+    (3, false, false),
+];
+
 #[test]
 fn a_driver_names_the_place_that_it_waits_for(rt: HostRuntime) -> Result<(), Fail> {
-    for (used_event, in_first, in_second) in [
-        (0, true, false),
-        (1, true, false),
-        (2, false, true),
-        (3, false, false),
-    ] {
-        let mut guest = Guest::new(rt.alloc(), true, true)?;
-        let _ = guest.mem.put_u16(AVAIL + 12, used_event);
-        guest.offer(2);
-        let first = guest.serve(&rt, 1);
-        guest.offer(3);
-        let second = guest.serve(&rt, 1);
-        assert_eq!(rt;
-            (first, second),
-            ((None, in_first), (None, in_second)),
-            "used_event {used_event}"
-        );
+    for event in &EVENTS {
+        check_event(&rt, rt.alloc(), event)?;
     }
+    Ok(())
+}
+
+fn check_event(rt: &impl Abort, alloc: Global, event: &Event) -> Result<(), Fail> {
+    let (used_event, in_first, in_second) = *event;
+    let mut guest = Guest::new(alloc, true, true)?;
+    let _ = guest.mem.put_u16(AVAIL + 12, used_event);
+    guest.offer(2);
+    same(rt, event, &guest.serve(rt, 1), &(None, in_first));
+    guest.offer(3);
+    same(rt, event, &guest.serve(rt, 1), &(None, in_second));
     Ok(())
 }
 
@@ -89,55 +96,67 @@ fn a_driver_names_the_place_that_it_waits_for(rt: HostRuntime) -> Result<(), Fai
 fn a_request_is_used(rt: HostRuntime) -> Result<(), Fail> {
     let mut guest = Guest::new(rt.alloc(), false, false)?;
     guest.offer(1);
-    assert_eq!(rt; guest.serve(&rt, 0x201), (None, true));
-    assert!(rt; guest.mem.part(USED, 12) == Some(USED_ONCE.as_slice()));
+    same(&rt, &"first", &guest.serve(&rt, 0x201), &(None, true));
+    same(&rt, &"used", &guest.has(USED, &USED_ONCE), &true);
     // The second service finds nothing, so it wants no notification.
-    assert_eq!(rt; guest.serve(&rt, 0x201), (None, false));
-    assert!(rt; guest.mem.part(USED, 12) == Some(USED_ONCE.as_slice()));
+    same(&rt, &"second", &guest.serve(&rt, 0x201), &(None, false));
+    same(&rt, &"as before", &guest.has(USED, &USED_ONCE), &true);
     Ok(())
 }
+
+/// The used ring once 65535 chains were used with 1 byte each, and then two with 7.
+const TURNED: [u8; 38] = [
+    0, 0, 1, 0, 0, 0, 0, 0, 7, 0, 0, 0, 0, 0, 0, 0, 1, 0, 0, 0, 0, 0, 0, 0, 1, 0, 0, 0, 0, 0, 0, 0,
+    7, 0, 0, 0, 1, 0,
+];
 
 /// After 65535 chains the next two are used at the last entry and at the first, and the idx turns over.
 #[test]
 fn places_turn_over(rt: HostRuntime) -> Result<(), Fail> {
     let mut guest = Guest::new(rt.alloc(), true, true)?;
-    for round in 1..=0x3fff {
-        guest.offer(4 * round);
-        let _ = guest.serve(&rt, 1);
-    }
+    serve_four_at_a_time(&rt, &mut guest);
     guest.offer(0xffff);
     let _ = guest.serve(&rt, 1);
-    assert_eq!(rt; guest.used(), (Some(0), Some(0xffff), Some(0xffff)));
+    same(
+        &rt,
+        &"65535",
+        &guest.used(),
+        &(Some(0), Some(0xffff), Some(0xffff)),
+    );
     guest.offer(1);
-    assert_eq!(rt; guest.serve(&rt, 7), (None, true));
-    let used = [
-        0, 0, 1, 0, 0, 0, 0, 0, 7, 0, 0, 0, 0, 0, 0, 0, 1, 0, 0, 0, 0, 0, 0, 0, 1, 0, 0, 0, 0, 0,
-        0, 0, 7, 0, 0, 0, 1, 0,
-    ];
-    assert!(rt; guest.mem.part(USED, 38) == Some(used.as_slice()));
+    same(&rt, &"two more", &guest.serve(&rt, 7), &(None, true));
+    same(&rt, &"used", &guest.has(USED, &TURNED), &true);
     Ok(())
+}
+
+/// 65532 chains, of which each was used with 1 byte.
+fn serve_four_at_a_time(rt: &impl Abort, guest: &mut Guest) {
+    for round in 1..=0x3fff {
+        guest.offer(4 * round);
+        let _ = guest.serve(rt, 1);
+    }
 }
 
 /// What is on offer is read once: the chain that is written over the idx changes the next service alone.
 #[test]
 fn a_chain_may_lie_over_the_available_ring(rt: HostRuntime) -> Result<(), Fail> {
     let mut guest = Guest::new(rt.alloc(), true, true)?;
-    let mut chain = Chain::new();
     let _ = guest.mem.put_u64(DESC + 16, AVAIL);
     guest.offer(1);
-    assert!(rt; guest.ring.lies_in(&guest.mem));
-    assert_eq!(rt; guest.ring.open(&guest.mem), Ok(()));
-    let taken = guest.ring.take(&guest.mem, &mut chain).ok().flatten();
-    let token = taken.ok_or("no chain")?;
-    assert!(rt; chain.writable_len() == 0x201);
-    chain.write_at(&mut guest.mem, 0, &[0x10; 4]);
-    assert!(rt; guest.ring.lies_in(&guest.mem));
-    guest.ring.give(&mut guest.mem, token, 4, true);
-    assert_eq!(rt; guest.ring.take(&guest.mem, &mut chain), Ok(None));
-    let _ = guest.ring.close(&mut guest.mem);
-    assert_eq!(rt; guest.used(), (Some(0), Some(1), Some(1)));
-    assert_eq!(rt; guest.serve(&rt, 0), (Some(Fault::Jump), false));
-    assert_eq!(rt; guest.used(), (Some(0), Some(1), Some(1)));
+    let used_once = (Some(0), Some(1), Some(1));
+    same(&rt, &"open", &guest.open(&rt), &Ok(()));
+    same(
+        &rt,
+        &"over idx",
+        &guest.serve_next(&rt, &[0x10; 4], 4),
+        &Ok(true),
+    );
+    same(&rt, &"no more", &guest.serve_next(&rt, &[], 0), &Ok(false));
+    let _ = guest.close(&rt);
+    same(&rt, &"used", &guest.used(), &used_once);
+    let jump = (Some(Fault::Jump), false);
+    same(&rt, &"next service", &guest.serve(&rt, 0), &jump);
+    same(&rt, &"as before", &guest.used(), &used_once);
     Ok(())
 }
 
@@ -146,20 +165,19 @@ fn a_token_that_is_dropped_leaves_its_chain(rt: HostRuntime) -> Result<(), Fail>
     let mut guest = Guest::new(rt.alloc(), true, true)?;
     let mut chain = Chain::new();
     guest.offer(1);
-    assert!(rt; guest.ring.lies_in(&guest.mem));
-    assert_eq!(rt;
-        guest.ring.take(&guest.mem, &mut chain),
-        Ok(None),
-        "before the first open"
+    same(&rt, &"before open", &guest.take(&rt, &mut chain), &Ok(None));
+    same(&rt, &"open", &guest.open(&rt), &Ok(()));
+    let first = guest.take(&rt, &mut chain);
+    same(&rt, &"once", &first.is_ok(), &true);
+    same(&rt, &"again", &guest.take(&rt, &mut chain), &first);
+    same(&rt, &"close", &guest.close(&rt), &false);
+    same(
+        &rt,
+        &"none used",
+        &guest.used(),
+        &(Some(0), Some(0), Some(0)),
     );
-    assert_eq!(rt; guest.ring.open(&guest.mem), Ok(()));
-    let first = guest.ring.take(&guest.mem, &mut chain);
-    let second = guest.ring.take(&guest.mem, &mut chain);
-    assert!(rt; first.is_ok());
-    assert_eq!(rt; first, second);
-    assert!(rt; !guest.ring.close(&mut guest.mem));
-    assert_eq!(rt; guest.used(), (Some(0), Some(0), Some(0)));
-    assert_eq!(rt; guest.serve(&rt, 1), (None, true));
+    same(&rt, &"still there", &guest.serve(&rt, 1), &(None, true));
     Ok(())
 }
 
@@ -170,15 +188,19 @@ fn nothing_is_taken_after_a_fault(rt: HostRuntime) -> Result<(), Fail> {
     let mut chain = Chain::new();
     let _ = guest.mem.put_u64(DESC + 16, BASE + 0x1_0000);
     guest.offer(1);
-    assert!(rt; guest.ring.lies_in(&guest.mem));
-    assert_eq!(rt; guest.ring.open(&guest.mem), Ok(()));
-    assert_eq!(rt; guest.ring.take(&guest.mem, &mut chain), Err(Fault::Range));
-    assert!(rt; chain.buffers().is_empty());
-    assert_eq!(rt; guest.ring.take(&guest.mem, &mut chain), Ok(None));
-    assert!(rt; !guest.ring.close(&mut guest.mem));
+    same(&rt, &"open", &guest.open(&rt), &Ok(()));
+    same(
+        &rt,
+        &"fault",
+        &guest.take(&rt, &mut chain),
+        &Err(Fault::Range),
+    );
+    same(&rt, &"emptied", &chain.buffers().len(), &0);
+    same(&rt, &"no more", &guest.take(&rt, &mut chain), &Ok(None));
+    same(&rt, &"close", &guest.close(&rt), &false);
     // The place is as before: the chain is used at place 0 once the driver has mended it.
     let _ = guest.mem.put_u64(DESC + 16, BASE);
-    assert_eq!(rt; guest.serve(&rt, 0x201), (None, true));
-    assert!(rt; guest.mem.part(USED, 12) == Some(USED_ONCE.as_slice()));
+    same(&rt, &"mended", &guest.serve(&rt, 0x201), &(None, true));
+    same(&rt, &"used", &guest.has(USED, &USED_ONCE), &true);
     Ok(())
 }

@@ -1,12 +1,15 @@
 //! Which numbers and areas make a ring.
 
-use super::{AVAIL, BASE, DESC, USED};
+use super::{AVAIL, BASE, DESC, USED, same};
 use crate::SplitRing;
 use guest_memory::GuestMemory;
+use std::process::Abort;
 use std::test::Fail;
 
 /// A queue size, the addresses of descriptor table, available ring and used ring, and whether there is a ring.
-const SETUPS: [(u32, u64, u64, u64, bool); 21] = [
+type Setup = (u32, u64, u64, u64, bool);
+
+const SETUPS: [Setup; 21] = [
     (4, DESC, AVAIL, USED, true),
     (1, DESC, AVAIL, USED, true),
     (256, DESC, AVAIL, USED, true),
@@ -33,13 +36,14 @@ const SETUPS: [(u32, u64, u64, u64, bool); 21] = [
 #[test]
 fn a_ring_has_a_queue_size_and_areas(rt: HostRuntime) -> Result<(), Fail> {
     let mem = GuestMemory::new(rt.alloc(), BASE, 0x1_0000)?;
-    for (n, desc, driver, device, made) in SETUPS {
-        let ring = SplitRing::new(&mem, n, desc, driver, device, true, true);
-        assert_eq!(rt;
-            ring.is_some(),
-            made,
-            "{n}, {desc:x}, {driver:x}, {device:x}"
-        );
+    for setup in &SETUPS {
+        check_setup(&rt, &mem, setup);
     }
     Ok(())
+}
+
+fn check_setup(rt: &impl Abort, mem: &GuestMemory, setup: &Setup) {
+    let (n, desc, driver, device, made) = *setup;
+    let ring = SplitRing::new(mem, n, desc, driver, device, true, true);
+    same(rt, setup, &ring.is_some(), &made);
 }
