@@ -283,10 +283,13 @@ class Mischief:
         """Bytes over a virtqueue's areas."""
         queue = self.queue()
         self.guest.put(queue.at + self.dice.randrange(0x200), self.dice.randbytes(self.dice.randrange(1, 9)))
+        self.notify()
 
     def jump(self):
         """An available idx, or an event suppression, that nobody would write."""
-        self.guest.put(self.queue().driver_area + self.dice.choice([0, 2]), (self.number() & 0xFFFF).to_bytes(2, "little"))
+        queue = self.queue()
+        self.guest.put(queue.driver_area + self.dice.choice([0, 2]), (self.number() & 0xFFFF).to_bytes(2, "little"))
+        self.guest.write(queue.window, 0x050, queue.number)
 
     def register(self):
         offset = self.dice.choice(REGISTERS) if self.dice.random() < 0.8 else self.dice.randrange(0x1000)
