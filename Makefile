@@ -1,9 +1,11 @@
-# The two commands of the README, and the measurements.
-.PHONY: run test bench
+# The two commands of the README, the measurements, and tries from outside.
+.PHONY: run test bench fuzz broken
 
 TRACE ?= examples/two-guests.trace
 IMAGE ?=
 SAVE ?=
+N ?= 1000
+FROM ?= 0
 PROGRAM = crates/vreplay/out/vreplay
 
 # Proves what the program stands on, builds it, and replays a trace. TRACE=FILE names another, IMAGE=FILE an
@@ -21,3 +23,11 @@ test:
 # Times the built program over traces that the script makes.
 bench:
 	@bench/run
+
+# Replays N traces of hostile and sane guests on the built program, from the seed FROM on.
+fuzz:
+	@fuzz/run $(N) --from $(FROM)
+
+# Hands broken traces to the built program.
+broken:
+	@fuzz/broken

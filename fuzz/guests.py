@@ -1,0 +1,356 @@
+"""Guests that a board may meet: drivers that do what they should, and drivers that don't.
+
+A guest writes down what it does, line by line, before anything runs; it never sees an answer. A sane guest also
+writes down which answers its own driver relies on: that its disk gives back what it wrote, that what was typed
+arrives, and that what it transmits comes out. A hostile guest runs the same drivers, but twists what they write
+into memory, and does mischief between their steps.
+"""
+from collections import namedtuple
+
+from queues import PackedQueue, SplitQueue
+
+Slot = namedtuple("Slot", "base length start count read_only columns rows")
+
+# What a board offers its drivers: the low word of each window's features, and the high word of both.
+Offered = namedtuple("Offered", "block console high")
+
+# Where a guest keeps its virtqueues, block, receive and transmit: from its memory's base on.
+PLACES = [0x0000, 0x3000, 0x4800]
+MEMORIES = [0x6000, 0x8000, 0x10000]
+
+SECTOR = 512
+INDIRECT_DESC, EVENT_IDX, CONSOLE_SIZE = 1 << 28, 1 << 29, 1 << 0
+VERSION_1, RING_PACKED, NOTIFICATION_DATA = 1 << 0, 1 << 2, 1 << 6
+READ, WRITE, FLUSH, IDENTITY = 0, 1, 4, 8
+OK, IOERR = 0, 1
+IDENTITY_TEXT = b"vreplay-block".ljust(20, b"\0")
+PENDING_LIMIT = 4096
+
+ODD_NUMBERS = [0, 1, 2, 3, 4, 15, 16, 17, 255, 256, 257, 0x7FFF, 0x8000, 0xFFFF, 0x10000, 0x7FFFFFFF, 0x80000000, 0xFFFFFFFF]
+REGISTERS = [0x000, 0x004, 0x008, 0x00C, 0x010, 0x014, 0x020, 0x024, 0x030, 0x034, 0x038, 0x044, 0x050, 0x060, 0x064, 0x070,
+             0x080, 0x084, 0x090, 0x094, 0x0A0, 0x0A4, 0x0AC, 0x0B0, 0x0BC, 0x0FC, 0x100, 0x104, 0x108, 0x10C, 0x114, 0x130]
+
+
+class Guest:
+    """What one guest does: its events, each as a word and its fields behind the slot."""
+
+    def __init__(self, dice, slot, wildness=0.0):
+        self.dice, self.slot, self.wildness = dice, slot, wildness
+        self.events, self.expected = [], {}
+
+    def do(self, word, fields, reply=None, output="-"):
+        """Writes an event down, and the reply that the guest relies on, where it does."""
+        if reply is not None and not self.wildness:
+            self.expected[len(self.events)] = f"{reply} {output}"
+        self.events.append((word, fields))
+
+    def read(self, window, offset, width=4):
+        self.do("r", f"{window} {offset:03x} {width}")
+
+    def write(self, window, offset, value, width=4, reply=None, output="-"):
+        value %= 1 << 8 * width
+        self.do("w", f"{window} {offset:03x} {width} {value:0{2 * width}x}", reply, output)
+
+    def look(self, address, length, found=None):
+        self.do("mr", f"{address:x} {length:x}", None if found is None else f"b:{found.hex() or '-'}")
+
+    def put(self, address, data):
+        self.do("mw", f"{address:x} {data.hex() or '-'}")
+
+
+class Driver:
+    """A driver of one window: brings it up with its virtqueues."""
+
+    def __init__(self, guest, window, offered, places):
+        dice, self.guest, self.window = guest.dice, guest, window
+        self.low = (offered.block if window == "b" else offered.console) & dice.choice([0, INDIRECT_DESC, EVENT_IDX, 0xFFFFFFFF])
+        is_packed = bool(offered.high & RING_PACKED) and dice.random() < 0.5
+        self.high = VERSION_1 | (RING_PACKED if is_packed else 0) | (offered.high & dice.choice([0, 0, NOTIFICATION_DATA]))
+        kind = PackedQueue if is_packed else SplitQueue
+        self.queues = [
+            kind(guest, window, number, dice.choice(kind.SIZES), guest.slot.base + place, bool(self.low & INDIRECT_DESC))
+            for number, place in enumerate(places)]
+
+    def bring_up(self):
+        guest, window = self.guest, self.window
+        for status in [0, 1, 3]:
+            guest.write(window, 0x070, status)
+        for selector, word in [(0, self.low), (1, self.high)]:
+            guest.write(window, 0x024, selector)
+            guest.write(window, 0x020, word)
+        guest.write(window, 0x070, 0xB)
+        for queue in self.queues:
+            queue.set_up()
+        guest.write(window, 0x070, 0xF)
+
+    def acknowledge(self):
+        self.guest.read(self.window, 0x060)
+        self.guest.write(self.window, 0x064, self.guest.dice.choice([1, 3]))
+
+
+class BlockDriver(Driver):
+    """Reads and writes sectors, and knows what its disk must hold."""
+
+    def __init__(self, guest, offered, disk):
+        super().__init__(guest, "b", offered, PLACES[:1])
+        self.disk, self.checks = bytearray(disk), []
+
+    def step(self):
+        """Some requests, one notify, and a look at what became of them."""
+        queue, guest = self.queues[0], self.guest
+        for _ in range(guest.dice.randrange(1, 4)):
+            self.request(guest.dice.choice([READ, READ, READ, WRITE, WRITE, FLUSH, IDENTITY]))
+        queue.publish()
+        guest.write("b", 0x050, 0, reply="done")
+        for address, data in self.checks:
+            guest.look(address, len(data), data)
+        queue.look_at_used()
+        queue.give_buffers_back()
+        self.checks = []
+        if guest.dice.random() < 0.5:
+            self.acknowledge()
+
+    def request(self, what):
+        """One request, where the virtqueue and the room for buffers have place for it."""
+        guest, queue, sectors = self.guest, self.queues[0], self.guest.slot.count
+        length = SECTOR * guest.dice.choice([0, 1, 1, 1, 2, 3]) if what in (READ, WRITE) else guest.dice.choice([20, 30])
+        sector = guest.dice.randrange(sectors + 1)
+        if queue.room_left() < length + 200:
+            return
+        header, data, status = queue.buffer(16), queue.pieces(length), queue.buffer(1)
+        if queue.left < len(data) + 2:
+            return
+        is_outside = what in (READ, WRITE) and SECTOR * (sectors - sector) < length
+        is_refused = is_outside or what == WRITE and guest.slot.read_only
+        guest.put(header, what.to_bytes(4, "little") + bytes(4) + sector.to_bytes(8, "little"))
+        guest.put(status, b"\xff")
+        if what == WRITE:
+            self.write_sectors(data, sector, is_refused)
+        elif what in (READ, IDENTITY) and not is_refused:
+            found = IDENTITY_TEXT if what == IDENTITY else bytes(self.disk[SECTOR * sector:SECTOR * sector + length])
+            self.rely_on(data, found)
+        self.rely_on([(status, 1)], bytes([IOERR if is_refused else OK]))
+        queue.offer([(header, 16, False)] + [(at, n, what != WRITE) for at, n in data] + [(status, 1, True)])
+
+    def write_sectors(self, pieces, sector, is_refused):
+        """Fills the pieces with bytes to write, and notes what the disk then holds."""
+        whole = b""
+        for address, length in pieces:
+            data = self.guest.dice.randbytes(length)
+            self.guest.put(address, data)
+            whole += data
+        if not is_refused:
+            self.disk[SECTOR * sector:SECTOR * sector + len(whole)] = whole
+
+    def rely_on(self, pieces, data):
+        """What the pieces hold after this request; a later one of the same notify changes no byte of them."""
+        for address, length in pieces:
+            self.checks.append((address, data[:length]))
+            data = data[length:]
+
+
+class ConsoleDriver(Driver):
+    """Types to the guest, receives what was typed, and transmits."""
+
+    def __init__(self, guest, offered):
+        super().__init__(guest, "c", offered, PLACES[1:])
+        self.pending, self.waiting, self.is_up = b"", [], False
+
+    def bring_up(self):
+        super().bring_up()
+        self.waiting, self.is_up = [], True
+
+    def step(self):
+        self.guest.dice.choice([self.type, self.type, self.receive, self.transmit, self.resize, self.emergency])()
+        if self.guest.dice.random() < 0.3:
+            self.acknowledge()
+
+    def type(self):
+        """Input from outside; more than fits is dropped."""
+        data = self.guest.dice.randbytes(self.guest.dice.choice([0, 1, 5, 30, 300, 4096]))
+        taken = data[:PENDING_LIMIT - len(self.pending)]
+        self.pending += taken
+        self.guest.do("in", data.hex() or "-", f"took:{len(taken):x}")
+        self.look_at_received()
+
+    def receive(self):
+        """Buffers for what is typed, in a virtqueue of which all buffers have been used."""
+        queue, guest = self.queues[0], self.guest
+        if self.waiting or not self.is_up:
+            return
+        queue.give_buffers_back()
+        for _ in range(guest.dice.randrange(1, 3)):
+            pieces = queue.pieces(guest.dice.choice([1, 3, 40, 200]))
+            if queue.left >= len(pieces):
+                queue.offer([(at, n, True) for at, n in pieces])
+                self.waiting.append(pieces)
+        queue.publish()
+        guest.write("c", 0x050, 0, reply="done")
+        self.look_at_received()
+
+    def look_at_received(self):
+        """Each chain in turn takes what is pending, as long as anything is."""
+        while self.waiting and self.pending:
+            for address, length in self.waiting.pop(0):
+                found, self.pending = self.pending[:length], self.pending[length:]
+                self.guest.look(address, len(found), found)
+        if self.is_up and not self.waiting:
+            self.queues[0].look_at_used()
+
+    def transmit(self):
+        queue, guest, out = self.queues[1], self.guest, b""
+        if not self.is_up:
+            return
+        queue.give_buffers_back()
+        for _ in range(guest.dice.randrange(1, 3)):
+            pieces = queue.pieces(guest.dice.choice([0, 1, 20, 200]))
+            if queue.left >= len(pieces):
+                out += self.fill(pieces)
+                queue.offer([(at, n, False) for at, n in pieces])
+        queue.publish()
+        guest.write("c", 0x050, 1, reply="done", output=out.hex() or "-")
+        queue.look_at_used()
+
+    def fill(self, pieces):
+        """Fills buffers with bytes to transmit."""
+        data = [self.guest.dice.randbytes(length) for _, length in pieces]
+        for (address, _), part in zip(pieces, data):
+            self.guest.put(address, part)
+        return b"".join(data)
+
+    def resize(self):
+        columns, rows = self.guest.dice.randrange(1 << 16), self.guest.dice.randrange(1 << 16)
+        self.guest.do("sz", f"{columns:x} {rows:x}", "done")
+        self.guest.read("c", 0x100)
+        self.guest.read("c", 0x0FC)
+
+    def emergency(self):
+        value, width = self.guest.dice.randrange(1 << 32), self.guest.dice.choice([1, 2, 4])
+        self.guest.write("c", 0x108, value, width, reply="done", output=f"{value % 256:02x}")
+
+
+class Mischief:
+    """What a hostile guest does between the steps of its drivers."""
+
+    def __init__(self, guest, drivers, types):
+        self.guest, self.drivers, self.dice = guest, drivers, guest.dice
+        self.ways = [self.odd_request] * 6 + [self.scribble, self.jump, self.notify, self.notify] + [self.restart] * 4
+        self.ways += [self.register, self.register, self.odd_read, self.status, self.move, self.outside]
+        self.ways += [self.type] if types else []
+
+    def step(self):
+        self.dice.choice(self.ways)()
+
+    def queue(self):
+        return self.dice.choice(self.dice.choice(self.drivers).queues)
+
+    def window(self):
+        return self.dice.choice("bc")
+
+    def number(self):
+        """A number at which something may go wrong."""
+        return self.dice.choice(ODD_NUMBERS + [self.address(), self.dice.randrange(1 << 32), self.dice.randrange(1 << 64)])
+
+    def address(self):
+        """An address, most times in the guest's memory, often in the areas of a virtqueue."""
+        slot, queue = self.guest.slot, self.queue()
+        ends = [slot.base, slot.base + slot.length, slot.base + slot.length // 2]
+        areas = [queue.at, queue.driver_area, queue.device_area, queue.at + self.dice.randrange(0x400)]
+        return (self.dice.choice(ends + 2 * areas) + self.dice.choice([0, 0, 0, -1, 1, 2, 16])) % (1 << 64)
+
+    def odd_request(self):
+        """A request of any type at any sector, over any buffers."""
+        queue = self.queue()
+        queue.give_buffers_back()
+        header, kind, sector = queue.buffer(16), self.dice.choice([0, 0, 0, 1, 1, 4, 8, 11, 13, 1 << 31]), self.dice.choice(
+            [0, 0, 1, self.guest.slot.count, self.guest.slot.count + 1, (1 << 64) - 1, 1 << 55, 1 << 32])
+        self.guest.put(header, kind.to_bytes(4, "little") + bytes(4) + sector.to_bytes(8, "little"))
+        buffers = [(self.odd_buffer(queue), self.dice.choice([0, 1, 16, 20, 511, 512, 512, 513, 1024, self.number() % (1 << 32)]),
+                    self.dice.random() < 0.6) for _ in range(self.dice.randrange(4))]
+        status = [(queue.buffer(1), 1, True)] if self.dice.random() < 0.8 else []
+        buffers = [(header, self.dice.choice([16, 16, 16, 16, 15, 17]), self.dice.random() < 0.05)] + buffers + status
+        if queue.left >= len(buffers):
+            queue.offer(buffers)
+        queue.publish()
+        self.guest.write(queue.window, 0x050, queue.number)
+        queue.look_at_used()
+        self.guest.read(queue.window, 0x070)
+
+    def odd_buffer(self, queue):
+        return queue.buffer(512) if self.dice.random() < 0.5 else self.address()
+
+    def scribble(self):
+        """Bytes over a virtqueue's areas."""
+        queue = self.queue()
+        self.guest.put(queue.at + self.dice.randrange(0x200), self.dice.randbytes(self.dice.randrange(1, 9)))
+        self.notify()
+
+    def jump(self):
+        """An available idx, or an event suppression, that nobody would write."""
+        queue = self.queue()
+        self.guest.put(queue.driver_area + self.dice.choice([0, 2]), (self.number() & 0xFFFF).to_bytes(2, "little"))
+        self.guest.write(queue.window, 0x050, queue.number)
+
+    def register(self):
+        offset = self.dice.choice(REGISTERS) if self.dice.random() < 0.8 else self.dice.randrange(0x1000)
+        self.guest.write(self.window(), offset, self.number(), self.dice.choice([4, 4, 4, 2, 1]))
+
+    def odd_read(self):
+        self.guest.read(self.window(), self.dice.choice(REGISTERS + [self.dice.randrange(0x1000)]), self.dice.choice([4, 4, 2, 1]))
+
+    def status(self):
+        self.guest.write(self.window(), 0x070, self.dice.choice([0, 1, 3, 4, 8, 0xB, 0xF, 0x40, 0x80, 0xFF, 0xFFFFFFFF]))
+
+    def notify(self):
+        self.guest.write(self.window(), 0x050, self.dice.choice([0, 0, 1, 1, 2, 0xFFFF, 0x10000, 0x80010000]))
+
+    def restart(self):
+        self.dice.choice(self.drivers).bring_up()
+
+    def move(self):
+        """A queue stopped, moved over other areas and made ready again, with what they hold."""
+        queue, window = self.queue(), self.window()
+        self.guest.write(window, 0x030, self.dice.choice([0, 0, 1, 2]))
+        self.guest.write(window, 0x044, 0)
+        self.guest.write(window, 0x038, self.dice.choice([1, 2, 4, queue.size, self.number()]))
+        for offset in (0x080, 0x090, 0x0A0):
+            self.guest.write(window, offset, self.dice.choice([queue.at, queue.at + 0x100, queue.at + 0x200, self.number()]))
+        self.guest.write(window, 0x044, 1)
+        self.guest.write(window, 0x050, queue.number)
+
+    def outside(self):
+        """Memory at and past both ends."""
+        slot = self.guest.slot
+        at = (self.dice.choice([slot.base, slot.base + slot.length]) + self.dice.randrange(-3, 4)) % (1 << 64)
+        if self.dice.random() < 0.5:
+            self.guest.look(at, self.dice.choice([0, 1, 2, 4, 0xFFFFFFFF]))
+        else:
+            self.guest.put(at, self.dice.randbytes(self.dice.randrange(4)))
+
+    def type(self):
+        if self.dice.random() < 0.5:
+            self.guest.do("in", self.dice.randbytes(self.dice.choice([0, 1, 100, 5000])).hex() or "-")
+        else:
+            self.guest.do("sz", f"{self.dice.randrange(1 << 16):x} {self.dice.randrange(1 << 16):x}")
+
+
+def live(guest, offered, disk, count):
+    """Makes a guest run its drivers until it has done about `count` events, and then look at all that it has."""
+    dice, has_console = guest.dice, bool(offered.console & CONSOLE_SIZE)
+    drivers = [BlockDriver(guest, offered, disk)] + ([ConsoleDriver(guest, offered)] if has_console else [])
+    mischief = Mischief(guest, drivers, has_console)
+    if has_console and dice.random() < 0.3:
+        drivers[1].type()
+    for driver in drivers:
+        driver.bring_up()
+    while len(guest.events) < count:
+        if dice.random() < guest.wildness:
+            mischief.step()
+        else:
+            dice.choice(drivers).step()
+        if dice.random() < 0.05:
+            dice.choice(drivers).bring_up()
+    for window in "bc":
+        for offset in (0x034, 0x044, 0x060, 0x070, 0x0FC, 0x100):
+            guest.read(window, offset)
+    guest.look(guest.slot.base, guest.slot.length)

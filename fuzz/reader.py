@@ -1,0 +1,72 @@
+"""A second reader of the trace text, written from docs/formats.md alone.
+
+`fault_of` answers where and why a text is no trace, as the last line of the program tells it, or none.
+"""
+import re
+
+# The kinds of fault, in the order in which they are looked for within a line.
+KINDS = ["Cut", "Header", "Word", "Order", "Fields", "Number", "Choice", "Bytes"]
+
+# The fields of each line behind its first word. A number says how many bits it may have.
+LINES = {
+    "cache": [32],
+    "slot": [64, 64, 64, 64, "mode", 16, 16],
+    "r": [8, "win", "off", "wid"],
+    "w": [8, "win", "off", "wid", "val"],
+    "mr": [8, 64, 32],
+    "mw": [8, 64, "bytes"],
+    "in": [8, "bytes"],
+    "sz": [8, 16, 16],
+}
+
+CHOICES = {"win": ["b", "c"], "wid": ["1", "2", "4"], "mode": ["rw", "ro"]}
+
+
+def fault_of(text):
+    """The first line with a fault and its kind, as (line, kind), or none where `text` (bytes) is a trace."""
+    rest, line, had_event = text.decode("latin-1"), 0, False
+    while rest or line < 2:
+        line += 1
+        cut = rest.find("\n")
+        if cut < 0:
+            return line, "Cut"
+        kind = fault_in(rest[:cut], line, had_event)
+        if kind:
+            return line, kind
+        had_event = had_event or line > 2 and not rest.startswith("slot ")
+        rest = rest[cut + 1:]
+    return None
+
+
+def fault_in(text, line, had_event):
+    """The kind of fault of one line, or none."""
+    if line == 1:
+        return None if text == "vreplay 1" else "Header"
+    word, *fields = text.split(" ")
+    if word not in LINES or (word == "cache") != (line == 2):
+        return "Word"
+    if word == "slot" and had_event:
+        return "Order"
+    if len(fields) != len(LINES[word]):
+        return "Fields"
+    spelled = dict(zip(LINES[word], fields))
+    faults = {fault_of_field(field, kind, spelled.get("wid")) for field, kind in zip(fields, LINES[word])}
+    return min(faults - {None}, key=KINDS.index, default=None)
+
+
+def fault_of_field(text, kind, width):
+    """The kind of fault of one field, or none. `width` is how the width is spelled in its line."""
+    if kind in CHOICES:
+        return None if text in CHOICES[kind] else "Choice"
+    if kind == "bytes":
+        return None if text == "-" or re.fullmatch("([0-9a-f]{2})+", text) else "Bytes"
+    if kind == "off":
+        digits = 3
+    elif kind == "val":
+        if width not in CHOICES["wid"]:
+            return None
+        digits = 2 * int(width)
+    else:
+        is_number = re.fullmatch("0|[1-9a-f][0-9a-f]*", text) and int(text, 16) < 1 << kind
+        return None if is_number else "Number"
+    return None if re.fullmatch("[0-9a-f]{%d}" % digits, text) else "Number"

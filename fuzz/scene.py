@@ -1,0 +1,65 @@
+"""A board with its guests and the order of their events, from a seed."""
+import random
+
+from guests import MEMORIES, SECTOR, Guest, Slot, live
+
+BASES = [0x80000000, 0x80000000, 0, 0x40000000, (1 << 64) - 0x10000]
+CACHES = [1, 2, 3, 8, 65536]
+WILDNESS = [0, 0, 0.1, 0.4, 0.8]
+STRANGERS = ["r {} b 000 4", "w {} b 070 4 00000000", "w {} c 050 4 00000000", "mr {} 80000000 4", "mw {} 80000000 ff"]
+
+
+class Scene:
+    """Two to four guests on one board, each with a run of the image's sectors for its disk."""
+
+    def __init__(self, seed, offered):
+        dice = random.Random(seed)
+        self.cache = dice.choice(CACHES)
+        self.guests, start = [], dice.randrange(3)
+        for _ in range(dice.randrange(2, 5)):
+            length, count = dice.choice(MEMORIES), dice.choice([0, 1, 2, 4, 8])
+            base = min(dice.choice(BASES), (1 << 64) - length)
+            slot = Slot(base, length, start, count, dice.random() < 0.2, dice.randrange(200), dice.randrange(100))
+            self.guests.append(Guest(dice, slot, dice.choice(WILDNESS)))
+            start += count + dice.choice([0, 0, 1, 2])
+        self.image = dice.randbytes(SECTOR * (start + dice.randrange(2)))
+        for guest in self.guests:
+            first = SECTOR * guest.slot.start
+            live(guest, offered, self.image[first:first + SECTOR * guest.slot.count], dice.randrange(60, 200))
+        self.lines = list(self.interleaved(dice))
+
+    def interleaved(self, dice):
+        """The events of all guests in one order, as (guest, number of the event), and now and then one of nobody's."""
+        done = [0] * len(self.guests)
+        while any(left := [len(guest.events) - count for guest, count in zip(self.guests, done)]):
+            guest = dice.choices(range(len(done)), left)[0]
+            for _ in range(min(left[guest], dice.choice([1, 1, 2, 5, 20]))):
+                yield guest, done[guest]
+                done[guest] += 1
+            if dice.random() < 0.01:
+                yield None, dice.choice(STRANGERS).format(f"{dice.randrange(len(done), 256):x}")
+
+    def trace(self, cache=None):
+        """The whole trace."""
+        return self.text(cache or self.cache, range(len(self.guests)), [
+            what if guest is None else self.event(guest, what, guest) for guest, what in self.lines])
+
+    def trace_alone(self, guest):
+        """The trace of a board with this guest alone, as its slot 0."""
+        return self.text(self.cache, [guest], [self.event(guest, number, 0) for number in range(len(self.guests[guest].events))])
+
+    def text(self, cache, guests, events):
+        return "\n".join(["vreplay 1", f"cache {cache:x}"] + [slot_line(self.guests[guest].slot) for guest in guests] + events) + "\n"
+
+    def event(self, guest, number, slot):
+        word, fields = self.guests[guest].events[number]
+        return f"{word} {slot:x} {fields}"
+
+    def is_own_byte(self, at):
+        """Whether a byte of the image lies in any guest's disk."""
+        return any(slot.start <= at // SECTOR < slot.start + slot.count for slot in (guest.slot for guest in self.guests))
+
+
+def slot_line(slot):
+    mode = "ro" if slot.read_only else "rw"
+    return f"slot {slot.base:x} {slot.length:x} {slot.start:x} {slot.count:x} {mode} {slot.columns:x} {slot.rows:x}"
