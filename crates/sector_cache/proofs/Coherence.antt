@@ -1,9 +1,10 @@
 -- What is kept stays what the image tells, through each call of the image.
-use Rattle.std.proofs.Common.{◌≡◌, ℕ, ◌*◌, ◌<◌, ◌⊎◌, inl, inr, List, length, Bool, true, false, Option, Some, None, IfSome, cond, ◌==◌, sym, ◌∙◌, ap, subst, arith}
+use Rattle.std.proofs.Common.{◌≡◌, ℕ, ◌*◌, ◌<◌, ◌⊎◌, inl, inr, List, length, Bool, true, false, Option, Some, None, IfSome, cond, ◌==◌, refl, sym, ◌∙◌, ap, arith}
 use Rattle.std.specs.Option.{option_map}
-use Rattle.std.proofs.lemmas.Bool.{eq-eqb, ne_eqb, cases_eq}
-use Rattle.sector_cache.specs.Disk.{Disk, IsWhole, IsAsTold, IsTorn, failed, written}
-use Rattle.sector_cache.specs.Kept.{IsCoherent, KeepsAllBut, MayKeep}
+use Rattle.std.proofs.lemmas.Bool.{eq-eqb, cases_eq}
+use Rattle.sector_cache.specs.Disk.{Disk, IsWhole, IsAsTold, IsTorn, written}
+use Rattle.sector_cache.specs.Kept.{kept_of, IsCoherent, KeepsAllBut, MayKeep}
+use Rattle.sector_cache.specs.declared.kept.Kept.{Kept}
 use Rattle.sector_cache.specs.Sector.{sector_of, with_sector}
 use Rattle.sector_cache.proofs.Sectors.{sector_of-with_sector, sector_of-with_sector_other}
 
@@ -25,40 +26,64 @@ IfSome-other : (disk : Disk) (sector : ℕ) (new : List ℕ) → IsWhole disk �
 IfSome-other disk sector new whole within long other None apart told = tt
 IfSome-other disk sector new whole within long other (Some bytes) apart told = IsAsTold-other disk sector new whole within long other bytes apart told
 
--- after a write of a sector that is kept no more
-IsCoherent-written : (disk : Disk) (sector : ℕ) (new : List ℕ) (old kept : ℕ → Option (List ℕ)) → IsWhole disk → sector < disk.sector_count → length new ≡ 512 → IsCoherent disk old → KeepsAllBut sector old kept → IsCoherent (written sector new disk) kept
-IsCoherent-written disk sector new old kept whole within long coherent forgotten other = elim (cases_eq sector other) [
-  | inl same ↦ let none : kept other ≡ None = forgotten other ∙ ap (λ b. cond b None (old other)) (eq-eqb sector other same) in rw none tt
-  | inr apart ↦ let stays : kept other ≡ old other = forgotten other ∙ ap (λ b. cond b None (old other)) (ne_eqb sector other apart) in
-      rw stays (IfSome-other disk sector new whole within long other (old other) apart (coherent other))
-]
+module _ {A : Type 0} where
+  -- what is kept is as told, and nothing of this sector is
+  pub record IsBeside (sector : ℕ) (disk : Disk) (kept : Kept A) : Type 0 where
+    pub others : IsCoherent disk kept
+    pub none : kept_of kept sector ≡ None
 
--- less that is kept is coherent too
-IsCoherent-less : (disk : Disk) (sector : ℕ) (old kept : ℕ → Option (List ℕ)) → IsCoherent disk old → KeepsAllBut sector old kept → IsCoherent disk kept
-IsCoherent-less disk sector old kept coherent forgotten other = rw (forgotten other) (less (sector == other))
-  where
-    less : (b : Bool) → IfSome (cond b None (old other)) (IsAsTold disk other)
-    less true = tt
-    less false = coherent other
+  -- what is kept is as told, and so are these bytes of this sector
+  pub record IsWritten (sector : ℕ) (bytes : List ℕ) (disk : Disk) (kept : Kept A) : Type 0 where
+    pub others : IsCoherent disk kept
+    pub told : IsAsTold disk sector bytes
 
--- A write that failed, of a sector that is kept no more.
-pub IsCoherent-torn : (disk after : Disk) (sector : ℕ) (old kept left : ℕ → Option (List ℕ)) → IsWhole disk → sector < disk.sector_count → IsCoherent disk old → KeepsAllBut sector old kept → IsTorn sector disk after → KeepsAllBut sector kept left → IsCoherent after left
-IsCoherent-torn disk after sector old kept left whole within coherent emptied torn forgotten =
-    let torn_one : IsCoherent (failed (written sector torn.left disk)) kept = IsCoherent-written disk sector torn.left old kept whole within torn.whole coherent emptied in
-    IsCoherent-less after sector kept left (subst (λ d. IsCoherent d kept) (sym torn.torn) torn_one) forgotten
+  -- less that is kept is coherent too
+  coherent_less : (sector : ℕ) (disk : Disk) (old new : Kept A) → IsCoherent disk old → KeepsAllBut sector old new → IsCoherent disk new
+  coherent_less sector disk old new coherent dropped = record { told = λ other. rw (dropped.each other) (less other (sector == other)) }
+    where
+      less : (other : ℕ) (b : Bool) → IfSome (cond b None (kept_of old other)) (IsAsTold disk other)
+      less other true = tt
+      less other false = coherent.told other
 
--- what is put has to be as told
-pub IsCoherent-put : (disk : Disk) (sector : ℕ) (bytes : List ℕ) (old new : ℕ → Option (List ℕ)) → IsCoherent disk old → IsAsTold disk sector bytes → MayKeep sector bytes old new → IsCoherent disk new
-IsCoherent-put disk sector bytes old new coherent told may other = (elim (new other) as (λ o. IfSome o (λ kept. (old other ≡ Some kept) ⊎ ((other ≡ sector) × (kept ≡ bytes))) → IfSome o (IsAsTold disk other)) [
-  | None ↦ λ _. tt
-  | Some kept ↦ λ from. elim from [
-    | inl was ↦ let before = coherent other in rw was at before
-    | inr put ↦ rw (put.0, put.1) told
-  ]
-]) (may other)
+  -- once a sector is kept no more
+  pub coherent_beside : (sector : ℕ) (disk : Disk) (old new : Kept A) → KeepsAllBut sector old new → IsCoherent disk old → IsBeside sector disk new
+  coherent_beside sector disk old new dropped coherent = record {
+    others = coherent_less sector disk old new coherent dropped;
+    none = dropped.each sector ∙ ap (λ b. cond b None (kept_of old sector)) (eq-eqb sector sector refl);
+  }
 
--- A write that succeeded, of a sector that was kept no more and is put back.
-pub IsCoherent-write : (disk after : Disk) (sector : ℕ) (new : List ℕ) (old kept put : ℕ → Option (List ℕ)) → IsWhole disk → sector < disk.sector_count → length new ≡ 512 → IsCoherent disk old → KeepsAllBut sector old kept → after ≡ written sector new disk → MayKeep sector new kept put → IsCoherent after put
-IsCoherent-write disk after sector new old kept put whole within long coherent forgotten is may =
-    let as_written : IsCoherent (written sector new disk) put = IsCoherent-put (written sector new disk) sector new kept put (IsCoherent-written disk sector new old kept whole within long coherent forgotten) (IsAsTold-itself disk sector new whole within long) may in
-    subst (λ d. IsCoherent d put) (sym is) as_written
+  -- a write of a sector of which nothing is kept
+  coherent_apart : (sector : ℕ) (new : List ℕ) (disk : Disk) (kept : Kept A) → IsWhole disk → sector < disk.sector_count → length new ≡ 512 → IsBeside sector disk kept → IsCoherent (written sector new disk) kept
+  coherent_apart sector new disk kept whole within long beside = record {
+    told = λ other. elim (cases_eq sector other) [
+      | inl same ↦ let none : kept_of kept other ≡ None = ap (kept_of kept) (sym same) ∙ beside.none in rw none tt
+      | inr apart ↦ IfSome-other disk sector new whole within long other (kept_of kept other) apart (beside.others.told other)
+    ];
+  }
+
+  -- such a write that succeeds
+  pub coherent_written : (sector : ℕ) (new : List ℕ) (disk after : Disk) (kept : Kept A) → after ≡ written sector new disk → IsBeside sector disk kept → IsWhole disk → sector < disk.sector_count → length new ≡ 512 → IsWritten sector new after kept
+  coherent_written sector new disk after kept is beside whole within long = rw is (record {
+    others = coherent_apart sector new disk kept whole within long beside;
+    told = IsAsTold-itself disk sector new whole within long;
+  })
+
+  -- such a write that fails, after which the sector is dropped once more
+  pub coherent_torn : (sector : ℕ) (disk after : Disk) (old new : Kept A) → KeepsAllBut sector old new → IsTorn sector disk after → IsBeside sector disk old → IsWhole disk → sector < disk.sector_count → IsCoherent after new
+  coherent_torn sector disk after old new dropped torn beside whole within =
+      coherent_less sector after old new
+      (rw torn.torn (record { told = (coherent_apart sector torn.left disk old whole within torn.whole beside).told }))
+      dropped
+
+  -- what is put is as told
+  pub coherent_put : (sector : ℕ) (bytes : List ℕ) (disk : Disk) (old new : Kept A) → MayKeep sector bytes old new → IsWritten sector bytes disk old → IsCoherent disk new
+  coherent_put sector bytes disk old new may as_written = record {
+    told = λ other.
+        (elim (kept_of new other) as (λ o. IfSome o (λ kept. (kept_of old other ≡ Some kept) ⊎ ((other ≡ sector) × (kept ≡ bytes))) → IfSome o (IsAsTold disk other)) [
+          | None ↦ λ _. tt
+          | Some kept ↦ λ from. elim from [
+            | inl was ↦ let before = as_written.others.told other in rw was at before
+            | inr put ↦ rw (put.0, put.1) as_written.told
+          ]
+        ]) (may.each other);
+  }

@@ -12,19 +12,18 @@ kept_of kept sector =
     option_and_then (option_map box_value) (lookup (nat_eq sector) kept.sectors.entries)
 
 -- what is kept of a sector is what the disk tells of it
-abbrev pub IsCoherent : Disk → (ℕ → Option (List ℕ)) → Type 0
-IsCoherent disk kept = (sector : ℕ) → IfSome (kept sector) (IsAsTold disk sector)
+pub record IsCoherent {A : Type 0} (disk : Disk) (kept : Kept A) : Type 0 where
+  pub told : (sector : ℕ) → IfSome (kept_of kept sector) (IsAsTold disk sector)
 
 -- the same is kept
-abbrev pub KeepsAsMuch : (old new : ℕ → Option (List ℕ)) → Type 0
-KeepsAsMuch old new = (sector : ℕ) → new sector ≡ old sector
+pub record KeepsAsMuch {A : Type 0} (old new : Kept A) : Type 0 where
+  pub each : (sector : ℕ) → kept_of new sector ≡ kept_of old sector
 
 -- nothing of this sector is kept, and of each other what was
-abbrev pub KeepsAllBut : ℕ → (old new : ℕ → Option (List ℕ)) → Type 0
-KeepsAllBut sector old new = (other : ℕ) → new other ≡ (if sector == other then None else old other)
+pub record KeepsAllBut {A : Type 0} (sector : ℕ) (old new : Kept A) : Type 0 where
+  pub each : (other : ℕ) → kept_of new other ≡ (if sector == other then None else kept_of old other)
 
 -- nothing is kept but what was, and perhaps these bytes of this sector
-abbrev pub MayKeep : ℕ → List ℕ → (old new : ℕ → Option (List ℕ)) → Type 0
-MayKeep sector bytes old new =
-    (other : ℕ) → IfSome (new other) (λ kept.
-    (old other ≡ Some kept) ⊎ ((other ≡ sector) × (kept ≡ bytes)))
+pub record MayKeep {A : Type 0} (sector : ℕ) (bytes : List ℕ) (old new : Kept A) : Type 0 where
+  pub each : (other : ℕ) → IfSome (kept_of new other) (λ kept.
+      (kept_of old other ≡ Some kept) ⊎ ((other ≡ sector) × (kept ≡ bytes)))

@@ -3,6 +3,7 @@
 ghost use Rattle.std.specs.Prelude.{◌≡◌, ◌<◌, ◌↔◌, IfOk, IfErr, OnOk, OnErr, IsSome, replicate};
 ghost use Rattle.sector_cache.specs.Disk.{IsAsTold, IsTorn, failed, written, flushed};
 ghost use Rattle.sector_cache.specs.Fault.{IsCapacity, RefusesCapacity};
+ghost use Rattle.sector_cache.specs.Kept.{IsCoherent};
 
 use crate::fault::{CacheFault, Refused};
 use crate::image::{Image, ImageError};
@@ -24,14 +25,14 @@ pub struct SectorCache<I: Image, A: Allocator = Global> {
 }
 
 impl<I: Image, A: Allocator> Model for SectorCache<I, A> {
-    ghost use Rattle.sector_cache.specs.Kept.{kept_of, IsCoherent};
+    ghost use Rattle.sector_cache.specs.Kept.{IsCoherent};
 
     ghost Value = { I };
 
     ghost view = { λ cache. cache.image };
 
     // what is kept is what the image tells
-    ghost invariant = { λ cache. IsCoherent (I.disk cache.image) (kept_of cache.kept) };
+    ghost invariant = { λ cache. IsCoherent (I.disk cache.image) cache.kept };
 }
 
 impl<I: Image, A: Allocator + Copy> SectorCache<I, A> {
@@ -78,13 +79,7 @@ impl<I: Image, A: Allocator + Copy> SectorCache<I, A> {
         ensures ok { OnOk result (I.disk self.new ≡ written sector from.now (I.disk self.old)) }
         ensures err { OnErr result (IsTorn sector (I.disk self.old) (I.disk self.new)) }
     {
-        self.kept.empty(sector);
-        if let Err(error) = self.image.write_sector(sector, from) {
-            self.kept.forget(sector);
-            return Err(error);
-        }
-        self.kept.put(sector, from);
-        Ok(())
+        write_through(&mut self.image, &mut self.kept, sector, from)
     }
 
     /// Writes 512 zeros.
@@ -121,6 +116,29 @@ impl<I: Image, A: Allocator> SectorCache<I, A> {
         let SectorCache { image, kept: _ } = self;
         image
     }
+}
+
+/// Writes a sector of an image, of which some sectors are kept. Its old bytes are dropped before the image
+/// is called, and the new ones are kept only once it has them.
+fn write_through<I: Image, A: Allocator + Copy>(
+    image: &mut I,
+    kept: &mut Kept<A>,
+    sector: u64,
+    from: &[u8; 512],
+) -> Result<(), ImageError>
+    requires sector { sector < (I.disk image.old).sector_count }
+    requires coherent { IsCoherent (I.disk image.old) kept.old }
+    ensures ok { OnOk result (I.disk image.new ≡ written sector from.now (I.disk image.old)) }
+    ensures err { OnErr result (IsTorn sector (I.disk image.old) (I.disk image.new)) }
+    ensures coherent { IsCoherent (I.disk image.new) kept.new }
+{
+    kept.empty(sector);
+    if let Err(error) = image.write_sector(sector, from) {
+        kept.forget(sector);
+        return Err(error);
+    }
+    kept.put(sector, from);
+    Ok(())
 }
 
 /// How many sectors may be kept, where that many are admitted.

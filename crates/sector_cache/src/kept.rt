@@ -40,7 +40,7 @@ impl<A: Allocator + Copy> Kept<A> {
     pub(crate) fn get(&mut self, sector: u64, into: &mut [u8; 512]) -> bool
         ensures found { result ≡ is_some (kept_of self.old sector) }
         ensures copied { OnTrue result (kept_of self.old sector ≡ Some into.new) }
-        ensures stays { KeepsAsMuch (kept_of self.old) (kept_of self.new) }
+        ensures stays { KeepsAsMuch self.old self.new }
     {
         match self.sectors.get(&sector) {
             Some(Some(block)) => {
@@ -53,7 +53,7 @@ impl<A: Allocator + Copy> Kept<A> {
 
     /// Drops the bytes of a sector, whose place is left for those that a `put` brings.
     pub(crate) fn empty(&mut self, sector: u64)
-        ensures { KeepsAllBut sector (kept_of self.old) (kept_of self.new) }
+        ensures { KeepsAllBut sector self.old self.new }
     {
         if let Some(place) = self.sectors.get_mut(&sector) {
             self.spare = place.take();
@@ -62,7 +62,7 @@ impl<A: Allocator + Copy> Kept<A> {
 
     /// Drops the bytes of a sector and its place.
     pub(crate) fn forget(&mut self, sector: u64)
-        ensures { KeepsAllBut sector (kept_of self.old) (kept_of self.new) }
+        ensures { KeepsAllBut sector self.old self.new }
     {
         // What `len` ensures: the numbers of the sectors differ.
         let _ = self.sectors.len();
@@ -72,7 +72,7 @@ impl<A: Allocator + Copy> Kept<A> {
     /// Keeps the bytes of a sector, as the most recently used. Where there is no memory for them,
     /// they aren't kept.
     pub(crate) fn put(&mut self, sector: u64, bytes: &[u8; 512])
-        ensures { MayKeep sector bytes.now (kept_of self.old) (kept_of self.new) }
+        ensures { MayKeep sector bytes.now self.old self.new }
     {
         let Some(block) = filled(self.alloc, self.spare.take(), bytes) else {
             return;
