@@ -1,6 +1,6 @@
 -- What stays of a slot whose block event met an image that failed.
-use Rattle.std.proofs.Common.{◌≡◌, inl, inr, ℕ, zero, suc, ◌+◌, ◌*◌, ◌/◌, ◌<◌, ◌≤◌, ◌==◌, Bool, true, false, Option, Some, None, List, [], ◌∷◌, ◌++◌, length, take, refl, sym, ap, subst, ◌∙◌, arith, length-append, length-take, length-drop}
-use Rattle.std.specs.Prelude.{if◌then◌else◌, nat_lt, ◌-◌, slice_set, MatchOption}
+use Rattle.std.proofs.Common.{◌≡◌, inl, inr, ℕ, zero, suc, ◌+◌, ◌*◌, ◌/◌, ◌%◌, ◌<◌, ◌≤◌, ◌==◌, Bool, true, false, Option, Some, None, List, [], ◌∷◌, ◌++◌, length, take, refl, sym, ap, subst, ◌∙◌, arith, length-append, length-take, length-drop}
+use Rattle.std.specs.Prelude.{if◌then◌else◌, ◌^◌, nat_lt, ◌-◌, slice_set, MatchOption}
 use Rattle.std.specs.List.{slice_get}
 use Rattle.std.specs.Option.{option_map}
 use Rattle.std.proofs.lemmas.Bool.Decides.{nat_tests}
@@ -37,7 +37,7 @@ use Rattle.board.specs.Image.{Health, disk_with}
 use Rattle.board.specs.Machine.{action_at, task_at, with_write}
 use Rattle.board.specs.Outcome.{Outcome as Came}
 use Rattle.board.specs.Slot.{SlotState, KeepsBesideDisk}
-use Rattle.board.specs.Task.{task_of, device_of}
+use Rattle.board.specs.Task.{Nothing, PutOut, task_of, emergency_write, device_of}
 use Rattle.board.specs.World.{World, IsFailedService, IsCutShort, IsRefused, MayGive, SlotStep, MissingStep, Step, KeepsBoard}
 use Rattle.board.proofs.Alone.{get_set}
 
@@ -266,11 +266,16 @@ block_beside (action.ConfigWrite offset width value) old before after outcome h 
 block_beside action.None old before after outcome h = absurd h
 
 -- in one to the console's the image has no part
+put_out_stood : {A : Type 0} (is : Bool) (byte : ℕ) (old : SlotState) (before after : Health) (outcome : Came A) → before.failures < after.failures → IsCutShort (if is then PutOut byte else Nothing) old before after outcome → ⊥
+put_out_stood true byte old before after outcome rose h = never before after rose h.image
+put_out_stood false byte old before after outcome rose h = h
+
 console_stood : {A : Type 0} (act : Action) (old : SlotState) (before after : Health) (outcome : Came A) → before.failures < after.failures → IsCutShort (task_of Console act) old before after outcome → ⊥
 console_stood (action.Notify zero) old before after outcome rose h = h
-console_stood (action.Notify (suc q)) old before after outcome rose h = h
+console_stood (action.Notify (suc zero)) old before after outcome rose h = never before after rose h.image
+console_stood (action.Notify (suc (suc q))) old before after outcome rose h = h
 console_stood action.Reset old before after outcome rose h = h
-console_stood (action.ConfigWrite offset width value) old before after outcome rose h = h
+console_stood (action.ConfigWrite offset width value) old before after outcome rose h = put_out_stood (offset == emergency_write) (value % 2 ^ 8) old before after outcome rose h
 console_stood action.None old before after outcome rose h = h
 
 write_beside : {A : Type 0} (state : SlotState) (window : DeviceKind) (offset width value : ℕ) (before after : Health) (outcome : Came A) → before.failures < after.failures
