@@ -36,7 +36,7 @@ class Guest:
 
     def __init__(self, dice, slot, wildness=0.0):
         self.dice, self.slot, self.wildness = dice, slot, wildness
-        self.events, self.expected = [], {}
+        self.events, self.expected, self.disk = [], {}, None
 
     def do(self, word, fields, reply=None, output="-"):
         """Writes an event down, and the reply that the guest relies on, where it does."""
@@ -93,7 +93,7 @@ class BlockDriver(Driver):
 
     def __init__(self, guest, offered, disk):
         super().__init__(guest, "b", offered, PLACES[:1])
-        self.disk, self.checks = bytearray(disk), []
+        self.disk, self.checks, self.last = bytearray(disk), [], 0
 
     def step(self):
         """Some requests, one notify, and a look at what became of them."""
@@ -114,7 +114,7 @@ class BlockDriver(Driver):
         """One request, where the virtqueue and the room for buffers have place for it."""
         guest, queue, sectors = self.guest, self.queues[0], self.guest.slot.count
         length = SECTOR * guest.dice.choice([0, 1, 1, 1, 2, 3]) if what in (READ, WRITE) else guest.dice.choice([20, 30])
-        sector = guest.dice.randrange(sectors + 1)
+        self.last = sector = self.last if guest.dice.random() < 0.6 else guest.dice.randrange(sectors + 1)
         if queue.room_left() < length + 200:
             return
         header, data, status = queue.buffer(16), queue.pieces(length), queue.buffer(1)
@@ -338,6 +338,7 @@ def live(guest, offered, disk, count):
     """Makes a guest run its drivers until it has done about `count` events, and then look at all that it has."""
     dice, has_console = guest.dice, bool(offered.console & CONSOLE_SIZE)
     drivers = [BlockDriver(guest, offered, disk)] + ([ConsoleDriver(guest, offered)] if has_console else [])
+    guest.disk = drivers[0].disk
     mischief = Mischief(guest, drivers, has_console)
     if has_console and dice.random() < 0.3:
         drivers[1].type()

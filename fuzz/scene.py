@@ -25,7 +25,7 @@ class Scene:
         self.image = dice.randbytes(SECTOR * (start + dice.randrange(2)))
         for guest in self.guests:
             first = SECTOR * guest.slot.start
-            live(guest, offered, self.image[first:first + SECTOR * guest.slot.count], dice.randrange(60, 200))
+            live(guest, offered, self.image[first:first + SECTOR * guest.slot.count], dice.randrange(100, 350))
         self.lines = list(self.interleaved(dice))
 
     def interleaved(self, dice):
