@@ -12,7 +12,7 @@ use Rattle.board.specs.Image.{Health}
 use Rattle.board.specs.Machine.{Gives, IsNext, RunsOnItsOwn, record_of, task_at, with_write}
 use Rattle.board.specs.Outcome.{Outcome}
 use Rattle.board.specs.Slot.{SlotState}
-use Rattle.board.specs.Task.{Task, Nothing, ServeBlock, ServeReceive}
+use Rattle.board.specs.Task.{Task, Nothing, ServeBlock, ServeReceive, ServeTransmit, PutOut}
 use Rattle.board.specs.World.{World, IsCutShort, IsRefused, MayGive, SlotStep, MissingStep, Step}
 use Rattle.board.specs.Line.{Move, IsLine, IsUndisturbed, IsQuiet, RunsAlone, IsAlone, SeesTheSame, own_events, own_records, events_of, records_of}
 use Rattle.board.proofs.OneRun.{OneRun, next_of, one_run}
@@ -22,6 +22,8 @@ cut_short_shows : {A : Type 0} (task : Task) (state : SlotState) (old new : Heal
 cut_short_shows Nothing state old new outcome refused answered stood = refused
 cut_short_shows ServeBlock state old new outcome refused answered stood = absurd (omega (arith, refused.failures, stood))
 cut_short_shows ServeReceive state old new outcome refused answered stood = refused
+cut_short_shows ServeTransmit state old new outcome refused answered stood = answered (ap (λ o. o.reply) refused.is)
+cut_short_shows (PutOut byte) state old new outcome refused answered stood = answered (ap (λ o. o.reply) refused.alike)
 
 -- an event that was refused shows it: memory was wanting, or a call of the image failed
 refused_shows : {A : Type 0} (state : SlotState) (what : EventKind A) (old new : Health) (outcome : Outcome A) → IsRefused state what old new outcome → outcome.reply ≢ NoMemory → new.failures ≡ old.failures → ⊥

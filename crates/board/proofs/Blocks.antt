@@ -145,7 +145,7 @@ notified_given {A} slot offset width value memory block old new tells tells' who
     })
 
 -- nothing is left to be done
-nothing_given : {A : Type 0} (state : SlotState) (window : DeviceKind) (act : Action) (offset width value : ℕ) (health : Health)
+pub nothing_given : {A : Type 0} (state : SlotState) (window : DeviceKind) (act : Action) (offset width value : ℕ) (health : Health)
     → action_at window offset width value state ≡ act → task_of window act ≡ Nothing
     → MayGive {A = A} state (Write window offset width value) health health (does (with_write window offset width value state))
 nothing_given {A} state window act offset width value health is none =

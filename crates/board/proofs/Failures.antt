@@ -6,7 +6,7 @@ use Rattle.board.specs.Image.{Health}
 use Rattle.board.specs.Machine.{task_at, with_write}
 use Rattle.board.specs.Outcome.{Outcome}
 use Rattle.board.specs.Slot.{SlotState}
-use Rattle.board.specs.Task.{Task, Nothing, ServeBlock, ServeReceive}
+use Rattle.board.specs.Task.{Task, Nothing, ServeBlock, ServeReceive, ServeTransmit, PutOut}
 use Rattle.board.specs.World.{IsCutShort, IsRefused, MayGive}
 
 -- in a task that is cut short
@@ -14,6 +14,8 @@ cut_short_failures : {A : Type 0} (task : Task) (state : SlotState) (old new : H
 cut_short_failures Nothing state old new outcome refused = absurd refused
 cut_short_failures ServeBlock state old new outcome refused = omega (arith, refused.failures)
 cut_short_failures ServeReceive state old new outcome refused = absurd refused
+cut_short_failures ServeTransmit state old new outcome refused = let same : new.failures ≡ old.failures = ap (λ (h : Health). h.failures) refused.image in omega arith
+cut_short_failures (PutOut byte) state old new outcome refused = let same : new.failures ≡ old.failures = ap (λ (h : Health). h.failures) refused.image in omega arith
 
 -- in a refused event
 refused_failures : {A : Type 0} (state : SlotState) (what : EventKind A) (old new : Health) (outcome : Outcome A) → IsRefused state what old new outcome → old.failures ≤ new.failures

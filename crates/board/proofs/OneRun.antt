@@ -1,8 +1,8 @@
 -- The one-slot machine is deterministic, and how its image fared before an event is never seen.
 use Rattle.std.proofs.Common.{◌≡◌, ℕ, Bool, Option, Some, None, List, [], ◌∷◌, map, refl, sym, ◌∙◌, ap, subst}
 use Rattle.guest_memory.specs.Memory.{Memory}
-use Rattle.chain.specs.Service.{Device, Site, Ending, IsService}
-use Rattle.chain.proofs.Servicing.{at_most_one_service}
+use Rattle.chain.specs.Service.{Device, Site, Ending, IsService, HasAtMostOneAnswer}
+use Rattle.chain.proofs.Servicing.{at_most_one_service, never_refused}
 use Rattle.sector_cache.specs.Disk.{Disk}
 use Rattle.mmio_window.specs.declared.queue.Queue.{Queue}
 use Rattle.mmio_window.specs.Queue.{queue_kind}
@@ -12,7 +12,7 @@ use Rattle.mmio_window.proofs.QueueKind.{has_at_most_one_chain}
 use Rattle.block_device.specs.declared.device.BlockDevice.{BlockDevice}
 use Rattle.block_device.specs.Device.{exact_device}
 use Rattle.block_device.proofs.OneService.{at_most_one_exact_service}
-use Rattle.console_device.specs.Device.{receive}
+use Rattle.console_device.specs.Device.{receive, exact_transmit}
 use Rattle.console_device.specs.Input.{fitting}
 use Rattle.console_device.proofs.Services.{receive_once, receive_never_refused}
 use Rattle.board.specs.declared.event.EventKind.{EventKind}
@@ -24,7 +24,7 @@ use Rattle.board.specs.Image.{Health, disk_with}
 use Rattle.board.specs.Machine.{task_at, with_write, with_input, Gives, IsNext, IsCourse, RunsOnItsOwn, record_of, at_rest}
 use Rattle.board.specs.Outcome.{Outcome, replies, does}
 use Rattle.board.specs.Slot.{SlotState}
-use Rattle.board.specs.Task.{Task, Nothing, ServeBlock, ServeReceive, device_of, IsBlockService, IsReceiveService, Finishes}
+use Rattle.board.specs.Task.{Task, Nothing, ServeBlock, ServeReceive, ServeTransmit, PutOut, device_of, IsBlockService, IsReceiveService, IsTransmitService, Finishes}
 use Rattle.board.proofs.Guests.{AtRest, exact_at_rest}
 
 -- ---- how the image fared is never seen
@@ -40,6 +40,8 @@ finishes_at_rest ServeBlock old before after outcome h =
     exact_at_rest (device_of old) (queue_at 0 old.block) old.memory outcome.state.memory old.block outcome.state.block old.extent outcome.state.extent before after h.notified in
     record { health = rested.health; finishes = record { notified = rested.notified; is = h.is } }
 finishes_at_rest ServeReceive old before after outcome h = record { health = at_rest; finishes = record { notified = h.notified; is = h.is; image = refl } }
+finishes_at_rest ServeTransmit old before after outcome h = record { health = at_rest; finishes = record { notified = h.notified; is = h.is; image = refl } }
+finishes_at_rest (PutOut byte) old before after outcome h = record { health = at_rest; finishes = record { alike = h.alike; image = refl } }
 
 -- what an event gives is what comes of it for a guest alone
 pub next_of : {A : Type 0} (state : SlotState) (what : EventKind A) (before after : Health) (outcome : Outcome A) → Gives state what before after outcome → IsNext state what outcome
@@ -104,6 +106,16 @@ one_receive pending m queue a b e f v w x y =
     (receive_never_refused queue_kind old a e v x) (receive_never_refused queue_kind old b f w y) x y in
     (same.site, same.ending, same.wanted)
 
+exact_transmit_once : HasAtMostOneAnswer exact_transmit
+exact_transmit_once = record { given = λ out readable w g h p q. p ∙ sym q }
+
+one_transmit : (out : List ℕ) → HasOneService exact_transmit out
+one_transmit out m queue a b e f v w x y =
+    let old : Site Queue (List ℕ) = record { memory = m; ring = queue; state = out } in
+    let same = at_most_one_service queue_kind exact_transmit has_at_most_one_chain exact_transmit_once old a b e f v w
+    (never_refused queue_kind exact_transmit old a e v (λ s readable room lacks. lacks) x) (never_refused queue_kind exact_transmit old b f w (λ s readable room lacks. lacks) y) x y in
+    (same.site, same.ending, same.wanted)
+
 -- a slot with another memory, extent and block window
 abbrev with_block : SlotState → Memory → List ℕ → WindowState → SlotState
 with_block state memory extent block = record state { memory = memory; extent = extent; block = block }
@@ -131,10 +143,25 @@ received_once old reply h k one other a b =
     notified_once receive 0 (queue_at 0 old.console) old.memory one.state.memory other.state.memory old.console one.state.console other.state.console old.pending one.state.pending other.state.pending (one_receive old.pending) a.notified b.notified in
     a.is ∙ (ap (λ (s : SlotState). replies s reply) (same_console old one.state.memory other.state.memory one.state.console other.state.console one.state.pending other.state.pending end.memory end.window end.state) ∙ sym b.is)
 
+-- a slot with another memory and console window, and what was put out
+abbrev transmitted : {A : Type 0} → SlotState → Memory → WindowState → List ℕ → Outcome A
+transmitted state memory console output = record { state = record state { memory = memory; console = console }; reply = Done; output = output }
+
+same_transmitted : {A : Type 0} (state : SlotState) (m n : Memory) (v w : WindowState) (x y : List ℕ) → m ≡ n → v ≡ w → x ≡ y → transmitted {A = A} state m v x ≡ transmitted state n w y
+same_transmitted state m n v w x y p q r = rw (p, q, r) refl
+
+transmitted_once : {A : Type 0} (old : SlotState) (h k : Health) (one other : Outcome A) → IsTransmitService old at_rest h one → IsTransmitService old at_rest k other → one ≡ other
+transmitted_once old h k one other a b =
+    let end : SameEnd one.state.memory other.state.memory one.state.console other.state.console one.output other.output =
+    notified_once exact_transmit 1 (queue_at 1 old.console) old.memory one.state.memory other.state.memory old.console one.state.console other.state.console [] one.output other.output (one_transmit []) a.notified b.notified in
+    a.is ∙ (same_transmitted old one.state.memory other.state.memory one.state.console other.state.console one.output other.output end.memory end.window end.state ∙ sym b.is)
+
 finishes_once : {A : Type 0} (task : Task) (old : SlotState) (h k : Health) (one other : Outcome A) → Finishes task old at_rest h one → Finishes task old at_rest k other → one ≡ other
 finishes_once Nothing old h k one other a b = a.alike ∙ sym b.alike
 finishes_once ServeBlock old h k one other a b = block_once (device_of old) old h k one other a b
 finishes_once ServeReceive old h k one other a b = received_once old Done h k one other a b
+finishes_once ServeTransmit old h k one other a b = transmitted_once old h k one other a b
+finishes_once (PutOut byte) old h k one other a b = a.alike ∙ sym b.alike
 
 -- an event has at most one outcome
 pub next_once : {A : Type 0} (state : SlotState) (what : EventKind A) (one other : Outcome A) → IsNext state what one → IsNext state what other → one ≡ other

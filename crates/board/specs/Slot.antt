@@ -1,7 +1,7 @@
 -- A slot: what its guest can see, and what the board keeps of it.
 use Rattle.std.specs.Prelude.{◌≡◌, ℕ, ◌+◌, Bool, false, if◌then◌else◌, List, [], length, ◌≤◌}
 use Rattle.guest_memory.specs.Memory.{Memory, SameRange, zeroed}
-use Rattle.negotiation.specs.Features.{block_seg_max, block_ro, block_blk_size, block_flush, indirect_desc, event_idx, version_1, ring_packed}
+use Rattle.negotiation.specs.Features.{block_seg_max, block_ro, block_blk_size, block_flush, console_size, console_emerg_write, indirect_desc, event_idx, version_1, ring_packed}
 use Rattle.mmio_window.specs.declared.device_kind.DeviceKind.TheVariants.{Block, Console}
 use Rattle.mmio_window.specs.Soundness.{IsSound}
 use Rattle.mmio_window.specs.Window.{WindowState, fresh_window}
@@ -59,6 +59,17 @@ pub record KeepsBesideDisk (old new : SlotState) : Type 0 where
   pub memory : SameRange old.memory new.memory
   pub extent : length new.extent ≡ length old.extent
 
+-- All that a transmit doesn't reach stays: the disk and whether it may be written, the block device's window, the
+-- console's pending input and size, and where the memory lies and how large it is.
+pub record KeepsBesideTransmit (old new : SlotState) : Type 0 where
+  pub extent : new.extent ≡ old.extent
+  pub read_only : new.read_only ≡ old.read_only
+  pub block : new.block ≡ old.block
+  pub pending : new.pending ≡ old.pending
+  pub cols : new.cols ≡ old.cols
+  pub rows : new.rows ≡ old.rows
+  pub memory : SameRange old.memory new.memory
+
 -- Both windows are sound for the memory: their ready queues lie in it. And no more input is pending than may
 -- be.
 pub record IsSoundSlot (memory : Memory) (block console : WindowState) (pending : List ℕ) : Type 0 where
@@ -75,9 +86,9 @@ abbrev pub block_features : Bool → ℕ
 block_features read_only =
     (if read_only then block_ro else 0) + block_seg_max + block_blk_size + block_flush + device_features
 
--- a console offers no feature of its own (5.3.3)
+-- the features that a console offers (5.3.3): it tells its size, and takes emergency writes
 abbrev pub console_features : ℕ
-console_features = device_features
+console_features = console_size + console_emerg_write + device_features
 
 -- a slot of a new board: its memory is all zeros, its windows are as after a reset, nothing is pending or met
 -- a refusal yet, and the rest is as it was asked for

@@ -1,32 +1,43 @@
 -- What a slot's devices have to do once a window was written, and what comes of it.
-use Rattle.std.specs.Prelude.{◌≡◌, ℕ, zero}
+use Rattle.std.specs.Prelude.{◌≡◌, ℕ, zero, suc, ◌+◌, ◌%◌, ◌^◌, ◌==◌, if◌then◌else◌, [], ◌∷◌}
 use Rattle.chain.specs.Service.{Device}
 use Rattle.mmio_window.specs.declared.action.Action.{Action}
-use Rattle.mmio_window.specs.declared.action.Action.TheVariants.{Notify}
+use Rattle.mmio_window.specs.declared.action.Action.TheVariants.{Notify, ConfigWrite}
 use Rattle.mmio_window.specs.declared.device_kind.DeviceKind.{DeviceKind}
 use Rattle.mmio_window.specs.declared.device_kind.DeviceKind.TheVariants.{Block, Console}
+use Rattle.mmio_window.specs.Reading.{configuration_offset}
 use Rattle.mmio_window.specs.Serving.{IsNotified}
 use Rattle.mmio_window.specs.Window.{queue_at}
 use Rattle.sector_cache.specs.Disk.{Disk}
 use Rattle.block_device.specs.declared.device.BlockDevice.{BlockDevice}
 use Rattle.block_device.specs.Device.{exact_device}
-use Rattle.console_device.specs.Device.{receive}
+use Rattle.console_device.specs.Device.{receive, exact_transmit}
 use Rattle.board.specs.declared.reply.Reply.{Reply}
 use Rattle.board.specs.declared.reply.Reply.TheVariants.{Done}
 use Rattle.board.specs.Image.{Health, sectors_of, disk_with}
 use Rattle.board.specs.Outcome.{Outcome, replies, does, IsDetermined}
 use Rattle.board.specs.Slot.{SlotState}
 
--- A task: the block device serves its one queue (5.2.2), or the console its receive queue (5.3.2).
+-- A task: the block device serves its one queue (5.2.2); the console serves one of its two queues (5.3.2), or
+-- puts out the byte of an emergency write (5.3.4).
 pub data Task : Type 0 where
   Nothing : Task
   ServeBlock : Task
   ServeReceive : Task
+  ServeTransmit : Task
+  PutOut : ℕ → Task
+
+-- where a driver writes to the console without a queue: emerg_wr, behind columns, rows and max_nr_ports (5.3.4)
+abbrev pub emergency_write : ℕ
+emergency_write = configuration_offset + 8
 
 -- what a write to a window of this kind leaves to be done
 abbrev pub task_of : DeviceKind → Action → Task
 task_of Block (Notify zero) = ServeBlock
 task_of Console (Notify zero) = ServeReceive
+task_of Console (Notify (suc zero)) = ServeTransmit
+task_of Console (ConfigWrite offset width value) =
+    if offset == emergency_write then PutOut (value % 2 ^ 8) else Nothing
 task_of _ _ = Nothing
 
 -- The block device as its guest knows it: its sectors are all that there are.
@@ -68,9 +79,30 @@ pub record IsReceiveService {A : Type 0} (old : SlotState) (reply : Reply A) (be
       }) reply
   pub image : after ≡ before
 
+-- The console puts out the chains of its transmit queue (5.3.6): its window and the memory may change, and the
+-- rest of the slot stays.
+pub record IsTransmitService {A : Type 0} (old : SlotState) (before after : Health) (outcome : Outcome A) : Type 0 where
+  pub notified :
+      IsNotified exact_transmit 1 (queue_at 1 old.console) old.memory outcome.state.memory
+      old.console outcome.state.console [] outcome.output
+  pub is :
+      outcome
+      ≡ record {
+        state = record old { memory = outcome.state.memory; console = outcome.state.console };
+        reply = Done;
+        output = outcome.output;
+      }
+  pub image : after ≡ before
+
+-- a byte is put out, and nothing else happens
+abbrev pub puts_out : {A : Type 0} → ℕ → SlotState → Outcome A
+puts_out byte state = record { state = state; reply = Done; output = byte ∷ [] }
+
 -- What comes of a task where memory is found and no call of the image fails.
 abbrev pub Finishes : {A : Type 0} → Task → SlotState → Health → Health → Outcome A → Type 0
 Finishes Nothing state before after outcome = IsDetermined outcome (does state) before after
 Finishes ServeBlock state before after outcome =
     IsBlockService (exact_device (device_of state)) state before after outcome
 Finishes ServeReceive state before after outcome = IsReceiveService state Done before after outcome
+Finishes ServeTransmit state before after outcome = IsTransmitService state before after outcome
+Finishes (PutOut byte) state before after outcome = IsDetermined outcome (puts_out byte state) before after

@@ -1,10 +1,16 @@
 -- The whole board as it can be seen from outside, and what one event may do to it.
-use Rattle.std.specs.Prelude.{◌≡◌, ◌≢◌, ◌⊎◌, ℕ, ◌<◌, ◌||◌, Bool, true, false, nat_lt, if◌then◌else◌, IsTrue, List, [], ◌++◌, map, slice_set, MatchOption}
+use Rattle.std.specs.Prelude.{◌≡◌, ◌≢◌, ◌⊎◌, ℕ, ◌<◌, ◌||◌, Bool, true, false, nat_lt, if◌then◌else◌, IsTrue, ⊤, Some, List, [], ◌++◌, map, slice_set, MatchOption}
 use Rattle.std.specs.List.{slice_get}
 use Rattle.guest_memory.specs.Memory.{Memory, Inside}
+use Rattle.chain.specs.Service.{Site, Refused, IsRefusedService}
+use Rattle.mmio_window.specs.declared.queue.Queue.{Queue}
+use Rattle.mmio_window.specs.Queue.{queue_kind}
+use Rattle.mmio_window.specs.Serving.{Notified}
+use Rattle.mmio_window.specs.Window.{WindowState, queue_at}
 use Rattle.sector_cache.specs.Disk.{Disk}
 use Rattle.block_device.specs.declared.extent.Extent.{Extent}
 use Rattle.block_device.specs.Device.{block_device}
+use Rattle.console_device.specs.Device.{transmit}
 use Rattle.board.specs.declared.event.Event.{Event}
 use Rattle.board.specs.declared.event.EventKind.{EventKind}
 use Rattle.board.specs.declared.event.EventKind.TheVariants.{Read, Write, MemRead, MemWrite, Input, Resize}
@@ -14,9 +20,9 @@ use Rattle.board.specs.declared.reply.Record.{Record}
 use Rattle.board.specs.Extent.{outside_of}
 use Rattle.board.specs.Image.{Health, bytes_of, health_of}
 use Rattle.board.specs.Machine.{holds, task_at, with_write, Gives, record_of}
-use Rattle.board.specs.Outcome.{Outcome, replies}
+use Rattle.board.specs.Outcome.{Outcome, replies, IsDetermined}
 use Rattle.board.specs.Slot.{SlotState, BoardSlot, state_of}
-use Rattle.board.specs.Task.{Task, Nothing, ServeBlock, ServeReceive, device_of, IsBlockService}
+use Rattle.board.specs.Task.{Task, Nothing, ServeBlock, ServeReceive, ServeTransmit, PutOut, device_of, IsBlockService}
 
 -- A board: its slots, and the image that they share.
 pub record BoardState (I : Type 0) : Type 0 where
@@ -77,11 +83,28 @@ pub record IsFailedService {A : Type 0} (state : SlotState) (old new : Health) (
   pub service : IsBlockService (block_device (device_of state)) state old new outcome
   pub failures : old.failures < new.failures
 
+-- A service of the transmit queue found no memory for the bytes of the chain on offer, which stays there: the
+-- chains before it are out, used and notified, the reply says so, and the rest of the slot stays.
+pub record IsRefusedTransmit {A : Type 0} (state : SlotState) (old new : Health) (outcome : Outcome A) : Type 0 where
+  pub notified :
+      Notified transmit 1 (queue_at 1 state.console) Refused state.memory outcome.state.memory
+      state.console outcome.state.console [] outcome.output
+  pub is :
+      outcome
+      ≡ record {
+        state = record state { memory = outcome.state.memory; console = outcome.state.console };
+        reply = NoMemory;
+        output = outcome.output;
+      }
+  pub image : new ≡ old
+
 -- how a task may be refused for want of memory or by the image; some can't be
 abbrev pub IsCutShort : {A : Type 0} → Task → SlotState → Health → Health → Outcome A → Type 0
 IsCutShort Nothing state old new outcome = ⊥
 IsCutShort ServeBlock state old new outcome = IsFailedService state old new outcome
 IsCutShort ServeReceive state old new outcome = ⊥
+IsCutShort ServeTransmit state old new outcome = IsRefusedTransmit state old new outcome
+IsCutShort (PutOut byte) state old new outcome = IsDetermined outcome (replies state NoMemory) old new
 
 -- and how an event may be
 abbrev pub IsRefused : {A : Type 0} → SlotState → EventKind A → Health → Health → Outcome A → Type 0
@@ -175,14 +198,33 @@ pub record Answers {A : Type 0} (old : World) (event : Event A) (reply : Reply A
   pub replied : written.reply ≡ reply
   pub appended : out_after ≡ out_before ++ written.output
 
--- the events that may find no memory, of a guest with this memory: a read of some bytes inside it
-abbrev pub MayLackMemory : {A : Type 0} → Memory → EventKind A → Type 0
-MayLackMemory memory (Read window offset width) = ⊥
-MayLackMemory memory (Write window offset width value) = ⊥
-MayLackMemory memory (MemRead addr len) = (0 < len) × Inside memory addr len
-MayLackMemory memory (MemWrite addr bytes) = ⊥
-MayLackMemory memory (Input bytes) = ⊥
-MayLackMemory memory (Resize cols rows) = ⊥
+-- A service of the transmit queue comes to a chain with readable bytes: before that chain it may stop.
+pub record HasBytesToPutOut (memory : Memory) (console : WindowState) : Type 0 where
+  pub queue : Queue
+  pub ready : queue_at 1 console ≡ Some queue
+  pub end : Site Queue (List ℕ)
+  pub wanted : Bool
+  pub stops :
+      IsRefusedService queue_kind transmit (record { memory = memory; ring = queue; state = [] }) end wanted
+
+-- the tasks that may find no memory
+abbrev pub TakesMemory : Task → SlotState → Type 0
+TakesMemory Nothing state = ⊥
+TakesMemory ServeBlock state = ⊥
+TakesMemory ServeReceive state = ⊥
+TakesMemory ServeTransmit state = HasBytesToPutOut state.memory state.console
+TakesMemory (PutOut byte) state = ⊤
+
+-- The events that may find no memory: a read of some bytes inside the guest's memory, and of the writes to a
+-- window the notification of a transmit queue with some bytes on offer, and an emergency write.
+abbrev pub MayLackMemory : {A : Type 0} → SlotState → EventKind A → Type 0
+MayLackMemory state (Read window offset width) = ⊥
+MayLackMemory state (Write window offset width value) =
+    TakesMemory (task_at window offset width value state) (with_write window offset width value state)
+MayLackMemory state (MemRead addr len) = (0 < len) × Inside state.memory addr len
+MayLackMemory state (MemWrite addr bytes) = ⊥
+MayLackMemory state (Input bytes) = ⊥
+MayLackMemory state (Resize cols rows) = ⊥
 
 -- What can be seen of the board stays, but for what is noted of refusals, and nothing was put out.
 pub record KeepsBoard {A : Type 0} (old : World) (written : Record A) (new : World) : Type 0 where

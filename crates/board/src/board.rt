@@ -1,11 +1,11 @@
 //! The board: its slots over one image, and how events are handled in their order.
 
-ghost use Rattle.std.specs.Prelude.{◌≡◌, ◌≢◌, ◌↔◌, ◌≤◌, ◌<◌, ◌++◌, ◌∷◌, [], All, length, map, vec_len, vec_capacity, IfOk, IfErr, OnOk, IsSomeAnd, IsErrAnd};
+ghost use Rattle.std.specs.Prelude.{◌≡◌, ◌≢◌, ◌↔◌, ◌≤◌, ◌<◌, ◌++◌, ◌∷◌, [], ℕ, List, All, length, map, vec_len, vec_capacity, IfOk, IfErr, OnOk, IsSomeAnd, IsErrAnd};
 ghost use Rattle.std.specs.List.{slice_get};
 ghost use Rattle.board.specs.declared.fault.BoardFault.{BoardFault};
 ghost use Rattle.board.specs.Fault.{IsAccepted, Refuses, cache_refusal};
 ghost use Rattle.board.specs.Line.{IsRun, HasInterruptWords, events_done};
-ghost use Rattle.board.specs.Slot.{opened};
+ghost use Rattle.board.specs.Slot.{opened, state_of};
 ghost use Rattle.board.specs.Image.{Tells};
 ghost use Rattle.board.specs.World.{Handles, Answers, MayLackMemory, disturbed_of, extents_of, met_refusal, noted, world_of};
 
@@ -113,13 +113,14 @@ impl<I: Image, A: Allocator + Copy> Board<I, A> {
             (met_refusal result (I.disk self.old.image).failures (I.disk self.new.image).failures)
             (disturbed_of self.old.slots) }
 
-        // what is refused changes nothing, and only some reads of memory may find no memory
+        // what is refused changes nothing; and only a read of memory, a transmit and an emergency write may
+        // find no memory
         ensures bad_slot { (result ≡ Reply.BadSlot) ↔ (length self.old.slots ≤ event.now.slot) }
         ensures bad_slot_keeps { result ≡ Reply.BadSlot → self.new ≡ self.old }
         ensures bad_range_keeps { result ≡ Reply.BadRange → self.new ≡ self.old }
         ensures no_memory { result ≡ Reply.NoMemory →
             IsSomeAnd (slice_get self.old.slots event.now.slot)
-            (λ slot. MayLackMemory slot.memory event.now.what) }
+            (λ slot. (image : List ℕ) → MayLackMemory (state_of image slot) event.now.what) }
     {
         self.handle(event.slot, &event.what, out).reply
     }
@@ -188,7 +189,7 @@ impl<I: Image, A: Allocator + Copy> Board<I, A> {
         ensures bad_range_keeps { result.reply ≡ Reply.BadRange → self.new ≡ self.old }
         ensures no_memory { result.reply ≡ Reply.NoMemory →
             IsSomeAnd (slice_get self.old.slots slot)
-            (λ found. MayLackMemory found.memory what.now) }
+            (λ found. (image : List ℕ) → MayLackMemory (state_of image found) what.now) }
     {
         let Some(slot) = self.slots.get_mut(slot as usize) else {
             return Handled {

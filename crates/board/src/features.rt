@@ -21,11 +21,13 @@ pub(crate) fn of_block(read_only: bool) -> Features
     }
 }
 
-/// The features of a console, which has none of its own (5.3.3).
+/// The features of a console (5.3.3).
 pub(crate) fn of_console() -> Features
     ensures { feature_bits result ≡ console_features }
 {
     of_every_device()
+        .union(Features::CONSOLE_SIZE)
+        .union(Features::CONSOLE_EMERG_WRITE)
 }
 
 // What every device offers (6).

@@ -9,9 +9,8 @@ ghost use Rattle.block_device.specs.Extent.{IsWithin, KeepsOutside};
 ghost use Rattle.board.specs.Fault.{IsMemory};
 ghost use Rattle.board.specs.Image.{Tells, bytes_of, health_of};
 ghost use Rattle.board.specs.Machine.{block_irq, console_irq};
-ghost use Rattle.board.specs.Outcome.{replies};
 ghost use Rattle.board.specs.Slot.{opened, state_of};
-ghost use Rattle.board.specs.World.{MayGive, Serves, MayLackMemory, met_refusal};
+ghost use Rattle.board.specs.World.{Serves, MayLackMemory, met_refusal};
 
 mod console;
 mod memory;
@@ -92,7 +91,7 @@ impl<A: Allocator + Copy> Slot<A> {
     }
 
     /// Serves one event of the slot's guest, and notes a refusal. What its console puts out is
-    /// appended to `out`; nothing is yet.
+    /// appended to `out`.
     pub(crate) fn serve<I: Image>(
         &mut self,
         alloc: A,
@@ -117,9 +116,10 @@ impl<A: Allocator + Copy> Slot<A> {
         ensures there { result ≢ Reply.BadSlot }
         ensures bad_range { result ≡ Reply.BadRange → self.new ≡ self.old }
         ensures bad_range_image { result ≡ Reply.BadRange → cache.new ≡ cache.old }
-        ensures no_memory { result ≡ Reply.NoMemory → MayLackMemory self.old.memory what.now }
+        ensures no_memory { result ≡ Reply.NoMemory → (image : List ℕ) →
+            MayLackMemory (state_of image self.old) what.now }
     {
-        let Answer { reply, failed } = self.answer(alloc, what, cache);
+        let Answer { reply, failed } = self.answer(alloc, what, cache, out);
         if failed || matches!(reply, Reply::NoMemory) {
             self.disturbed = true;
         }
@@ -132,12 +132,14 @@ impl<A: Allocator + Copy> Slot<A> {
         alloc: A,
         what: &EventKind<A>,
         cache: &mut SectorCache<I, A>,
+        out: &mut Vec<u8, A>,
     ) -> Answer<A>
         requires lies { IsWithin (I.disk cache.old).sector_count self.old.extent }
-        ensures given { Tells (I.disk cache.old) →
-            MayGive (state_of (bytes_of (I.disk cache.old)) self.old) what.now
+        ensures serves { Tells (I.disk cache.old) →
+            Serves (state_of (bytes_of (I.disk cache.old)) self.old) what.now
             (health_of (I.disk cache.old)) (health_of (I.disk cache.new))
-            (replies (state_of (bytes_of (I.disk cache.new)) self.new) result.reply) }
+            (state_of (bytes_of (I.disk cache.new)) self.new) result.reply
+            out.old.items out.new.items }
         ensures failed { result.failed ≡
             nat_lt (I.disk cache.old).failures (I.disk cache.new).failures }
         ensures rises { (I.disk cache.old).failures ≤ (I.disk cache.new).failures }
@@ -147,7 +149,8 @@ impl<A: Allocator + Copy> Slot<A> {
         ensures there { result.reply ≢ Reply.BadSlot }
         ensures bad_range { result.reply ≡ Reply.BadRange → self.new ≡ self.old }
         ensures bad_range_image { result.reply ≡ Reply.BadRange → cache.new ≡ cache.old }
-        ensures no_memory { result.reply ≡ Reply.NoMemory → MayLackMemory self.old.memory what.now }
+        ensures no_memory { result.reply ≡ Reply.NoMemory → (image : List ℕ) →
+            MayLackMemory (state_of image self.old) what.now }
     {
         let reply = match what {
             EventKind::Read {
@@ -160,7 +163,7 @@ impl<A: Allocator + Copy> Slot<A> {
                 offset,
                 width,
                 value,
-            } => return self.write_window(*window, *offset, *width, *value, cache),
+            } => return self.write_window(*window, *offset, *width, *value, cache, out),
             EventKind::MemRead { addr, len } => self.read_memory(alloc, *addr, *len),
             EventKind::MemWrite { addr, bytes } => self.write_memory(*addr, bytes.as_slice()),
             EventKind::Input { bytes } => self.input(bytes.as_slice()),

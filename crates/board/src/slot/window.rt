@@ -1,20 +1,24 @@
 //! The accesses of a guest's drivers to the windows of its devices, and what the devices do then.
 
-ghost use Rattle.std.specs.Prelude.{◌≡◌, ◌≤◌, ℕ, List, nat_lt};
+ghost use Rattle.std.specs.Prelude.{◌≡◌, ◌≢◌, ◌≤◌, ℕ, List, nat_lt, OnOk, OnErr};
 ghost use Rattle.block_device.specs.Extent.{IsWithin, KeepsOutside};
 ghost use Rattle.mmio_window.specs.declared.device_kind.DeviceKind.{DeviceKind};
 ghost use Rattle.board.specs.declared.event.EventKind.{EventKind};
 ghost use Rattle.board.specs.Image.{Health, Tells, bytes_of, health_of, sectors_of};
 ghost use Rattle.board.specs.Machine.{register};
-ghost use Rattle.board.specs.Outcome.{does, replies};
+ghost use Rattle.board.specs.Outcome.{does};
 ghost use Rattle.board.specs.Slot.{state_of};
-ghost use Rattle.board.specs.World.{MayGive};
+ghost use Rattle.board.specs.World.{MayGive, MayLackMemory, Serves};
 
 use crate::reply::Reply;
 use crate::slot::{Answer, Slot};
+use console_device::NoMemory;
 use mmio_window::{Action, DeviceKind};
 use sector_cache::{Image, SectorCache};
 use std::alloc::Allocator;
+
+/// Where a driver writes to the console without a queue: emerg_wr (5.3.4).
+const EMERGENCY_WRITE: u16 = 0x108;
 
 impl<A: Allocator + Copy> Slot<A> {
     /// What a read of a window gives (4.2.2).
@@ -31,7 +35,8 @@ impl<A: Allocator + Copy> Slot<A> {
         }
     }
 
-    /// Writes a window's registers, and lets its device do its part.
+    /// Writes a window's registers, and lets its device do its part. What the console puts out is appended
+    /// to `out`.
     pub(super) fn write_window<I: Image>(
         &mut self,
         window: DeviceKind,
@@ -39,20 +44,24 @@ impl<A: Allocator + Copy> Slot<A> {
         width: u8,
         value: u32,
         cache: &mut SectorCache<I, A>,
+        out: &mut Vec<u8, A>,
     ) -> Answer<A>
         requires lies { IsWithin (I.disk cache.old).sector_count self.old.extent }
-        ensures given { Tells (I.disk cache.old) →
-            MayGive (state_of (bytes_of (I.disk cache.old)) self.old)
+        ensures serves { Tells (I.disk cache.old) →
+            Serves (state_of (bytes_of (I.disk cache.old)) self.old)
             (EventKind.Write window offset width value)
             (health_of (I.disk cache.old)) (health_of (I.disk cache.new))
-            (replies (state_of (bytes_of (I.disk cache.new)) self.new) result.reply) }
+            (state_of (bytes_of (I.disk cache.new)) self.new) result.reply out.old.items out.new.items }
         ensures failed { result.failed ≡
             nat_lt (I.disk cache.old).failures (I.disk cache.new).failures }
         ensures rises { (I.disk cache.old).failures ≤ (I.disk cache.new).failures }
         ensures outside { KeepsOutside self.old.extent (I.disk cache.old) (I.disk cache.new) }
         ensures extent { self.new.extent ≡ self.old.extent }
         ensures disturbed { self.new.disturbed ≡ self.old.disturbed }
-        ensures done { result.reply ≡ Reply.Done }
+        ensures there { result.reply ≢ Reply.BadSlot }
+        ensures in_range { result.reply ≢ Reply.BadRange }
+        ensures no_memory { result.reply ≡ Reply.NoMemory → (image : List ℕ) →
+            MayLackMemory {A = A} (state_of image self.old) (EventKind.Write window offset width value) }
     {
         match window {
             DeviceKind::Block => {
@@ -62,13 +71,10 @@ impl<A: Allocator + Copy> Slot<A> {
                     failed,
                 }
             }
-            DeviceKind::Console => {
-                self.write_console(offset, width, value);
-                Answer {
-                    reply: Reply::Done,
-                    failed: false,
-                }
-            }
+            DeviceKind::Console => Answer {
+                reply: self.write_console(offset, width, value, out),
+                failed: false,
+            },
         }
     }
 
@@ -101,18 +107,51 @@ impl<A: Allocator + Copy> Slot<A> {
         }
     }
 
-    // Writes the console window. Where that notifies the console of its receive queue, it is served (5.3.6).
-    fn write_console(&mut self, offset: u16, width: u8, value: u32)
-        ensures given { (image : List ℕ) (health : Health) →
-            MayGive {A = A} (state_of image self.old)
-            (EventKind.Write DeviceKind.Console offset width value)
-            health health (does (state_of image self.new)) }
+    // Writes the console window. Where that notifies the console of a queue, it is served (5.3.6); and the byte
+    // of an emergency write is put out (5.3.4).
+    fn write_console(
+        &mut self,
+        offset: u16,
+        width: u8,
+        value: u32,
+        out: &mut Vec<u8, A>,
+    ) -> Reply<A>
+        ensures serves { (image : List ℕ) (health : Health) →
+            Serves (state_of image self.old) (EventKind.Write DeviceKind.Console offset width value)
+            health health (state_of image self.new) result out.old.items out.new.items }
         ensures extent { self.new.extent ≡ self.old.extent }
         ensures disturbed { self.new.disturbed ≡ self.old.disturbed }
+        ensures there { result ≢ Reply.BadSlot }
+        ensures in_range { result ≢ Reply.BadRange }
     {
         match self.console.write(offset, width, value, &self.memory) {
-            Action::Notify(0) => self.receive(),
-            _ => {}
+            Action::Notify(0) => {
+                self.receive();
+                Reply::Done
+            }
+            Action::Notify(1) => {
+                let served = self
+                    .console_device
+                    .serve_transmit(&mut self.memory, &mut self.console, out);
+                reply_to(served)
+            }
+            Action::ConfigWrite {
+                offset: EMERGENCY_WRITE,
+                value,
+                ..
+            } => reply_to(self.console_device.emergency((value % 256) as u8, out)),
+            _ => Reply::Done,
         }
+    }
+}
+
+// What the guest is answered where there was memory for what its console put out, and where there was none.
+fn reply_to<A: Allocator>(put_out: Result<(), NoMemory>) -> Reply<A>
+    ensures done { OnOk put_out (result ≡ Reply.Done) }
+    ensures no_memory { OnErr put_out (result ≡ Reply.NoMemory) }
+{
+    match put_out {
+        Ok(()) => Reply::Done,
+        Err(NoMemory) => Reply::NoMemory,
     }
 }

@@ -1,8 +1,8 @@
-use Rattle.std.proofs.Common.{◌≡◌, ◌≤◌, Option, Some, length, refl, sym, ◌∙◌, ap, subst, arith}
+use Rattle.std.proofs.Common.{◌≡◌, ℕ, List, ◌≤◌, Option, Some, length, refl, sym, ◌∙◌, ap, subst, arith}
 use Rattle.std.specs.Prelude.{IsSomeAnd}
 use Rattle.std.specs.List.{slice_get}
 use Rattle.std.proofs.lemmas.Option.{slice_get_past, slice_get_read}
-use Rattle.board.specs.Slot.{BoardSlot}
+use Rattle.board.specs.Slot.{BoardSlot, state_of}
 use Rattle.board.specs.Image.{Tells, bytes_of}
 use Rattle.board.specs.World.{MayLackMemory, disturbed_of, extents_of}
 use Rattle.board.proofs.Outside.{outside_kept}
@@ -71,4 +71,4 @@ returns-clause-bad_range_keeps g c refused =
 pub returns-clause-no_memory : goal.returns-clause-no_memory
 returns-clause-no_memory g c lacking =
     let here : slice_get c.args.self.now.slots c.args.slot ≡ Some c.in-Some.slot.now = ap (λ b. slice_get b.slots c.args.slot) (sym c.self.view_is) ∙ there g c in
-    subst (λ (o : Option BoardSlot). IsSomeAnd o (λ slot. MayLackMemory slot.memory c.args.what.now)) (sym here) (c.serve-reply.ensures.no_memory lacking)
+    subst (λ (o : Option BoardSlot). IsSomeAnd o (λ slot. (image : List ℕ) → MayLackMemory (state_of image slot) c.args.what.now)) (sym here) (c.serve-reply.ensures.no_memory lacking)

@@ -1,7 +1,13 @@
+use Rattle.std.proofs.Common.{sym, subst}
 use Rattle.board.specs.Image.{bytes_of, health_of}
+use Rattle.board.proofs.Consoles.{silent, serves_takes}
 use Rattle.board.proofs.slot.Slot.write_window.Goals as goal
 
-pub returns-in-Console-clause-given : goal.returns-in-Console-clause-given
-returns-in-Console-clause-given g c = λ tells.
-    let old = g.I.Image.disk c.args.cache.now in
-    rw c.in-Console.is (c.write_console.ensures.given (bytes_of old) (health_of old))
+pub returns-in-Block-clause-serves : goal.returns-in-Block-clause-serves
+returns-in-Block-clause-serves g c = λ tells. rw c.in-Block.is (silent _ _ _ _ _ _ c.args.out.now.items (c.write_block-failed.ensures.given tells))
+
+pub returns-in-Console-clause-no_memory : goal.returns-in-Console-clause-no_memory
+returns-in-Console-clause-no_memory g c = λ lacking image.
+    rw c.in-Console.is
+    (serves_takes _ _ _ c.args.offset c.args.width c.args.value (health_of (g.I.Image.disk c.args.cache.now)) _ _
+    (rw lacking at (c.write_console.ensures.serves image (health_of (g.I.Image.disk c.args.cache.now)))))
