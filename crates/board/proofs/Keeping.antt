@@ -9,7 +9,7 @@ use Rattle.guest_memory.proofs.Ranges.{put_range, same_trans}
 use Rattle.byteorder.specs.Endian.{little_bytes}
 use Rattle.chain.specs.declared.fault.Fault.{Fault}
 use Rattle.chain.specs.Bytes.{readable_of, writable_of}
-use Rattle.chain.specs.Service.{Entry, Given, Site, Served, Ending, Spent, Faulted, Refused, scattered, used_len, wrote, after, ServesAll, stop, Works, open_site, IsService}
+use Rattle.chain.specs.Service.{Entry, Given, Device, Site, Served, Ending, Spent, Faulted, Refused, scattered, used_len, wrote, after, ServesAll, stop, Works, open_site, IsService}
 use Rattle.sector_cache.specs.Disk.{Disk}
 use Rattle.mmio_window.specs.declared.action.Action.{Action}
 use Rattle.mmio_window.specs.declared.action.Action.TheVariants as action
@@ -26,7 +26,9 @@ use Rattle.block_device.specs.declared.request.Request.TheVariants.{Rejected, Re
 use Rattle.block_device.specs.Request.{are_sectors, out_request_of, in_request_of, get_id_request_of, typed_request, request_of, payload_of, type_of, sector_in}
 use Rattle.block_device.specs.Outcome.{Outcome, with_sectors, completed, Fails, Ends}
 use Rattle.block_device.specs.Device.{block_device, GivesBy}
-use Rattle.mmio_window.specs.Serving.{IsNotified}
+use Rattle.mmio_window.specs.Serving.{IsNotified, Notified}
+use Rattle.console_device.specs.Device.{transmit}
+use Rattle.mmio_window.specs.Configuration.{is_configuration_access, narrowed}
 use Rattle.block_device.proofs.Requests.{gives_counted}
 use Rattle.board.specs.declared.event.Event.{Event}
 use Rattle.board.specs.declared.event.EventKind.{EventKind}
@@ -35,10 +37,10 @@ use Rattle.board.specs.declared.reply.Reply.TheVariants.{BadSlot, NoMemory}
 use Rattle.board.specs.declared.reply.Record.{Record}
 use Rattle.board.specs.Image.{Health, disk_with}
 use Rattle.board.specs.Machine.{action_at, task_at, with_write}
-use Rattle.board.specs.Outcome.{Outcome as Came}
-use Rattle.board.specs.Slot.{SlotState, KeepsBesideDisk}
+use Rattle.board.specs.Outcome.{Outcome as Came, replies}
+use Rattle.board.specs.Slot.{SlotState, KeepsBesideDisk, KeepsBesideTransmit}
 use Rattle.board.specs.Task.{Nothing, PutOut, task_of, emergency_write, device_of}
-use Rattle.board.specs.World.{World, IsFailedService, IsCutShort, IsRefused, MayGive, SlotStep, MissingStep, Step, KeepsBoard}
+use Rattle.board.specs.World.{World, IsFailedService, IsRefusedTransmit, IsCutShort, IsRefused, MayGive, SlotStep, MissingStep, Step, KeepsBoard}
 use Rattle.board.proofs.Alone.{get_set}
 
 -- ---- the memory keeps its range
@@ -180,78 +182,81 @@ gives_many n device disk readable (suc room) given small many h =
     subst (λ (d : Disk). TellsMany n d) (sym (ap (λ (g : Given Disk). g.state) h.given_is))
     (ends_many n device.extent.count (request_of device readable room) (payload_of readable) disk h.outcome small (request_fits device readable room) many h.is)
 
--- ---- a service of the queue
+-- ---- a service of a queue
 
--- what a service keeps of where it stands: the memory's range, and how many bytes the disk tells
-record Keeps (n : ℕ) (start now : Site Queue Disk) : Type 0 where
-  range : SameRange start.memory now.memory
-  many : TellsMany n now.state
+module _ {State : Type 0} (device : Device State) where
+  -- along its chains the memory keeps its range
+  passes_range : (start at : Site Queue State) (chains : List (Served State)) → ServesAll queue_kind device start chains at → SameRange start.memory at.memory
+  passes_range start at [] p = subst (λ (s : Site Queue State). SameRange start.memory s.memory) p (same_range start.memory)
+  passes_range start at (s ∷ chains) p =
+      let next : Site Queue State = after queue_kind device start s in
+      let written : Memory = scattered start.memory (writable_of s.buffers) s.given.written in
+      same_trans start.memory next.memory at.memory
+      (same_trans start.memory written next.memory (scattered_range start.memory (writable_of s.buffers) s.given.written) (used_range written start.ring s.entry (used_len s.given.written) (wrote s.given.written)))
+      (passes_range next at chains p.1)
 
-passes_keep : (n : ℕ) (device : BlockDevice) (start at : Site Queue Disk) (chains : List (Served Disk)) → 512 * device.extent.count ≤ n → TellsMany n start.state → ServesAll queue_kind (block_device device) start chains at → Keeps n start at
-passes_keep n device start at [] small many p = subst (λ (s : Site Queue Disk). Keeps n start s) p (record { range = same_range start.memory; many = many })
-passes_keep n device start at (s ∷ chains) small many p =
-    let next : Site Queue Disk = after queue_kind (block_device device) start s in
-    let rest : Keeps n next at =
-    passes_keep n device next at chains small (gives_many n device start.state (readable_of start.memory s.buffers) (length (writable_of s.buffers)) s.given small many p.0.gives) p.1 in
-    let written : Memory = scattered start.memory (writable_of s.buffers) s.given.written in
-    record {
-      range =
-          same_trans start.memory next.memory at.memory
-          (same_trans start.memory written next.memory (scattered_range start.memory (writable_of s.buffers) s.given.written) (used_range written start.ring s.entry (used_len s.given.written) (wrote s.given.written)))
-          rest.range;
-      many = rest.many;
-    }
+  stop_range : (start : Memory) (at last : Site Queue State) (ending : Ending) → SameRange start at.memory → last ≡ stop queue_kind device at ending → SameRange start last.memory
+  stop_range start at last Spent same is = subst (λ (s : Site Queue State). SameRange start s.memory) (sym is) same
+  stop_range start at last (Faulted fault) same is = subst (λ (s : Site Queue State). SameRange start s.memory) (sym is) same
+  stop_range start at last Refused same is = subst (λ (s : Site Queue State). SameRange start s.memory) (sym is) same
 
-stop_keeps : (n : ℕ) (device : BlockDevice) (start at last : Site Queue Disk) (ending : Ending) → Keeps n start at → last ≡ stop queue_kind (block_device device) at ending → Keeps n start last
-stop_keeps n device start at last Spent kept is = subst (λ (s : Site Queue Disk). Keeps n start s) (sym is) kept
-stop_keeps n device start at last (Faulted fault) kept is = subst (λ (s : Site Queue Disk). Keeps n start s) (sym is) (record { range = kept.range; many = kept.many })
-stop_keeps n device start at last Refused kept is = subst (λ (s : Site Queue Disk). Keeps n start s) (sym is) kept
+  works_range : (fault : Option Fault) (start last : Site Queue State) (ending : Ending) → Works queue_kind device fault start ending last → SameRange start.memory last.memory
+  works_range (Some fault) start last ending h = subst (λ (s : Site Queue State). SameRange start.memory s.memory) (sym h.1) (same_range start.memory)
+  works_range None start last ending h = stop_range start.memory h.at last ending (passes_range start h.at h.chains h.serves) h.stands
 
-works_keep : (n : ℕ) (device : BlockDevice) (fault : Option Fault) (start last : Site Queue Disk) (ending : Ending) → 512 * device.extent.count ≤ n → TellsMany n start.state → Works queue_kind (block_device device) fault start ending last → Keeps n start last
-works_keep n device (Some fault) start last ending small many h = subst (λ (s : Site Queue Disk). Keeps n start s) (sym h.1) (record { range = same_range start.memory; many = many })
-works_keep n device None start last ending small many h =
-    stop_keeps n device start h.at last ending (passes_keep n device start h.at h.chains small many h.serves) h.stands
+  service_range : (old new : Site Queue State) (ending : Ending) (wanted : Bool) → IsService queue_kind device old new ending wanted → SameRange old.memory new.memory
+  service_range old new ending wanted h =
+      let worked = works_range _ (open_site queue_kind device old) h.last ending h.works in
+      subst (λ (s : Site Queue State). SameRange old.memory s.memory) (sym h.closed) (same_trans old.memory h.last.memory _ worked (closed_range h.last.memory h.last.ring))
 
-service_keeps : (n : ℕ) (device : BlockDevice) (old new : Site Queue Disk) (ending : Ending) (wanted : Bool) → 512 * device.extent.count ≤ n → TellsMany n old.state → IsService queue_kind (block_device device) old new ending wanted → Keeps n old new
-service_keeps n device old new ending wanted small many h =
-    let worked : Keeps n (open_site queue_kind (block_device device) old) h.last = works_keep n device _ (open_site queue_kind (block_device device) old) h.last ending small many h.works in
-    subst (λ (s : Site Queue Disk). Keeps n old s) (sym h.closed) (record {
-      range = same_trans old.memory h.last.memory _ worked.range (closed_range h.last.memory h.last.ring);
-      many = worked.many;
-    })
+  notified_range : (q : ℕ) (queue : Option Queue) (ending : Ending) (old new : Memory) (before after : WindowState) (s t : State) → Notified device q queue ending old new before after s t → SameRange old new
+  notified_range q None ending old new before after s t h = subst (λ (m : Memory). SameRange old m) (sym h.1.memory) (same_range old)
+  notified_range q (Some queue) ending old new before after s t h =
+      service_range (record { memory = old; ring = queue; state = s }) (record { memory = new; ring = h.last; state = t }) ending h.wanted h.service
 
-record KeepsNotified (n : ℕ) (old new : Memory) (disk : Disk) : Type 0 where
-  range : SameRange old new
-  many : TellsMany n disk
+-- along the requests of the block device the disk tells as many bytes as before
+passes_many : (n : ℕ) (device : BlockDevice) (start at : Site Queue Disk) (chains : List (Served Disk)) → 512 * device.extent.count ≤ n → TellsMany n start.state → ServesAll queue_kind (block_device device) start chains at → TellsMany n at.state
+passes_many n device start at [] small many p = subst (λ (s : Site Queue Disk). TellsMany n s.state) p many
+passes_many n device start at (s ∷ chains) small many p =
+    passes_many n device (after queue_kind (block_device device) start s) at chains small
+    (gives_many n device start.state (readable_of start.memory s.buffers) (length (writable_of s.buffers)) s.given small many p.0.gives) p.1
 
-notified_keeps : (n : ℕ) (device : BlockDevice) (queue : Option Queue) (old new : Memory) (before after : WindowState) (s t : Disk) → 512 * device.extent.count ≤ n → TellsMany n s → IsNotified (block_device device) 0 queue old new before after s t → KeepsNotified n old new t
-notified_keeps n device None old new before after s t small many h = record {
-  range = subst (λ (m : Memory). SameRange old m) (sym h.notified.1.memory) (same_range old);
-  many = subst (λ (d : Disk). TellsMany n d) (sym h.notified.1.state) many;
-}
-notified_keeps n device (Some queue) old new before after s t small many h =
-    let served = h.notified in
-    let kept : Keeps n (record { memory = old; ring = queue; state = s }) (record { memory = new; ring = served.last; state = t }) =
-    service_keeps n device (record { memory = old; ring = queue; state = s }) (record { memory = new; ring = served.last; state = t }) h.ending served.wanted small many served.service in
-    record { range = kept.range; many = kept.many }
+stop_many : (n : ℕ) (device : BlockDevice) (at last : Site Queue Disk) (ending : Ending) → TellsMany n at.state → last ≡ stop queue_kind (block_device device) at ending → TellsMany n last.state
+stop_many n device at last Spent many is = subst (λ (s : Site Queue Disk). TellsMany n s.state) (sym is) many
+stop_many n device at last (Faulted fault) many is = subst (λ (s : Site Queue Disk). TellsMany n s.state) (sym is) many
+stop_many n device at last Refused many is = subst (λ (s : Site Queue Disk). TellsMany n s.state) (sym is) many
+
+works_many : (n : ℕ) (device : BlockDevice) (fault : Option Fault) (start last : Site Queue Disk) (ending : Ending) → 512 * device.extent.count ≤ n → TellsMany n start.state → Works queue_kind (block_device device) fault start ending last → TellsMany n last.state
+works_many n device (Some fault) start last ending small many h = subst (λ (s : Site Queue Disk). TellsMany n s.state) (sym h.1) many
+works_many n device None start last ending small many h = stop_many n device h.at last ending (passes_many n device start h.at h.chains small many h.serves) h.stands
+
+service_many : (n : ℕ) (device : BlockDevice) (old new : Site Queue Disk) (ending : Ending) (wanted : Bool) → 512 * device.extent.count ≤ n → TellsMany n old.state → IsService queue_kind (block_device device) old new ending wanted → TellsMany n new.state
+service_many n device old new ending wanted small many h =
+    subst (λ (s : Site Queue Disk). TellsMany n s.state) (sym h.closed) (works_many n device _ (open_site queue_kind (block_device device) old) h.last ending small many h.works)
+
+notified_many : (n : ℕ) (device : BlockDevice) (queue : Option Queue) (old new : Memory) (before after : WindowState) (s t : Disk) → 512 * device.extent.count ≤ n → TellsMany n s → IsNotified (block_device device) 0 queue old new before after s t → TellsMany n t
+notified_many n device None old new before after s t small many h = subst (λ (d : Disk). TellsMany n d) (sym h.notified.1.state) many
+notified_many n device (Some queue) old new before after s t small many h =
+    service_many n device (record { memory = old; ring = queue; state = s }) (record { memory = new; ring = h.notified.last; state = t }) h.ending h.notified.wanted small many h.notified.service
 
 -- ---- an event
 
 service_beside : {A : Type 0} (old : SlotState) (before after : Health) (outcome : Came A) → IsFailedService old before after outcome → KeepsBesideDisk old outcome.state
 service_beside {A} old before after outcome h =
     let small : 512 * (device_of old).extent.count ≤ length old.extent = omega arith in
-    let kept : KeepsNotified (length old.extent) old.memory outcome.state.memory (disk_with outcome.state.extent after) =
-    notified_keeps (length old.extent) (device_of old) (queue_at 0 old.block) old.memory outcome.state.memory old.block outcome.state.block (disk_with old.extent before) (disk_with outcome.state.extent after) small (record { bytes = old.extent; told = refl; size = refl }) h.service.notified in
-    let told : Some outcome.state.extent ≡ Some kept.many.bytes = kept.many.told in
-    let same : outcome.state.extent ≡ kept.many.bytes = cc told in
+    let many : TellsMany (length old.extent) (disk_with outcome.state.extent after) =
+    notified_many (length old.extent) (device_of old) (queue_at 0 old.block) old.memory outcome.state.memory old.block outcome.state.block (disk_with old.extent before) (disk_with outcome.state.extent after) small (record { bytes = old.extent; told = refl; size = refl }) h.service.notified in
+    let told : Some outcome.state.extent ≡ Some many.bytes = many.told in
+    let same : outcome.state.extent ≡ many.bytes = cc told in
     record {
       console = ap (λ (o : Came A). o.state.console) h.service.is;
       pending = ap (λ (o : Came A). o.state.pending) h.service.is;
       cols = ap (λ (o : Came A). o.state.cols) h.service.is;
       rows = ap (λ (o : Came A). o.state.rows) h.service.is;
       read_only = ap (λ (o : Came A). o.state.read_only) h.service.is;
-      memory = kept.range;
-      extent = ap (λ (bs : List ℕ). length bs) same ∙ kept.many.size;
+      memory =
+          notified_range (block_device (device_of old)) 0 (queue_at 0 old.block) h.service.notified.ending old.memory outcome.state.memory old.block outcome.state.block (disk_with old.extent before) (disk_with outcome.state.extent after) h.service.notified.notified;
+      extent = ap (λ (bs : List ℕ). length bs) same ∙ many.size;
     }
 
 never : (before after : Health) → before.failures < after.failures → after ≡ before → ⊥
@@ -330,24 +335,138 @@ set_own [] h x here = refl
 set_own (y ∷ xs) zero x here = let same : y ≡ x = cc here in ap (λ z. z ∷ xs) (sym same)
 set_own (y ∷ xs) (suc h) x here = ap (λ zs. y ∷ zs) (set_own xs h x here)
 
-unread : {A : Type 0} (old new : World) (h : ℕ) (state : SlotState) (addr len : ℕ) (written : Record A) → slice_get old.slots h ≡ Some state → (step : SlotStep old h state (event.MemRead addr len) written new) → written.reply ≡ NoMemory → KeepsBoard old written new
-unread {A} old new h state addr len written here step lacks = by_given step.given
+-- the slot stays, nothing is put out, and the image stays
+record Stays {A : Type 0} (state : SlotState) (old new : Health) (outcome : Came A) : Type 0 where
+  slot : outcome.state ≡ state
+  output : outcome.output ≡ []
+  image : new ≡ old
+
+stays_of : {A : Type 0} (state : SlotState) (old new : Health) (outcome : Came A) → outcome ≡ replies state NoMemory → new ≡ old → Stays state old new outcome
+stays_of state old new outcome is image = record { slot = ap (λ o. o.state) is; output = ap (λ o. o.output) is; image = image }
+
+-- so does all that can be seen of the board, where it does whenever memory is wanting
+board_stays : {A : Type 0} (old new : World) (h : ℕ) (state : SlotState) (what : EventKind A) (written : Record A) → ((outcome : Came A) → IsRefused state what old.health new.health outcome → Stays state old.health new.health outcome)
+    → slice_get old.slots h ≡ Some state → (step : SlotStep old h state what written new) → written.reply ≡ NoMemory → KeepsBoard old written new
+board_stays {A} old new h state what written stays here step lacks = by_given step.given
   where
     said : step.outcome.reply ≡ NoMemory
     said = sym (ap (λ w. w.reply) step.recorded) ∙ lacks
 
-    by_given : MayGive state (event.MemRead addr len) old.health new.health step.outcome → KeepsBoard old written new
+    by_given : MayGive state what old.health new.health step.outcome → KeepsBoard old written new
     by_given (inl served) = absurd (served.answered said)
-    by_given (inr refused) = record {
-      slots = step.slots ∙ (ap (λ (o : Came A). slice_set old.slots h o.state) refused.unchanged ∙ set_own old.slots h state here);
-      outside = step.outside;
-      health = refused.image;
-      output = ap (λ w. w.output) step.recorded ∙ ap (λ (o : Came A). o.output) refused.unchanged;
-    }
+    by_given (inr refused) =
+        let same = stays step.outcome refused in
+        record {
+          slots = step.slots ∙ (ap (λ (s : SlotState). slice_set old.slots h s) same.slot ∙ set_own old.slots h state here);
+          outside = step.outside;
+          health = same.image;
+          output = ap (λ w. w.output) step.recorded ∙ same.output;
+        }
 
-unread_at : {A : Type 0} (old new : World) (h : ℕ) (addr len : ℕ) (written : Record A) (o : Option SlotState) → slice_get old.slots h ≡ o → MatchOption o (MissingStep old h written new) (λ s. SlotStep old h s (event.MemRead addr len) written new) → written.reply ≡ NoMemory → KeepsBoard old written new
-unread_at old new h addr len written None here step lacks = let said : BadSlot ≡ NoMemory = sym (ap (λ w. w.reply) step.recorded) ∙ lacks in absurd (cc said)
-unread_at old new h addr len written (Some state) here step lacks = unread old new h state addr len written here step lacks
+board_stays_at : {A : Type 0} (old new : World) (h : ℕ) (what : EventKind A) (written : Record A) → ((state : SlotState) (outcome : Came A) → IsRefused state what old.health new.health outcome → Stays state old.health new.health outcome)
+    → (o : Option SlotState) → slice_get old.slots h ≡ o → MatchOption o (MissingStep old h written new) (λ s. SlotStep old h s what written new) → written.reply ≡ NoMemory → KeepsBoard old written new
+board_stays_at old new h what written stays None here step lacks = let said : BadSlot ≡ NoMemory = sym (ap (λ w. w.reply) step.recorded) ∙ lacks in absurd (cc said)
+board_stays_at old new h what written stays (Some state) here step lacks = board_stays old new h state what written (stays state) here step lacks
 
+-- a read of memory
 pub read_without_memory : {A : Type 0} (old new : World) (h addr len : ℕ) (written : Record A) → Step old (record { slot = h; what = event.MemRead addr len }) written new → written.reply ≡ NoMemory → KeepsBoard old written new
-read_without_memory old new h addr len written step lacks = unread_at old new h addr len written (slice_get old.slots h) refl step lacks
+read_without_memory {A} old new h addr len written step lacks =
+    board_stays_at old new h (event.MemRead addr len) written (λ state outcome refused. stays_of state old.health new.health outcome refused.unchanged refused.image) (slice_get old.slots h) refl step lacks
+
+-- an emergency write
+unput : {A : Type 0} (state : SlotState) (answered : Bool) (width value : ℕ) (old new : Health) (outcome : Came A)
+    → IsCutShort (task_of Console (if answered then action.ConfigWrite emergency_write width value else action.None)) state old new outcome → Stays state old new outcome
+unput state true width value old new outcome h = stays_of state old new outcome h.alike h.image
+unput state false width value old new outcome h = absurd h
+
+pub byte_without_memory : {A : Type 0} (old new : World) (h width value : ℕ) (written : Record A) → Step old (record { slot = h; what = event.Write Console emergency_write width value }) written new → written.reply ≡ NoMemory → KeepsBoard old written new
+byte_without_memory {A} old new h width value written step lacks =
+    board_stays_at old new h (event.Write Console emergency_write width value) written
+    (λ state outcome refused. unput state (is_configuration_access emergency_write width) width (narrowed width value) old.health new.health outcome refused) (slice_get old.slots h) refl step lacks
+
+-- ---- what stays of a slot whose event found no memory
+
+same_slot : (state : SlotState) → KeepsBesideTransmit state state
+same_slot state = record { extent = refl; read_only = refl; block = refl; pending = refl; cols = refl; rows = refl; memory = same_range state.memory }
+
+transmit_beside : {A : Type 0} (state : SlotState) (old new : Health) (outcome : Came A) → IsRefusedTransmit state old new outcome → KeepsBesideTransmit state outcome.state
+transmit_beside {A} state old new outcome h = record {
+  extent = ap (λ (o : Came A). o.state.extent) h.is;
+  read_only = ap (λ (o : Came A). o.state.read_only) h.is;
+  block = ap (λ (o : Came A). o.state.block) h.is;
+  pending = ap (λ (o : Came A). o.state.pending) h.is;
+  cols = ap (λ (o : Came A). o.state.cols) h.is;
+  rows = ap (λ (o : Came A). o.state.rows) h.is;
+  memory = notified_range transmit 1 (queue_at 1 state.console) Refused state.memory outcome.state.memory state.console outcome.state.console [] outcome.output h.notified;
+}
+
+unchanged_beside : {A : Type 0} (state : SlotState) (outcome : Came A) → outcome ≡ replies state NoMemory → KeepsBesideTransmit state outcome.state
+unchanged_beside {A} state outcome is = subst (λ (o : Came A). KeepsBesideTransmit state o.state) (sym is) (same_slot state)
+
+-- what a write of the console's window changes before its task is done isn't looked at here
+console_beside : (offset width value : ℕ) (state after : SlotState) → KeepsBesideTransmit (with_write Console offset width value state) after → KeepsBesideTransmit state after
+console_beside offset width value state after kept = record {
+  extent = kept.extent;
+  read_only = kept.read_only;
+  block = kept.block;
+  pending = kept.pending;
+  cols = kept.cols;
+  rows = kept.rows;
+  memory = kept.memory;
+}
+
+-- what a refusal keeps, and that the image has no part in it
+record Lacks {A : Type 0} (state : SlotState) (old new : Health) (outcome : Came A) : Type 0 where
+  slot : KeepsBesideTransmit state outcome.state
+  image : new ≡ old
+
+put_out_lacks : {A : Type 0} (is : Bool) (byte : ℕ) (state : SlotState) (old new : Health) (outcome : Came A) → IsCutShort (if is then PutOut byte else Nothing) state old new outcome → Lacks state old new outcome
+put_out_lacks true byte state old new outcome h = record { slot = unchanged_beside state outcome h.alike; image = h.image }
+put_out_lacks false byte state old new outcome h = absurd h
+
+console_lacks : {A : Type 0} (act : Action) (state : SlotState) (old new : Health) (outcome : Came A) → IsCutShort (task_of Console act) state old new outcome → Lacks state old new outcome
+console_lacks (action.Notify zero) state old new outcome h = absurd h
+console_lacks (action.Notify (suc zero)) state old new outcome h = record { slot = transmit_beside state old new outcome h; image = h.image }
+console_lacks (action.Notify (suc (suc q))) state old new outcome h = absurd h
+console_lacks action.Reset state old new outcome h = absurd h
+console_lacks (action.ConfigWrite offset width value) state old new outcome h = put_out_lacks (offset == emergency_write) (value % 2 ^ 8) state old new outcome h
+console_lacks action.None state old new outcome h = absurd h
+
+-- the block device is never without memory
+block_answers : {A : Type 0} (act : Action) (state : SlotState) (old new : Health) (outcome : Came A) → IsCutShort (task_of Block act) state old new outcome → outcome.reply ≡ NoMemory → ⊥
+block_answers (action.Notify zero) state old new outcome h lacks = let said = sym (ap (λ o. o.reply) h.service.is) ∙ lacks in cc said
+block_answers (action.Notify (suc q)) state old new outcome h lacks = h
+block_answers action.Reset state old new outcome h lacks = h
+block_answers (action.ConfigWrite offset width value) state old new outcome h lacks = h
+block_answers action.None state old new outcome h lacks = h
+
+write_lacks : {A : Type 0} (state : SlotState) (window : DeviceKind) (offset width value : ℕ) (old new : Health) (outcome : Came A) → outcome.reply ≡ NoMemory
+    → IsCutShort (task_at window offset width value state) (with_write window offset width value state) old new outcome → Lacks state old new outcome
+write_lacks state Block offset width value old new outcome lacks h =
+    absurd (block_answers (action_at Block offset width value state) (with_write Block offset width value state) old new outcome h lacks)
+write_lacks state Console offset width value old new outcome lacks h =
+    let kept = console_lacks (action_at Console offset width value state) (with_write Console offset width value state) old new outcome h in
+    record { slot = console_beside offset width value state outcome.state kept.slot; image = kept.image }
+
+refused_lacks : {A : Type 0} (state : SlotState) (what : EventKind A) (old new : Health) (outcome : Came A) → outcome.reply ≡ NoMemory → IsRefused state what old new outcome → Lacks state old new outcome
+refused_lacks state (event.Read window offset width) old new outcome lacks h = absurd h
+refused_lacks state (event.Write window offset width value) old new outcome lacks h = write_lacks state window offset width value old new outcome lacks h
+refused_lacks state (event.MemRead addr len) old new outcome lacks h = record { slot = unchanged_beside state outcome h.unchanged; image = h.image }
+refused_lacks state (event.MemWrite addr bytes) old new outcome lacks h = absurd h
+refused_lacks state (event.Input bytes) old new outcome lacks h = absurd h
+refused_lacks state (event.Resize cols rows) old new outcome lacks h = absurd h
+
+given_lacks : {A : Type 0} (state : SlotState) (what : EventKind A) (old new : Health) (outcome : Came A) → outcome.reply ≡ NoMemory → MayGive state what old new outcome → Lacks state old new outcome
+given_lacks state what old new outcome lacks (inl h) = absurd (h.answered lacks)
+given_lacks state what old new outcome lacks (inr h) = refused_lacks state what old new outcome lacks h
+
+pub lacking_event_keeps : {A : Type 0} (old new : World) (e : Event A) (written : Record A) (before after : SlotState) → Step old e written new → written.reply ≡ NoMemory → slice_get old.slots e.slot ≡ Some before → slice_get new.slots e.slot ≡ Some after
+    → KeepsBesideTransmit before after × (new.health ≡ old.health)
+lacking_event_keeps {A} old new e written before after step lacks here there =
+    let taken : SlotStep old e.slot before e.what written new = slot_step old e written new before here step in
+    let came : slice_get new.slots e.slot ≡ Some taken.outcome.state =
+    ap (λ (slots : List SlotState). slice_get slots e.slot) taken.slots ∙ get_set old.slots e.slot before taken.outcome.state here in
+    let both : Some taken.outcome.state ≡ Some after = sym came ∙ there in
+    let same : taken.outcome.state ≡ after = cc both in
+    let kept = given_lacks before e.what old.health new.health taken.outcome (sym (ap (λ w. w.reply) taken.recorded) ∙ lacks) taken.given in
+    (subst (λ (s : SlotState). KeepsBesideTransmit before s) same kept.slot, kept.image)

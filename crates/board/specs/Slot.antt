@@ -59,6 +59,17 @@ pub record KeepsBesideDisk (old new : SlotState) : Type 0 where
   pub memory : SameRange old.memory new.memory
   pub extent : length new.extent ≡ length old.extent
 
+-- All that a transmit doesn't reach stays: the disk and whether it may be written, the block device's window, the
+-- console's pending input and size, and where the memory lies and how large it is.
+pub record KeepsBesideTransmit (old new : SlotState) : Type 0 where
+  pub extent : new.extent ≡ old.extent
+  pub read_only : new.read_only ≡ old.read_only
+  pub block : new.block ≡ old.block
+  pub pending : new.pending ≡ old.pending
+  pub cols : new.cols ≡ old.cols
+  pub rows : new.rows ≡ old.rows
+  pub memory : SameRange old.memory new.memory
+
 -- Both windows are sound for the memory: their ready queues lie in it. And no more input is pending than may
 -- be.
 pub record IsSoundSlot (memory : Memory) (block console : WindowState) (pending : List ℕ) : Type 0 where

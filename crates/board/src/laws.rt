@@ -4,6 +4,7 @@ ghost use Rattle.std.specs.Prelude.{◌≡◌, ℕ, ◌+◌, ◌<◌, ◌≤◌,
 ghost use Rattle.std.specs.List.{slice_get};
 ghost use Rattle.chain.specs.Service.{Served, ServesAll, Site};
 ghost use Rattle.sector_cache.specs.Disk.{Disk};
+ghost use Rattle.mmio_window.specs.declared.device_kind.DeviceKind.{DeviceKind};
 ghost use Rattle.mmio_window.specs.declared.queue.Queue.{Queue};
 ghost use Rattle.mmio_window.specs.Queue.{queue_kind};
 ghost use Rattle.block_device.specs.declared.device.BlockDevice.{BlockDevice};
@@ -15,7 +16,8 @@ ghost use Rattle.board.specs.declared.reply.Record.{Record};
 ghost use Rattle.board.specs.Line.{Move, IsLine, IsNoted, IsQuiet, IsAlone, IsRun, SeesTheSame, events_of, own_events};
 ghost use Rattle.board.specs.Machine.{IsNext, RunsOnItsOwn};
 ghost use Rattle.board.specs.Outcome.{Outcome};
-ghost use Rattle.board.specs.Slot.{SlotState, KeepsBesideDisk};
+ghost use Rattle.board.specs.Slot.{SlotState, KeepsBesideDisk, KeepsBesideTransmit};
+ghost use Rattle.board.specs.Task.{emergency_write};
 ghost use Rattle.board.specs.World.{World, KeepsBoard, Step};
 
 use std::alloc::Allocator;
@@ -71,11 +73,27 @@ pub fn a_step_is_a_run<A: Allocator>()
         Step old event written new → IsRun old new (event ∷ []) before (before ++ written ∷ []) }
 {}
 
-/// A read that found no memory changed nothing that can be seen, and put nothing out.
-pub fn a_read_without_memory_changes_nothing<A: Allocator>()
-    ensures { (old new : World) (slot addr len : ℕ) (written : Record A) →
+/// A read of memory and an emergency write that found no memory changed nothing that can be seen, and put
+/// nothing out.
+pub fn want_of_memory_changes_nothing<A: Allocator>()
+    ensures read { (old new : World) (slot addr len : ℕ) (written : Record A) →
         Step old (record { slot = slot; what = EventKind.MemRead addr len }) written new →
         written.reply ≡ Reply.NoMemory → KeepsBoard old written new }
+    ensures emergency_write { (old new : World) (slot width value : ℕ) (written : Record A) →
+        Step old (record {
+          slot = slot;
+          what = EventKind.Write DeviceKind.Console emergency_write width value;
+        }) written new →
+        written.reply ≡ Reply.NoMemory → KeepsBoard old written new }
+{}
+
+/// A transmit that found no memory, as every event that found none, keeps all of its slot that a transmit doesn't
+/// reach, and the image has no part in it.
+pub fn want_of_memory_keeps_the_rest<A: Allocator>()
+    ensures { (old new : World) (event : Event A) (written : Record A) (before after : SlotState) →
+        Step old event written new → written.reply ≡ Reply.NoMemory →
+        slice_get old.slots event.slot ≡ Some before → slice_get new.slots event.slot ≡ Some after →
+        KeepsBesideTransmit before after × (new.health ≡ old.health) }
 {}
 
 /// An event in which calls of the image failed keeps all of its slot that a block request doesn't reach.

@@ -7,7 +7,7 @@
 //!
 //! `board` is the board. `spec` says what it is made of, `check` and `fault` why one is refused;
 //! `event` is what comes in and `reply` what goes out. `slot` serves one guest, its memory, its two
-//! windows and its block device, and knows of no other; `features` says what its devices offer. `laws`
+//! windows and its two devices, and knows of no other; `features` says what its devices offer. `laws`
 //! has what holds of every run by itself.
 #![tactic(auto)]
 
@@ -29,9 +29,9 @@ pub use event::{Event, EventKind};
 pub use fault::BoardFault;
 pub use guest_memory::MemoryFault;
 pub use laws::{
-    a_failed_event_keeps_the_rest, a_guest_alone_has_one_run,
-    a_read_without_memory_changes_nothing, a_step_is_a_run, each_guest_is_alone,
+    a_failed_event_keeps_the_rest, a_guest_alone_has_one_run, a_step_is_a_run, each_guest_is_alone,
     nothing_else_is_seen, one_outcome, refusals_are_noted, two_runs_are_one,
+    want_of_memory_changes_nothing, want_of_memory_keeps_the_rest,
 };
 pub use mmio_window::DeviceKind;
 pub use reply::{Record, Reply, RunStop};
