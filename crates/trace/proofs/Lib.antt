@@ -19,3 +19,4 @@ pub mod Gathering
 pub mod Inputs
 pub mod OneSlotLemmas
 pub mod RunLemmas
+pub mod Pieces
