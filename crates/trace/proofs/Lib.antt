@@ -3,6 +3,7 @@ pub mod Numbers
 pub mod Cutting
 pub mod Signs
 pub mod ByteFields
+pub mod Judging
 pub mod Entries
 pub mod Clean
 pub mod Faulty
@@ -19,3 +20,4 @@ pub mod Gathering
 pub mod Inputs
 pub mod OneSlotLemmas
 pub mod RunLemmas
+pub mod Pieces

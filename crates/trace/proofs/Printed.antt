@@ -15,7 +15,7 @@ joined_more f front xs i x lt is =
     append_assoc front (joined (map f (take i xs))) (ended (f x))
     ∙ ap (λ (t : List ℕ). front ++ t) (sym (joined_push (map f (take i xs)) (f x)) ∙ ap joined (ap (λ y. map f (take i xs) ++ f y ∷ []) is ∙ sym (map_more f xs i x lt)))
 
-joined_append : (xs ys : List (List ℕ)) → joined (xs ++ ys) ≡ joined xs ++ joined ys
+pub joined_append : (xs ys : List (List ℕ)) → joined (xs ++ ys) ≡ joined xs ++ joined ys
 unfolding joined
 joined_append [] ys = refl
 joined_append (x ∷ xs) ys = ap (λ (t : List ℕ). ended x ++ t) (joined_append xs ys) ∙ sym (append_assoc (ended x) (joined xs) (joined ys))

@@ -11,10 +11,9 @@ use Rattle.board.specs.Line.{HadMemory, IsRun, events_done}
 use Rattle.board.specs.Slot.{BoardSlot, opened}
 use Rattle.board.specs.World.{BoardState, extents_of, seen, world_of}
 use Rattle.trace.specs.OneSlot.{IsMachine}
-use Rattle.trace.specs.Replay.{AfterRun, IsTraceOf, Replays, RunsOn, Unwritten}
+use Rattle.trace.specs.Replay.{AfterRun, IsTraceOf, Replays, RunsOn}
 use Rattle.trace.specs.Text.{Content}
 use Rattle.board.specs.Fault.{IsAccepted}
-use Rattle.trace.specs.Records.{records_text}
 use Rattle.trace.specs.declared.replay_fault.ReplayFault.{ReplayFault}
 use Rattle.trace.specs.declared.replay_fault.ReplayFault.TheVariants.{Read, Trace, Board, Run, Write, NoMemory}
 use Rattle.trace.proofs.OneSlotLemmas.{one_slot}
@@ -52,17 +51,6 @@ pub record FirstDone {A : Type 0} (events done : List (Event A)) : Type 0 where
 pub first_done : {A : Type 0} (result : Result (Unit {0}) RunStop) (events : List (Event A)) → FirstDone events (events_done result events)
 first_done (Ok done) events = record { count = length events; are = sym (take_all (length events) events (omega arith)) }
 first_done (Err stop) events = record { count = stop.done; are = refl }
-
--- a run whose text wasn't written
-pub unwritten : {A I : Type 0} (disk : I → Disk) (slots : List SlotSpec) (events done : List (Event A)) (before after : I) (old new : Option (List ℕ)) (records : List (Record A)) (fault : ReplayFault) → FirstDone events done → (Tells (disk before) → RunsOn slots (disk before) (disk after) done records) → Unwritten old new (records_text records) fault → AfterRun disk slots events before after old new (Err fault)
-unwritten {A} disk slots events done before after old new records NoMemory first ran why =
-    record { done = first.count; recorded = record { records = records; ran = λ tells. subst (λ (es : List (Event A)). RunsOn slots (disk before) (disk after) es records) first.are (ran tells); output = why } }
-unwritten {A} disk slots events done before after old new records Write first ran why =
-    record { done = first.count; recorded = record { records = records; ran = λ tells. subst (λ (es : List (Event A)). RunsOn slots (disk before) (disk after) es records) first.are (ran tells); output = why } }
-unwritten disk slots events done before after old new records Read first ran why = absurd why
-unwritten disk slots events done before after old new records (Trace fault) first ran why = absurd why
-unwritten disk slots events done before after old new records (Board fault) first ran why = absurd why
-unwritten disk slots events done before after old new records (Run count) first ran why = absurd why
 
 played_as : {A I : Type 0} (disk : I → Disk) (input old new : Option (List ℕ)) (before after : I) (trace : Content A) (outcome : Result (Unit {0}) ReplayFault) → IfSome input (λ bytes. IsTraceOf bytes trace) → IsAccepted (disk before).sector_count trace.slots trace.cache → AfterRun disk trace.slots trace.events before after old new outcome → Replays A disk input old new before after outcome
 played_as disk input old new before after trace (Ok done) read accepted ended = record { trace = trace; read = read; accepted = accepted; ended = ended }

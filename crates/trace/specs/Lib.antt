@@ -10,3 +10,4 @@ pub mod LastLine
 pub mod Sends
 pub mod OneSlot
 pub mod Replay
+pub mod Pieces

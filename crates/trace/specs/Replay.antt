@@ -116,9 +116,3 @@ abbrev pub RefusesInput : Type 0 → Option (List ℕ) → ReplayFault → Type 
 RefusesInput A input Read = ⊤
 RefusesInput A input (Trace fault) = IfSome input (λ bytes. IsTraceFault A bytes fault)
 RefusesInput A input _ = ⊥
-
--- why a text wasn't written: there was no memory for it, or the writer failed
-abbrev pub Unwritten : Option (List ℕ) → Option (List ℕ) → List ℕ → ReplayFault → Type 0
-Unwritten old new text NoMemory = Keeps old new
-Unwritten old new text Write = AppendsFront old new text
-Unwritten old new text _ = ⊥

@@ -4,7 +4,6 @@ ghost use Rattle.std.specs.Prelude.{◌≡◌, ◌∷◌, [], ◌↔◌, All, Is
 ghost use Rattle.trace.specs.Words.{ArePairs, IsBytesField, IsDigit, Says, Bytes as ByBytes};
 ghost use Rattle.trace.specs.Refusals.{RefusesBytes};
 
-use crate::digit::value_of;
 use crate::fault::FaultKind;
 use board::Bytes;
 use std::alloc::Allocator;
@@ -13,12 +12,18 @@ use std::alloc::Allocator;
 fn are_digits(field: &[u8]) -> bool
     ensures { IsTrue result ↔ All IsDigit field.now }
 {
+    let mut all = true;
     for c in field {
-        if value_of(*c).is_none() {
-            return false;
-        }
+        all &= is_digit(*c);
     }
-    true
+    all
+}
+
+/// Whether the byte is a lower case digit. It has no branch, so that many bytes are judged at once.
+fn is_digit(c: u8) -> bool
+    ensures { IsTrue result ↔ IsDigit c }
+{
+    (c >= b'0') & (c <= b'9') | (c >= b'a') & (c <= b'f')
 }
 
 /// Whether they are so, and in pairs.

@@ -11,12 +11,10 @@ pub(crate) fn take_line(text: &[u8]) -> Option<(&[u8], &[u8])>
     ensures lines { IfSome result (λ cut. lines_of text.now ≡ cut.0.now ∷ lines_of cut.1.now) }
     ensures none { IfNone result (lines_of text.now ≡ text.now ∷ []) }
 {
-    for (i, c) in text.iter().enumerate() {
-        if *c == b'\n' {
-            return Some((&text[..i], &text[i + 1..]));
-        }
+    match memchr::memchr(b'\n', text) {
+        Some(i) => Some((&text[..i], &text[i + 1..])),
+        None => None,
     }
-    None
 }
 
 /// The first field of a line, and what follows its space, where there is one.
@@ -36,11 +34,11 @@ pub(crate) fn one(rest: Option<&[u8]>) -> Option<&[u8]>
     ensures some { IfSome result (λ a. fields_left (option_copied rest.entry) ≡ a.now ∷ []) }
     ensures none { IfNone result (length (fields_left (option_copied rest.entry)) ≢ 1) }
 {
-    let (a, rest) = take_field(rest?);
-    if rest.is_some() {
-        return None;
+    let field = rest?;
+    match memchr::memchr(b' ', field) {
+        Some(_) => None,
+        None => Some(field),
     }
-    Some(a)
 }
 
 /// The fields that are left of a line, where they are two.

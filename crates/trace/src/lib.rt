@@ -5,9 +5,9 @@
 //! what a line is, `entry` and `fields` read one line, and `number`, `choice`, `value` and `bytes` one
 //! field. `print` has the way back, with `push` for one field and `range` for the bounds of its numbers, and
 //! `round_trip` goes both ways. `fault` has what is answered for a text that is no trace's, and `laws` says that
-//! a text has one meaning or one fault. `records` writes the records of a run, `input` gathers what a reader
-//! gives and `write` writes whole texts, `run` replays a trace from its text to that of its records, and
-//! `last_line` tells how a program ends after it.
+//! a text has one meaning or one fault. `records` puts the records of a run, `buffer` stands before the
+//! writer, `input` gathers what a reader gives and `write` writes whole texts, `run` replays a trace from its
+//! text to that of its records, and `last_line` tells how a program ends after it.
 #![tactic(auto)]
 
 mod buffer;

@@ -20,10 +20,10 @@ pub enum ReplayFault {
     /// their records was written.
     #[error("no memory after {0} events")]
     Run(usize),
-    /// The writer failed.
+    /// The writer failed. The events were run all the same.
     #[error("the records can't be written")]
     Write,
-    /// There was no memory for the text of the records. Nothing was written.
+    /// There was no memory for the text of the records. No event was run, and nothing was written.
     #[error("no memory for the records' text")]
     NoMemory,
 }

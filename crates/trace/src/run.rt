@@ -1,21 +1,21 @@
 //! Replaying a trace: from its text to the text of its records.
 
-ghost use Rattle.std.specs.Prelude.{◌≡◌, All, IfOk, IfErr, IfSome, OnOk, map};
-ghost use Rattle.std.specs.Io.KnownBytes.{Appends};
-ghost use Rattle.board.specs.Line.{HasInterruptWords};
+ghost use Rattle.std.specs.Prelude.{◌≡◌, ◌<◌, [], IfOk, IfErr, IfSome, length, map};
+ghost use Rattle.board.specs.Line.{events_done};
 ghost use Rattle.board.specs.Slot.{opened};
-ghost use Rattle.trace.specs.Records.{records_text};
-ghost use Rattle.trace.specs.Replay.{AfterRun, EndsReading, IsTraceOf, RefusesInput, Replays, Unwritten};
+ghost use Rattle.trace.specs.Pieces.{SendsRun};
+ghost use Rattle.trace.specs.Replay.{AfterRun, EndsReading, IsTraceOf, RefusesInput, Replays};
+ghost use Rattle.trace.specs.Sends.{waiting};
 ghost use Rattle.trace.specs.Text.{content};
 
+use crate::buffer::Buffer;
 use crate::fault::{FaultKind, TraceFault};
 use crate::input::gather;
 use crate::read::read_trace;
-use crate::records::print_records;
+use crate::records::put_records;
 use crate::replay_fault::ReplayFault;
 use crate::trace::Trace;
-use crate::write::write_whole;
-use board::{Board, Record, RunStop};
+use board::{Board, Event, Record, RunStop};
 use sector_cache::{Image, Refused};
 use std::alloc::Allocator;
 use std::io::{Read, Write};
@@ -25,6 +25,12 @@ const NO_ROOM: TraceFault = TraceFault {
     line: 1,
     kind: FaultKind::NoMemory,
 };
+
+/// How many bytes of text wait for the writer at most.
+const TEXT_ROOM: usize = 65536;
+
+/// How many events are run before the text of their records is sent.
+const PIECE: usize = 256;
 
 /// Reads a trace to the reader's end, makes its board over the image, runs its events, and writes the
 /// text of their records, whole. The image is handed back as it then stands.
@@ -77,33 +83,61 @@ fn run_trace<W: Write, I: Image, A: Allocator + Copy>(
     requires { board.slots ≡ map opened trace.now.slots.items }
     ensures { AfterRun I.disk trace.now.slots.items trace.now.events.items board.image result.0 (W.contents writer.old) (W.contents writer.new) result.1 }
 {
-    let mut records = Vec::new(alloc);
-    let ran = board.run(&trace.events, &mut records);
-    let outcome = match write_records(alloc, &records, writer) {
-        Ok(()) => match ran {
-            Ok(()) => Ok(()),
-            Err(RunStop { done }) => Err(ReplayFault::Run(done)),
-        },
-        Err(fault) => Err(fault),
+    let Ok(mut text) = Buffer::with_room(alloc, TEXT_ROOM) else {
+        return (board.into_image(), Err(ReplayFault::NoMemory));
+    };
+    let ran = run_events(alloc, &mut board, &trace.events, &mut text, writer);
+    text.flush(writer);
+    let outcome = match ran {
+        _ if text.is_broken() => Err(ReplayFault::Write),
+        Ok(()) => Ok(()),
+        Err(RunStop { done }) => Err(ReplayFault::Run(done)),
     };
     (board.into_image(), outcome)
 }
 
-// Writes the text of the records, whole.
-fn write_records<W: Write, A: Allocator>(
+// Runs the events and sends the text of their records, piece after piece. Where the writer fails the run
+// goes on, so that what becomes of the image isn't decided by the writer.
+fn run_events<W: Write, I: Image, A: Allocator + Copy>(
     alloc: A,
-    records: &[Record<A>],
+    board: &mut Board<I, A>,
+    events: &[Event<A>],
+    text: &mut Buffer<A>,
     writer: &mut W,
-) -> Result<(), ReplayFault>
-    requires { All HasInterruptWords records.now }
-    ensures ok { OnOk result (Appends (W.contents writer.old) (W.contents writer.new) (records_text records.now)) }
-    ensures err { IfErr result (Unwritten (W.contents writer.old) (W.contents writer.new) (records_text records.now)) }
+) -> Result<(), RunStop>
+    ensures sent { SendsRun I.disk board.old board.new (events_done result events.now) (W.contents writer.old) (W.contents writer.new) (waiting text.old) (waiting text.new) }
+    ensures stopped { IfErr result (λ stop. stop.done < length events.now) }
 {
-    let Ok(text) = print_records(alloc, records) else {
-        return Err(ReplayFault::NoMemory);
-    };
-    if !write_whole(writer, &text) {
-        return Err(ReplayFault::Write);
+    let mut records = Vec::new(alloc);
+    let mut done = 0;
+    let mut rest = events;
+    while !rest.is_empty() {
+        let (piece, after) = rest.split_at(rest.len().min(PIECE));
+        if let Err(stop) = run_piece(board, piece, &mut records, text, writer) {
+            let done = done + stop.done;
+            return Err(RunStop { done });
+        }
+        done += piece.len();
+        rest = after;
     }
     Ok(())
+}
+
+// Runs a few events and sends the text of their records, which it then drops.
+fn run_piece<W: Write, I: Image, A: Allocator + Copy>(
+    board: &mut Board<I, A>,
+    events: &[Event<A>],
+    records: &mut Vec<Record<A>, A>,
+    text: &mut Buffer<A>,
+    writer: &mut W,
+) -> Result<(), RunStop>
+    requires { records.old.items ≡ [] }
+    ensures sent { SendsRun I.disk board.old board.new (events_done result events.now) (W.contents writer.old) (W.contents writer.new) (waiting text.old) (waiting text.new) }
+    ensures stopped { IfErr result (λ stop. stop.done < length events.now) }
+    ensures empty { records.new.items ≡ [] }
+{
+    let ran = board.run(events, records);
+    put_records(text, writer, records);
+    records.clear();
+    ran
 }

@@ -144,10 +144,22 @@ fn a_writer_that_fails(rt: HostRuntime) -> Result<(), Fail> {
 /// memory.
 const LINES: [u64; 5] = [1, 3, 5, 7, 9];
 
+/// How many records were written. Each is that of ample memory, or says that there was none for its bytes.
+fn count_of(written: &[u8]) -> Option<usize> {
+    let mut count = 0usize;
+    let mut whole = RECORDS.split_inclusive(|b| *b == b'\n');
+    for line in written.split_inclusive(|b| *b == b'\n') {
+        if whole.next() != Some(line) && !line.ends_with(b" nomem - 0 0\n") {
+            return None;
+        }
+        count = count.saturating_add(1);
+    }
+    Some(count)
+}
+
 /// The place of what is answered, as memory is refused later and later: for one of these lines, for the
-/// board, for the records, and for their text. A refusal stays, so it comes to the text also where a
-/// record's bytes were refused.
-fn place_of(outcome: Result<(), ReplayFault>) -> Option<usize> {
+/// board, for the text, for records, and for the bytes of a record. With it, how many records are written.
+fn place_of(outcome: Result<(), ReplayFault>) -> Option<(usize, usize)> {
     match outcome {
         Err(
             ReplayFault::Trace(
@@ -156,10 +168,11 @@ fn place_of(outcome: Result<(), ReplayFault>) -> Option<usize> {
                     kind: FaultKind::NoMemory,
                 },
             ),
-        ) => LINES.iter().position(|it| *it == line),
-        Err(ReplayFault::Board(BoardFault::NoMemory)) => Some(5),
-        Err(ReplayFault::Run(0)) => Some(6),
-        Err(ReplayFault::NoMemory) => Some(7),
+        ) => Some((LINES.iter().position(|it| *it == line)?, 0)),
+        Err(ReplayFault::Board(BoardFault::NoMemory)) => Some((5, 0)),
+        Err(ReplayFault::NoMemory) => Some((6, 0)),
+        Err(ReplayFault::Run(done)) => Some((7, done)),
+        Ok(()) => Some((8, 7)),
         _ => None,
     }
 }
@@ -167,7 +180,8 @@ fn place_of(outcome: Result<(), ReplayFault>) -> Option<usize> {
 #[test]
 fn each_request_refused_in_turn(rt: HostRuntime) -> Result<(), Fail> {
     let heap = RefusingHeap::new(rt.alloc());
-    let mut times = [0u32; 8];
+    let mut times = [0u32; 9];
+    let mut last = 0;
     for n in 1..100 {
         let mut written = Vec::new(rt.alloc());
         let mut text = TRACE;
@@ -176,19 +190,73 @@ fn each_request_refused_in_turn(rt: HostRuntime) -> Result<(), Fail> {
         if !heap.has_refused() {
             assert_eq!(rt; outcome, Ok(()));
             assert_eq!(rt; written.as_slice(), RECORDS);
-            let [input, slots, events, bytes, more, boards, runs, texts] = times;
-            assert_eq!(rt;
-                [input, slots, events, bytes, more, runs, texts],
-                [1, 1, 1, 1, 1, 1, 4]
-            );
+            let [
+                input,
+                slots,
+                events,
+                bytes,
+                more,
+                boards,
+                texts,
+                runs,
+                reads,
+            ] = times;
+            assert_eq!(rt; [input, slots, events, bytes, more, texts], [1; 6]);
             assert!(rt; boards > 2, "the slots and two memories take memory");
+            assert!(rt; runs > 0 && reads > 0);
             return Ok(());
         }
-        assert!(rt; written.is_empty());
-        match place_of(outcome) {
-            Some(i) if i < times.len() => times[i] = times[i].saturating_add(1),
-            _ => panic!(rt; "{outcome:?} at request {n}"),
-        }
+        let Some((place, count)) = place_of(outcome) else {
+            panic!(rt; "{outcome:?} at request {n}");
+        };
+        assert_eq!(rt; count_of(&written), Some(count), "at request {n}");
+        assert!(rt; last <= place);
+        last = place.min(8);
+        times[last] = times[last].saturating_add(1);
     }
     panic!(rt; "memory was never ample")
+}
+
+/// A record longer than the buffer before the writer goes out in pieces, also where the writer takes two bytes
+/// at a time. Where it fails, a front of the record went out.
+#[test]
+fn a_record_longer_than_the_buffer(rt: HostRuntime) -> Result<(), Fail> {
+    let mut whole = b"0 b:".to_vec(rt.alloc())?;
+    for _ in 0..0x12000 {
+        whole.extend_from_slice(b"00")?;
+    }
+    whole.extend_from_slice(b" - 0 0\n")?;
+    for room in [0, 5, 65535, 65536, 65537, 131072, whole.len()] {
+        let mut writer = SmallWriter::new(rt.alloc(), room);
+        let mut text: &[u8] = b"vreplay 1\ncache 1\nslot 0 20000 0 1 rw 1 1\nmr 0 100 12000\n";
+        let outcome = replayed(&rt, rt.alloc(), &mut text, &mut writer)?;
+        assert!(rt; whole.starts_with(&writer.held));
+        assert_eq!(rt; writer.held.len(), room);
+        assert_eq!(rt; outcome.is_ok(), room == whole.len());
+    }
+    Ok(())
+}
+
+/// Lines that end at each place around the end of a full buffer, and more events than are run at a time: the
+/// first lines are three bytes shorter than the others.
+#[test]
+fn lines_that_end_anywhere(rt: HostRuntime) -> Result<(), Fail> {
+    for shorter in 0..19 {
+        let mut text = b"vreplay 1\ncache 1\nslot 0 1000 0 1 rw 1 1\n".to_vec(rt.alloc())?;
+        let mut whole = Vec::new(rt.alloc());
+        for _ in 0..shorter {
+            text.extend_from_slice(b"r 1 b 000 4\n")?;
+            whole.extend_from_slice(b"1 badslot - 0 0\n")?;
+        }
+        for _ in 0..7000 {
+            text.extend_from_slice(b"r 0 b 000 4\n")?;
+            whole.extend_from_slice(b"0 v:74726976 - 0 0\n")?;
+        }
+        let mut written = Vec::new(rt.alloc());
+        let mut rest = text.as_slice();
+        let outcome = replayed(&rt, rt.alloc(), &mut rest, &mut written)?;
+        assert_eq!(rt; outcome, Ok(()));
+        assert!(rt; written == whole, "after {shorter} shorter lines");
+    }
+    Ok(())
 }

@@ -1,9 +1,14 @@
-use Rattle.std.proofs.Common.{sym, ap, ◌∙◌}
+use Rattle.std.proofs.Common.{length, ap, ◌∙◌, arith}
 use Rattle.std.specs.Option.{option_copied}
-use Rattle.trace.specs.Cuts.{fields_left}
-use Rattle.trace.proofs.Cutting.{no_more}
+use Rattle.trace.specs.Cuts.{fields_left, fields_of}
+use Rattle.trace.proofs.Cutting.{cut_found, cut_unfound, fields_found}
 use Rattle.trace.proofs.cut.one.Goals as goal
 
-pub returns-then-is_some-clause-none : goal.returns-then-is_some-clause-none
-returns-then-is_some-clause-none c =
-    no_more (fields_left (option_copied c.args.rest)) c.take_field.result.0.now c.take_field.result.1 (ap (λ o. fields_left (option_copied o)) c.in_ok-rest.was ∙ c.take_field.ensures) (sym c.is_some.ensures ∙ c.if-is_some.true)
+pub returns-in-Some-clause-none : goal.returns-in-Some-clause-none
+returns-in-Some-clause-none c =
+    let some = fields_found c.in_ok-field.field.now c.in-Some.field-0 c.in-Some.ensures in
+    rw c.in_ok-field.was (λ e. absurd (omega (arith, some)))
+
+pub returns-in-None-clause-some : goal.returns-in-None-clause-some
+unfolding fields_of
+returns-in-None-clause-some c = rw c.in_ok-field.was (cut_unfound 32 c.in_ok-field.field.now c.in-None.ensures)

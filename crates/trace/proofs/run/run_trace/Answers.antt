@@ -1,43 +1,26 @@
-use Rattle.std.proofs.Common.{ap, take}
-use Rattle.std.proofs.lemmas.List.Elements.{All-nil}
-use Rattle.board.specs.Line.{HasInterruptWords, events_done}
-use Rattle.trace.proofs.RunLemmas.{first_done, runs_on, unwritten}
+use Rattle.std.proofs.Common.{ap, take, ◌∙◌, Result}
+use Rattle.board.specs.declared.reply.RunStop.{RunStop}
+use Rattle.std.proofs.KnownBytes.{Keeps-refl}
+use Rattle.board.specs.Line.{events_done}
+use Rattle.trace.proofs.Pieces.{all_out, flushed_whole, front_out, none_out, sends_flushed}
 use Rattle.trace.proofs.run.run_trace.Goals as goal
-use Rattle.trace.proofs.run.run_trace.Goals.{in-Ok+in-Ok-ran, in-Ok+in-Err-ran, in-Err}
+use Rattle.trace.proofs.run.run_trace.Goals.{then-is_broken, else-is_broken+in-Ok-ran, else-is_broken+in-Err}
 
-pub write_records-requires : goal.write_records-requires
-write_records-requires g c = rw c.deref-2.ensures.value (c.run-ran.ensures.words (rw c.new-records.ensures.items (All-nil HasInterruptWords)))
+pub returns-in_default : goal.returns-in_default
+returns-in_default g c = none_out g.I.Image.disk c.args.trace.now.slots.items c.args.board c.into_image.result c.args.trace.now.events.items _ _ c.requires c.into_image.ensures (Keeps-refl _)
 
 pub returns : goal.returns
 returns g c =
     let disk = g.I.Image.disk in
     let slots = c.args.trace.now.slots.items in
     let events = c.args.trace.now.events.items in
-    let records = c.run-ran.new.records.items in
-    let after = c.run-ran.new.self in
-    elim c.match-write_records.branch [
-      | in-Ok+in-Ok-ran w ↦ rw w.outcome-is (record {
-        records = records;
-        ran = λ tells.
-            runs_on disk slots c.args.board after c.into_image.result _ events c.new-records.result.items records c.requires c.new-records.ensures.items c.into_image.ensures c.deref.ensures.value
-            c.run-ran.ensures.extents (c.run-ran.ensures.told tells) (w.in-Ok-ran.ensures.run tells);
-        output = rw c.deref-2.ensures.value at w.in-Ok.ensures.ok;
+    let after = c.run_events-ran.new.board in
+    let run = sends_flushed disk c.args.board after (events_done c.run_events-ran.result c.deref.result.now) (g.W.Write.contents c.args.writer.now) _ (g.W.Write.contents c.flush.new.out) _ _ _ c.in-Ok.ensures c.run_events-ran.ensures.sent c.flush.ensures.sends in
+    elim c.if-is_broken.branch [
+      | then-is_broken w ↦ rw w.outcome-is (front_out disk slots c.args.board after c.into_image-2.result events c.deref.result.now _ _ _ c.run_events-ran.result c.requires c.into_image-2.ensures (c.is_broken.ensures.0 w.if-is_broken.true) c.deref.ensures.value run)
+      | else-is_broken+in-Ok-ran w ↦ rw w.outcome-is (all_out disk slots c.args.board after c.into_image-2.result _ events _ _ _ c.requires c.into_image-2.ensures (flushed_whole _ c.is_broken.result c.flush.ensures.empty c.is_broken.ensures w.if-is_broken.false) (ap (events_done c.run_events-ran.result) c.deref.ensures.value ∙ ap (λ (r : Result (Unit {0}) RunStop). events_done r events) w.in-Ok-ran.is) run)
+      | else-is_broken+in-Err w ↦ rw w.outcome-is (record {
+        some_left = rw c.deref.ensures.value at w.in-Err.ensures.stopped;
+        recorded = all_out disk slots c.args.board after c.into_image-2.result _ (take w.in-Err.field-0.done events) _ _ _ c.requires c.into_image-2.ensures (flushed_whole _ c.is_broken.result c.flush.ensures.empty c.is_broken.ensures w.if-is_broken.false) (ap (events_done c.run_events-ran.result) c.deref.ensures.value ∙ ap (λ (r : Result (Unit {0}) RunStop). events_done r events) w.in-Err.is) run;
       })
-      | in-Ok+in-Err-ran w ↦ rw w.outcome-is (record {
-        some_left = rw c.deref.ensures.value at w.in-Err-ran.ensures.stopped;
-        recorded = record {
-          records = records;
-          ran = λ tells.
-              runs_on disk slots c.args.board after c.into_image.result _ _ c.new-records.result.items records c.requires c.new-records.ensures.items c.into_image.ensures (ap (take w.in-Err-ran.field-0.done) c.deref.ensures.value)
-              c.run-ran.ensures.extents (c.run-ran.ensures.told tells) (w.in-Err-ran.ensures.run tells);
-          output = rw c.deref-2.ensures.value at w.in-Ok.ensures.ok;
-        };
-      })
-      | in-Err w ↦
-          rw w.outcome-is (unwritten disk slots events (events_done c.run-ran.result events) c.args.board.image c.into_image.result _ _ records w.in-Err.fault
-          (first_done c.run-ran.result events)
-          (λ tells.
-          runs_on disk slots c.args.board after c.into_image.result _ _ c.new-records.result.items records c.requires c.new-records.ensures.items c.into_image.ensures (ap (events_done c.run-ran.result) c.deref.ensures.value)
-          c.run-ran.ensures.extents (c.run-ran.ensures.told tells) (c.run-ran.ensures.run tells))
-          (rw c.deref-2.ensures.value at w.in-Err.ensures.err))
     ]
