@@ -1,14 +1,13 @@
 //! The two lists by places: lending what lies in one segment, and copying over as many as it takes.
 
-ghost use Rattle.std.specs.Prelude.{◌≡◌, ℕ, List, ◌+◌, ◌^◌, ◌<◌, ◌≤◌, length, take, drop, min, All};
+ghost use Rattle.std.specs.Prelude.{◌≡◌, ℕ, List, ◌+◌, ◌<◌, ◌≤◌, length, take, drop, min, All};
 ghost use Rattle.std.specs.Borrow.{sem};
 ghost use Rattle.guest_memory.specs.Memory.{SameRange, part_of, put};
 ghost use Rattle.guest_memory.specs.Lending.{LendsPart};
 ghost use Rattle.chain.specs.Buffers.{Within};
-ghost use Rattle.chain.specs.Bytes.{len_of, readable_of, readable_rest, rest_at, scatter, segments_of, writable_of, writable_rest};
+ghost use Rattle.chain.specs.Bytes.{readable_of, readable_rest, scatter, writable_of, writable_rest};
 
 use crate::buffers::Chain;
-use crate::segment::{Buffer, Segment};
 use guest_memory::GuestMemory;
 use std::alloc::Allocator;
 
@@ -25,7 +24,7 @@ impl Chain {
         ensures listed { result.now ≡
             take (length result.now) (drop from (readable_of mem.now self.now)) }
     {
-        let rest = segment_at(self.buffers(), false, from);
+        let rest = self.segment_at(false, from);
         mem.slice(rest.addr, u64::from(rest.len))
     }
 
@@ -51,7 +50,7 @@ impl Chain {
             put mem.old (writable_rest chain.now from).addr bytes ≡
             scatter mem.old (drop from (writable_of chain.now)) bytes }
     {
-        let rest = segment_at(chain.buffers(), true, from);
+        let rest = chain.segment_at(true, from);
         mem.part_mut(rest.addr, u64::from(rest.len).min(most))
     }
 
@@ -109,27 +108,4 @@ impl Chain {
             done += n;
         }
     }
-}
-
-/// What is left of the segment that a place of the writable list (`writable`) or of the readable one lies
-/// in, from that place on. It is looked for from the first buffer on.
-fn segment_at(buffers: &[Buffer], writable: bool, place: u64) -> Segment
-    requires addressable { All (λ b. b.segment.addr + b.segment.len ≤ 2 ^ 64) buffers.now }
-    requires in_list { place < len_of writable buffers.now }
-    ensures { result ≡ rest_at (segments_of writable buffers.now) place }
-{
-    let mut left = place;
-    for buffer in buffers {
-        let Segment { addr, len } = buffer.segment;
-        if buffer.writable == writable {
-            if left < u64::from(len) {
-                return Segment {
-                    addr: addr + left,
-                    len: len - left as u32,
-                };
-            }
-            left -= u64::from(len);
-        }
-    }
-    unreachable!()
 }

@@ -7,23 +7,23 @@ use Rattle.chain.proofs.Directions.{length-addresses_of}
 use Rattle.chain.proofs.Places.{rest_some}
 use Rattle.chain.proofs.buffers.Chain.lend.Goals as goal
 
-pub segment_at-rest-requires-clause-in_list : goal.segment_at-rest-requires-clause-in_list
-segment_at-rest-requires-clause-in_list g c =
-    rw c.buffers.ensures.value (omega (arith, length-addresses_of true c.args.chain.now))
+pub segment_at-rest-requires : goal.segment_at-rest-requires
+segment_at-rest-requires g c =
+    omega (arith, length-addresses_of true c.args.chain.now)
 
 pub part_mut-requires : goal.part_mut-requires
 part_mut-requires g c =
     let xs = c.args.chain.now in
     let h : c.args.from < len_of true xs = omega (arith, length-addresses_of true xs) in
     part_inside c.args.mem.now true xs c.args.from c.min.result c.requires.inside h c.segment_at-rest.result
-    (rw c.buffers.ensures.value at c.segment_at-rest.ensures) (omega (arith, c.min.ensures))
+    c.segment_at-rest.ensures (omega (arith, c.min.ensures))
 
 pub returns : goal.returns
 returns g c =
     let xs = c.args.chain.now in
     let rest = writable_rest xs c.args.from in
     let h : c.args.from < len_of true xs = omega (arith, length-addresses_of true xs) in
-    let is : c.segment_at-rest.result ≡ rest = rw c.buffers.ensures.value at c.segment_at-rest.ensures in
+    let is : c.segment_at-rest.result ≡ rest = c.segment_at-rest.ensures in
     let addr : c.segment_at-rest.result.addr ≡ rest.addr = ap (λ (s : Segment). s.addr) is in
     let len : c.segment_at-rest.result.len ≡ rest.len = ap (λ (s : Segment). s.len) is in
     let some : 0 < rest.len = rest_some (segments_of true xs) c.args.from h in
