@@ -3,7 +3,7 @@ use Rattle.std.proofs.Common.{◌≡◌, ℕ, ◌+◌, ◌<◌, ◌≤◌, Bool,
 use Rattle.std.specs.Prelude.{All}
 use Rattle.std.specs.List.{range_with_len}
 use Rattle.std.proofs.lemmas.List.FromFn.{length-range_with_len}
-use Rattle.std.proofs.lemmas.List.{drop-drop, length-take, length-drop, take-append-drop, length-take-le}
+use Rattle.std.proofs.lemmas.List.{append-nil, drop-drop, length-take, length-drop, take-append-drop, take-take, length-take-le}
 use borrow.Rule.Slice.PartMut.{put_mid}
 use Rattle.guest_memory.specs.Memory.{Memory, Inside, put, part_of}
 use Rattle.guest_memory.proofs.Ranges.{inside_same, put-none, put-put, put_range, take-plus}
@@ -12,6 +12,7 @@ use Rattle.chain.specs.declared.segment.Segment.{Segment}
 use Rattle.chain.specs.Buffers.{Within}
 use Rattle.chain.specs.Bytes.{segments_of, addresses_of, len_of, readable_of, rest_at, scatter}
 use Rattle.chain.proofs.Directions.{All-segments_of}
+use Rattle.chain.proofs.Scattering.{scatter_none}
 use Rattle.chain.proofs.Places.{rest_inside, rest_reads, rest_addresses}
 
 -- part of what is left of a segment lies in the memory
@@ -22,15 +23,13 @@ part_inside m w xs place n a h r is l =
     record { above = inside.above; below = omega (arith, inside.below, l) }
 
 -- one more run is read
-pub read_run : (m : Memory) (xs : List Buffer) (from done n : ℕ) (into part new : List ℕ) → All (Within m) xs → from + done < len_of false xs
-    → (r : Segment) → r ≡ rest_at (segments_of false xs) (from + done) → n ≤ r.len → part ≡ part_of m r.addr n
-    → take done into ≡ take done (drop from (readable_of m xs)) → take (done + n) new ≡ take done into ++ part
-    → take (done + n) new ≡ take (done + n) (drop from (readable_of m xs))
-read_run m xs from done n into part new a h found is l p before e =
-    let r = rest_reads m (segments_of false xs) (from + done) n (All-segments_of m false xs a) h (rw is at l) in
-    let d : drop (from + done) (readable_of m xs) ≡ drop done (drop from (readable_of m xs)) = sym (drop-drop done from (readable_of m xs)) in
-    let part_is : part ≡ take n (drop done (drop from (readable_of m xs))) = p ∙ ap (λ (s : Segment). part_of m s.addr n) is ∙ sym r ∙ ap (take n) d in
-    e ∙ rw (before, part_is) (sym (take-plus done n (drop from (readable_of m xs))))
+pub read_run : (list part into new : List ℕ) (from done n : ℕ) → part ≡ take (length part) (drop (from + done) list) → n ≤ length part
+    → take done into ≡ take done (drop from list) → take (done + n) new ≡ take done into ++ take n part
+    → take (done + n) new ≡ take (done + n) (drop from list)
+read_run list part into new from done n is l before e =
+    let run : take n part ≡ take n (drop done (drop from list)) =
+    ap (take n) is ∙ take-take n (length part) (drop (from + done) list) l ∙ ap (take n) (sym (drop-drop done from list)) in
+    e ∙ rw (before, run) (sym (take-plus done n (drop from list)))
 
 -- bytes put one by one at addresses in a row are put at once
 pub scatter-range : (m : Memory) (a : ℕ) (bs : List ℕ) → Inside m a (length bs) → scatter m (range_with_len a (length bs)) bs ≡ put m a bs
@@ -72,6 +71,34 @@ write_run m new xs bytes from done n a h found is less fits put_is =
     let same : length (range_with_len rest.addr n) ≡ length run = length-range_with_len rest.addr n ∙ sym size in
     rw written (sym (ap (λ l. scatter m l (drop done bytes)) cut ∙ ap (scatter m (range_with_len rest.addr n ++ drop (from + (done + n)) all)) cut_bytes
     ∙ scatter-append m (range_with_len rest.addr n) (drop (from + (done + n)) all) run (drop (done + n) bytes) same))
+
+-- what is lent of the readable list stands in it from the place on
+pub lent_reads : (m : Memory) (xs : List Buffer) (from n : ℕ) (r : Segment) (part : List ℕ) → All (Within m) xs → from < len_of false xs
+    → r ≡ rest_at (segments_of false xs) from → n ≤ r.len → part ≡ part_of m r.addr n → length part ≡ n
+    → part ≡ take (length part) (drop from (readable_of m xs))
+lent_reads m xs from n r part a h is less value size =
+    value ∙ ap (λ (s : Segment). part_of m s.addr n) is
+    ∙ sym (rest_reads m (segments_of false xs) from n (All-segments_of m false xs a) h (rw is at less))
+    ∙ ap (λ k. take k (drop from (readable_of m xs))) (sym size)
+
+-- bytes put where the writable list was lent are scattered over it from the place on
+pub lent_writes : (m : Memory) (xs : List Buffer) (from n : ℕ) (bytes : List ℕ) → All (Within m) xs → from < len_of true xs
+    → n ≤ (rest_at (segments_of true xs) from).len → length bytes ≡ n
+    → put m (rest_at (segments_of true xs) from).addr bytes ≡ scatter m (drop from (addresses_of true xs)) bytes
+lent_writes m xs from n bytes a h less size =
+    let all = drop from (addresses_of true xs) in
+    let rest = rest_at (segments_of true xs) from in
+    let range = range_with_len rest.addr n in
+    let cut : all ≡ range ++ drop n all = sym (take-append-drop n all) ∙ ap (λ l. l ++ drop n all) (rest_addresses (segments_of true xs) from n h less) in
+    let same : length range ≡ length bytes = length-range_with_len rest.addr n ∙ sym size in
+    let inside = rest_inside m (segments_of true xs) from (All-segments_of m true xs a) h in
+    let part : Inside m rest.addr (length bytes) = record { above = inside.above; below = omega (arith, inside.below, size, less) } in
+    sym (ap (λ l. scatter m l bytes) cut
+    ∙ ap (scatter m (range ++ drop n all)) (sym (append-nil bytes))
+    ∙ scatter-append m range (drop n all) bytes [] same
+    ∙ scatter_none (scatter m range bytes) (drop n all)
+    ∙ ap (λ k. scatter m (range_with_len rest.addr k) bytes) (sym size)
+    ∙ scatter-range m rest.addr bytes part)
 
 -- a part of a slice is written over: the slice keeps its length, and its front is the old one and the part
 pub length-put_mid : (a k : ℕ) (xs ys : List ℕ) → length ys ≡ k → a + k ≤ length xs → length (put_mid a k xs ys) ≡ length xs

@@ -1,42 +1,70 @@
 -- What a chain keeps, as a buffer is put behind the others.
-use Rattle.std.proofs.Common.{◌≡◌, ℕ, ◌+◌, ◌<◌, ◌≤◌, ◌^◌, Bool, true, false, List, [], ◌∷◌, ◌++◌, arith}
+use Rattle.std.proofs.Common.{◌≡◌, ℕ, ◌+◌, ◌<◌, ◌≤◌, ◌^◌, Bool, true, false, List, [], ◌∷◌, ◌++◌, length, take, get_or, inl, inr, refl, sym, ap, ◌∙◌, arith}
+use Rattle.std.proofs.lemmas.Bool.{cases_lt}
+use Rattle.std.proofs.lemmas.List.{get_or_append_left, get_or_push, length_push, take_all, take-append-le}
 use Rattle.std.proofs.lemmas.List.Sums.{sum_by_push}
 use Rattle.std.proofs.lemmas.List.Elements.{All-push}
 use Rattle.chain.specs.declared.segment.Buffer.{Buffer}
 use Rattle.chain.specs.Buffers.{buffer_of}
-use Rattle.chain.specs.Held.{IsHeld}
+use Rattle.chain.specs.declared.buffers.Start.{Start}
+use Rattle.chain.specs.Held.{IsHeld, start_at}
+use Rattle.chain.specs.Bytes.{len_of}
 use Rattle.chain.proofs.Directions.{len_of-append}
 
+-- one more start
+starts_push : (old : List Buffer) (starts : List Start) (b : Buffer) (s : Start) → length starts ≡ length old → s ≡ start_at old (length old)
+    → ((i : ℕ) (d : Start) → i < length old → get_or starts i d ≡ start_at old i)
+    → (i : ℕ) (d : Start) → i < length (old ++ b ∷ []) → get_or (starts ++ s ∷ []) i d ≡ start_at (old ++ b ∷ []) i
+starts_push old starts b s many is before i d h =
+    let front : take i (old ++ b ∷ []) ≡ take i old = take-append-le i old (b ∷ []) (omega (arith, h, length_push old b)) in
+    let same : start_at (old ++ b ∷ []) i ≡ start_at old i = ap (λ (l : List Buffer). the_start l) front in
+    elim (cases_lt i (length old)) [
+      | inl sooner ↦ get_or_append_left starts (s ∷ []) d i (omega (arith, sooner, many)) ∙ before i d sooner ∙ sym same
+      | inr last ↦ let at : i ≡ length old = omega (arith, h, length_push old b, last) in
+          get_or_push starts s d i (omega (arith, at, many)) ∙ is ∙ ap (start_at old) (sym at) ∙ sym same
+    ]
+  where
+    the_start : List Buffer → Start
+    the_start l = record { readable = len_of false l; writable = len_of true l }
+
+-- the start of a buffer behind all others
+start_behind : (old : List Buffer) (r w : ℕ) → r ≡ len_of false old → w ≡ len_of true old → record { readable = r; writable = w } ≡ start_at old (length old)
+start_behind old r w f t = rw (f, t, take_all (length old) old (omega arith)) refl
+
 -- one more buffer of either direction
-pub held_writable : (old same new : List Buffer) (r w addr len : ℕ) (flag : Bool) → IsHeld old r w → same ≡ old → flag ≡ true
-    → new ≡ same ++ buffer_of addr len flag ∷ []
-    → r + w + len < 2 ^ 32 → addr + len ≤ 2 ^ 64 → IsHeld new r (w + len)
-held_writable old same new r w addr len flag held s f n fits below =
+pub held_writable : (old same new : List Buffer) (starts kept more : List Start) (r w addr len : ℕ) (flag : Bool) → IsHeld old starts r w → same ≡ old → kept ≡ starts → flag ≡ true
+    → new ≡ same ++ buffer_of addr len flag ∷ [] → more ≡ kept ++ record { readable = r; writable = w } ∷ []
+    → r + w + len < 2 ^ 32 → addr + len ≤ 2 ^ 64 → IsHeld new more r (w + len)
+held_writable old same new starts kept more r w addr len flag held s k f n o fits below =
     let e : new ≡ old ++ buffer_of addr len true ∷ [] = rw (← s, ← f) n in
     let b : Buffer = buffer_of addr len true in
     let t = sum_by_push (λ (b : Buffer). b.segment.len) old b in
     let x = len_of-append false old (b ∷ []) in
     let y = len_of-append true old (b ∷ []) in
-    rw e (record {
+    rw (e, o, k) (record {
       readable_is = omega (arith, x);
       writable_is = omega (arith, y);
+      as_many = omega (arith, length_push starts (record { readable = r; writable = w }), length_push old b, held.as_many);
+      starts_are = starts_push old starts b (record { readable = r; writable = w }) held.as_many (start_behind old r w held.readable_is held.writable_is) held.starts_are;
       total_is = omega (arith, t);
       fits = omega arith;
       addressable = All-push (λ (b : Buffer). b.segment.addr + b.segment.len ≤ 2 ^ 64) old b held.addressable below;
     })
 
-pub held_readable : (old same new : List Buffer) (r w addr len : ℕ) (flag : Bool) → IsHeld old r w → same ≡ old → flag ≡ false
-    → new ≡ same ++ buffer_of addr len flag ∷ []
-    → r + w + len < 2 ^ 32 → addr + len ≤ 2 ^ 64 → IsHeld new (r + len) w
-held_readable old same new r w addr len flag held s f n fits below =
+pub held_readable : (old same new : List Buffer) (starts kept more : List Start) (r w addr len : ℕ) (flag : Bool) → IsHeld old starts r w → same ≡ old → kept ≡ starts → flag ≡ false
+    → new ≡ same ++ buffer_of addr len flag ∷ [] → more ≡ kept ++ record { readable = r; writable = w } ∷ []
+    → r + w + len < 2 ^ 32 → addr + len ≤ 2 ^ 64 → IsHeld new more (r + len) w
+held_readable old same new starts kept more r w addr len flag held s k f n o fits below =
     let e : new ≡ old ++ buffer_of addr len false ∷ [] = rw (← s, ← f) n in
     let b : Buffer = buffer_of addr len false in
     let t = sum_by_push (λ (b : Buffer). b.segment.len) old b in
     let x = len_of-append false old (b ∷ []) in
     let y = len_of-append true old (b ∷ []) in
-    rw e (record {
+    rw (e, o, k) (record {
       readable_is = omega (arith, x);
       writable_is = omega (arith, y);
+      as_many = omega (arith, length_push starts (record { readable = r; writable = w }), length_push old b, held.as_many);
+      starts_are = starts_push old starts b (record { readable = r; writable = w }) held.as_many (start_behind old r w held.readable_is held.writable_is) held.starts_are;
       total_is = omega (arith, t);
       fits = omega arith;
       addressable = All-push (λ (b : Buffer). b.segment.addr + b.segment.len ≤ 2 ^ 64) old b held.addressable below;

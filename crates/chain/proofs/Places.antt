@@ -1,17 +1,20 @@
 -- Places of the two lists: the segment that a place lies in, and what stands there from the place on.
 use Rattle.std.proofs.Common.{◌≡◌, ℕ, ◌+◌, ◌-◌, ◌<◌, ◌≤◌, Bool, true, false, List, [], ◌∷◌, ◌++◌, length, sum_by, get_or, take, drop, refl, sym, ap, ◌∙◌, arith, inl, inr}
-use Rattle.std.specs.Prelude.{All}
+use Rattle.std.specs.Prelude.{All, if◌then◌else◌}
 use Rattle.std.specs.List.{flat_map, range_with_len}
 use mathlib.Core.Bool.{beq}
 use Rattle.std.proofs.lemmas.Bool.{cases_lt, lt-ltb, le-ltb}
-use Rattle.std.proofs.lemmas.List.{drop_more, drop_at, drop-drop, drop-take, drop-append-le, take-append-le, take-take, length-drop, length-take, ext_get_or, get_or-drop, get_or-take}
+use Rattle.std.proofs.lemmas.List.{take_more, take-append-drop, drop_more, drop_at, drop-drop, drop-take, drop-append-le, take-append-le, take-take, length-drop, length-take, ext_get_or, get_or-drop, get_or-take}
 use Rattle.std.proofs.lemmas.List.Elements.{All-head, All-tail}
 use Rattle.std.proofs.lemmas.List.FromFn.{length-range_with_len, get_or-range_with_len}
 use Rattle.std.proofs.lemmas.List.Sums.{sum_by-cons}
 use Rattle.guest_memory.specs.Memory.{Memory, Inside, part_of}
 use Rattle.chain.specs.declared.segment.Segment.{Segment}
 use Rattle.chain.specs.declared.segment.Buffer.{Buffer}
-use Rattle.chain.specs.Bytes.{segments_of, addresses, rest_at}
+use Rattle.chain.specs.declared.buffers.Start.{Start}
+use Rattle.chain.specs.Held.{start_at}
+use Rattle.chain.specs.Bytes.{segments_of, addresses, len_of, rest_at}
+use Rattle.chain.proofs.Directions.{len_of-append, segments_of-append}
 use Rattle.guest_memory.proofs.Ranges.{length-part_of}
 
 abbrev pub InMemory : Memory → Segment → Type 0
@@ -133,31 +136,59 @@ segments_of-hit w b bs h = go w b.writable h
     go false true e = cc
     go false false e = refl
 
--- the place is looked for among the buffers from the i-th on, left places behind their first
-pub record Sought (w : Bool) (xs : List Buffer) (place i left : ℕ) : Type 0 where
-  pub in_list : left < size (segments_of w (drop i xs))
-  pub same : rest_at (segments_of w (drop i xs)) left ≡ rest_at (segments_of w xs) place
+nothing : (w : Bool) → segments_of w [] ≡ []
+nothing true = refl
+nothing false = refl
 
-module _ (w : Bool) (xs : List Buffer) (place i left : ℕ) (d : Buffer) (h : i < length xs) where
-  pub sought_skip : beq (get_or xs i d).writable w ≡ false → Sought w xs place i left → Sought w xs place (i + 1) left
-  sought_skip e s =
-      let f = ap (segments_of w) (drop_more xs i d h) ∙ segments_of-miss w (get_or xs i d) (drop (i + 1) xs) e in
-      record { in_list = rw f at s.in_list; same = rw f at s.same }
+-- the segments before the one that a place lies in are passed over
+rest_past : (ss ts : List Segment) (k : ℕ) → size ss ≤ k → rest_at (ss ++ ts) k ≡ rest_at ts (k - size ss)
+rest_past [] ts k h = ap (rest_at ts) (omega arith)
+rest_past (s ∷ ss) ts k h =
+    let c = sum_by-cons (λ (s : Segment). s.len) s ss in
+    rest_behind s (ss ++ ts) k (omega (arith, c, h)) ∙ rest_past ss ts (k - s.len) (omega (arith, c, h)) ∙ ap (rest_at ts) (omega (arith, c, h))
 
-  pub sought_behind : beq (get_or xs i d).writable w ≡ true → (get_or xs i d).segment.len ≤ left → Sought w xs place i left
-      → Sought w xs place (i + 1) (left - (get_or xs i d).segment.len)
-  sought_behind e l s =
-      let f = ap (segments_of w) (drop_more xs i d h) ∙ segments_of-hit w (get_or xs i d) (drop (i + 1) xs) e in
-      let b = get_or xs i d in
-      let rest = segments_of w (drop (i + 1) xs) in
-      record {
-        in_list = behind_size b.segment rest left l (rw f at s.in_list);
-        same = sym (rest_behind b.segment rest left l) ∙ (rw f at s.same);
-      }
+module _ (w : Bool) (xs : List Buffer) (i : ℕ) (d : Buffer) (h : i < length xs) where
+  parts : xs ≡ take i xs ++ (get_or xs i d ∷ drop (i + 1) xs)
+  parts = sym (take-append-drop i xs) ∙ ap (λ l. take i xs ++ l) (drop_more xs i d h)
 
-  pub sought_here : beq (get_or xs i d).writable w ≡ true → left < (get_or xs i d).segment.len → Sought w xs place i left
-      → record { addr = (get_or xs i d).segment.addr + left; len = (get_or xs i d).segment.len - left } ≡ rest_at (segments_of w xs) place
-  sought_here e l s =
-      let f = ap (segments_of w) (drop_more xs i d h) ∙ segments_of-hit w (get_or xs i d) (drop (i + 1) xs) e in
-      let b = get_or xs i d in
-      sym (rest_here b.segment (segments_of w (drop (i + 1) xs)) left l) ∙ (rw f at s.same)
+  one_more : take (i + 1) xs ≡ take i xs ++ get_or xs i d ∷ []
+  one_more = take_more xs i d h
+
+  -- the buffer i has the place, which lies behind all bytes of those before it
+  pub place_in_buffer : (place : ℕ) → len_of w (take i xs) ≤ place → place < len_of w (take (i + 1) xs)
+      → (place - len_of w (take i xs) < (get_or xs i d).segment.len)
+      × (record { addr = (get_or xs i d).segment.addr + (place - len_of w (take i xs)); len = (get_or xs i d).segment.len - (place - len_of w (take i xs)) } ≡ rest_at (segments_of w xs) place)
+  place_in_buffer place from to = go (beq (get_or xs i d).writable w) refl
+    where
+      b : Buffer
+      b = get_or xs i d
+
+      start : ℕ
+      start = len_of w (take i xs)
+
+      counted : len_of w (take (i + 1) xs) ≡ start + len_of w (b ∷ [])
+      counted = ap (len_of w) one_more ∙ len_of-append w (take i xs) (b ∷ [])
+
+      go : (v : Bool) → beq b.writable w ≡ v → (place - start < b.segment.len) × (record { addr = b.segment.addr + (place - start); len = b.segment.len - (place - start) } ≡ rest_at (segments_of w xs) place)
+      go false miss =
+          let none : len_of w (b ∷ []) ≡ 0 = ap size (segments_of-miss w b [] miss ∙ nothing w) in
+          absurd (omega (arith, counted, none, from, to))
+      go true hit =
+          let one : len_of w (b ∷ []) ≡ b.segment.len = ap size (segments_of-hit w b [] hit ∙ ap (λ l. b.segment ∷ l) (nothing w)) ∙ sum_by-cons (λ (s : Segment). s.len) b.segment [] ∙ omega arith in
+          let near : place - start < b.segment.len = omega (arith, counted, one, from, to) in
+          let cut : segments_of w xs ≡ segments_of w (take i xs) ++ (b.segment ∷ segments_of w (drop (i + 1) xs)) =
+          ap (segments_of w) parts ∙ segments_of-append w (take i xs) (b ∷ drop (i + 1) xs) ∙ ap (λ l. segments_of w (take i xs) ++ l) (segments_of-hit w b (drop (i + 1) xs) hit) in
+          (near, sym (ap (λ ss. rest_at ss place) cut ∙ rest_past (segments_of w (take i xs)) (b.segment ∷ segments_of w (drop (i + 1) xs)) place from ∙ rest_here b.segment (segments_of w (drop (i + 1) xs)) (place - start) near))
+
+-- the same, once buffer and start are looked up
+pub place_found : (w : Bool) (all xs found : List Buffer) (i place start : ℕ) (d : Buffer) → all ≡ xs → found ≡ xs → i < length all
+    → len_of w (take i all) ≤ place → place < len_of w (take (i + 1) all) → start ≡ len_of w (take i xs)
+    → (place - start < (get_or found i d).segment.len)
+    × (record { addr = (get_or found i d).segment.addr + (place - start); len = (get_or found i d).segment.len - (place - start) } ≡ rest_at (segments_of w all) place)
+place_found w all xs found i place start d same l h from to s =
+    rw (l, s, same) (place_in_buffer w xs i d (rw same at h) place (rw same at from) (rw same at to))
+
+-- the bytes of one direction before a buffer
+pub start_of : (w : Bool) (xs : List Buffer) (i : ℕ) (s : Start) → s ≡ start_at xs i → (if w then s.writable else s.readable) ≡ len_of w (take i xs)
+start_of true xs i s e = ap (λ (s : Start). s.writable) e
+start_of false xs i s e = ap (λ (s : Start). s.readable) e

@@ -37,6 +37,13 @@ rest_at [] place = record { addr = 0; len = 0 }
 rest_at (s ∷ segments) place =
     if nat_lt place s.len then record { addr = s.addr + place; len = s.len - place } else rest_at segments (place - s.len)
 
+-- what is left of the segment that a place of the readable list lies in, and of the writable list
+abbrev pub readable_rest : List Buffer → ℕ → Segment
+readable_rest buffers place = rest_at (segments_of false buffers) place
+
+abbrev pub writable_rest : List Buffer → ℕ → Segment
+writable_rest buffers place = rest_at (segments_of true buffers) place
+
 -- the memory with one byte after another put at one address after another, as far as both lists go; so
 -- where two addresses agree the later byte stands
 abbrev pub scatter : Memory → List ℕ → List ℕ → Memory

@@ -1,9 +1,9 @@
 //! The chain itself: its buffers, filled one after another, and its two lengths.
 
-ghost use Rattle.std.specs.Prelude.{◌≡◌, [], ◌∷◌, ◌++◌, ◌+◌, ◌^◌, ◌<◌, ◌≤◌, length, false, All, IfErr, OnOk, OnErr};
+ghost use Rattle.std.specs.Prelude.{◌≡◌, [], ◌∷◌, ◌++◌, ◌+◌, ◌^◌, ◌<◌, ◌≤◌, length, take, false, if◌then◌else◌, All, IfErr, OnOk, OnErr};
 ghost use Rattle.guest_memory.specs.Memory.{Memory};
 ghost use Rattle.chain.specs.Buffers.{Admits, Good, Refuses, Within, buffer_of, total_len};
-ghost use Rattle.chain.specs.Bytes.{len_of, readable_of, writable_of};
+ghost use Rattle.chain.specs.Bytes.{len_of, readable_of, rest_at, segments_of, writable_of};
 
 use crate::fault::Fault;
 use crate::segment::{Buffer, Segment};
@@ -18,11 +18,33 @@ const MOST_BUFFERS: usize = 256;
 /// How many bytes the buffers of a chain may have in all (2.7.5.2).
 const MOST_BYTES: u32 = u32::MAX;
 
-/// The buffers of one request, in the order of their descriptors. It holds them in place, some 6 KB, so
+/// How many bytes of each direction come before a buffer.
+#[derive(Clone, Copy, Debug, Default, PartialEq, Eq)]
+struct Start {
+    readable: u32,
+    writable: u32,
+}
+
+impl Start {
+    /// The bytes of one direction.
+    fn of(self, writable: bool) -> u64
+        ensures { result ≡ (if writable then self.writable else self.readable) }
+    {
+        u64::from(if writable {
+            self.writable
+        } else {
+            self.readable
+        })
+    }
+}
+
+/// The buffers of one request, in the order of their descriptors. It holds them in place, some 8 KB, so
 /// one chain serves for a whole service.
 #[derive(Drop)]
 pub struct Chain {
     buffers: ArrayVec<Buffer, MOST_BUFFERS>,
+    // one for each buffer, by which the buffer of a place is found
+    starts: ArrayVec<Start, MOST_BUFFERS>,
     readable: u32,
     writable: u32,
 }
@@ -36,7 +58,7 @@ impl Model for Chain {
 
     ghost view = { λ c. c.buffers.items };
 
-    ghost invariant = { λ c. IsHeld c.buffers.items c.readable c.writable };
+    ghost invariant = { λ c. IsHeld c.buffers.items c.starts.items c.readable c.writable };
 }
 
 impl Chain {
@@ -46,6 +68,7 @@ impl Chain {
     {
         Chain {
             buffers: ArrayVec::new(),
+            starts: ArrayVec::new(),
             readable: 0,
             writable: 0,
         }
@@ -56,6 +79,7 @@ impl Chain {
         ensures { self.new ≡ [] }
     {
         self.buffers.clear();
+        self.starts.clear();
         self.readable = 0;
         self.writable = 0;
     }
@@ -85,6 +109,10 @@ impl Chain {
         if len > MOST_BYTES - self.readable - self.writable {
             return Err(Fault::TooLong);
         }
+        self.starts.push(Start {
+            readable: self.readable,
+            writable: self.writable,
+        });
         if writable {
             self.writable += len;
         } else {
@@ -106,6 +134,37 @@ impl Chain {
     {
         let _ = &self.readable;
         self.buffers.as_slice()
+    }
+
+    /// What is left of the segment that a place of the writable list (`writable`) or of the readable one
+    /// lies in, from that place on.
+    pub(crate) fn segment_at(&self, writable: bool, place: u64) -> Segment
+        requires { place < len_of writable self.now }
+        ensures { result ≡ rest_at (segments_of writable self.now) place }
+    {
+        let index = self.buffer_at(writable, place);
+        let left = place - self.starts[index].of(writable);
+        self.buffers[index].segment.rest(left)
+    }
+
+    /// The buffer that such a place lies in.
+    fn buffer_at(&self, writable: bool, place: u64) -> usize
+        requires { place < len_of writable self.now }
+        ensures there { result < length self.now }
+        ensures from { len_of writable (take result self.now) ≤ place }
+        ensures to { place < len_of writable (take (result + 1) self.now) }
+    {
+        let mut low = 0;
+        let mut high = self.buffers.len();
+        while high - low > 1 {
+            let middle = low + (high - low) / 2;
+            if self.starts[middle].of(writable) <= place {
+                low = middle;
+            } else {
+                high = middle;
+            }
+        }
+        low
     }
 
     /// The number of bytes that the device may read.

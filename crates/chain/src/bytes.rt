@@ -1,28 +1,90 @@
-//! Reading and writing by places of a chain's two lists, segment by segment.
+//! The two lists by places: lending what lies in one segment, and copying over as many as it takes.
 
-ghost use Rattle.std.specs.Prelude.{◌≡◌, ◌+◌, ◌^◌, ◌<◌, ◌≤◌, length, take, drop, All};
-ghost use Rattle.guest_memory.specs.Memory.{SameRange};
+ghost use Rattle.std.specs.Prelude.{◌≡◌, ℕ, List, ◌+◌, ◌<◌, ◌≤◌, length, take, drop, min, All};
+ghost use Rattle.std.specs.Borrow.{sem};
+ghost use Rattle.guest_memory.specs.Memory.{SameRange, part_of, put};
+ghost use Rattle.guest_memory.specs.Lending.{LendsPart};
 ghost use Rattle.chain.specs.Buffers.{Within};
-ghost use Rattle.chain.specs.Bytes.{len_of, readable_of, rest_at, scatter, segments_of, writable_of};
+ghost use Rattle.chain.specs.Bytes.{readable_of, readable_rest, scatter, writable_of, writable_rest};
 
 use crate::buffers::Chain;
-use crate::segment::{Buffer, Segment};
 use guest_memory::GuestMemory;
 use std::alloc::Allocator;
 
 impl Chain {
+    /// Lends the bytes from place `from` of the readable list to the end of its segment. Segments of no
+    /// bytes are passed over, and neighbours aren't joined.
+    pub fn read_part<'m, A: Allocator>(&self, mem: &'m GuestMemory<A>, from: u64) -> &'m [u8]
+        requires inside { All (Within mem.now) self.now }
+        requires in_list { from < length (readable_of mem.now self.now) }
+        ensures value { result.now ≡ part_of mem.now
+            (readable_rest self.now from).addr (readable_rest self.now from).len }
+        ensures len { length result.now ≡ (readable_rest self.now from).len }
+        ensures some { 0 < length result.now }
+        ensures listed { result.now ≡
+            take (length result.now) (drop from (readable_of mem.now self.now)) }
+    {
+        let rest = self.segment_at(false, from);
+        mem.slice(rest.addr, u64::from(rest.len))
+    }
+
+    /// Lends the bytes at the addresses from place `from` of a chain's writable list to the end of its
+    /// segment, but at most `most`, to be written. Segments of no bytes are passed over, and neighbours aren't
+    /// joined.
+    pub fn lend<'m, A: Allocator>(
+        mem: &'m mut GuestMemory<A>,
+        chain: &Chain,
+        from: u64,
+        most: u64,
+    ) -> &'m mut [u8]
+        requires inside { All (Within mem.old) chain.now }
+        requires in_list { from < length (writable_of chain.now) }
+        requires some { 0 < most }
+        ensures* writes_back { sem 𝓛 (LendsPart A.row A.Allocator mem.entry
+            (writable_rest chain.now from).addr result) }
+        ensures value { result.now ≡
+            part_of mem.old (writable_rest chain.now from).addr (length result.now) }
+        ensures len { length result.now ≡ min most (writable_rest chain.now from).len }
+        ensures some { 0 < length result.now }
+        ensures listed { (bytes : List ℕ) → length bytes ≡ length result.now →
+            put mem.old (writable_rest chain.now from).addr bytes ≡
+            scatter mem.old (drop from (writable_of chain.now)) bytes }
+    {
+        let rest = chain.segment_at(true, from);
+        mem.part_mut(rest.addr, u64::from(rest.len).min(most))
+    }
+
+    /// `lend`, called on the chain. What its slice leaves in memory is what `lend` says.
+    pub fn write_part<'m, A: Allocator>(
+        &self,
+        mem: &'m mut GuestMemory<A>,
+        from: u64,
+        most: u64,
+    ) -> &'m mut [u8]
+        requires inside { All (Within mem.old) self.now }
+        requires in_list { from < length (writable_of self.now) }
+        requires some { 0 < most }
+        ensures value { result.now ≡
+            part_of mem.old (writable_rest self.now from).addr (length result.now) }
+        ensures len { length result.now ≡ min most (writable_rest self.now from).len }
+        ensures some { 0 < length result.now }
+    {
+        Chain::lend(mem, self, from, most)
+    }
+
     /// Copies the bytes from place `from` of the readable list on into all of `into`.
     pub fn read_at<A: Allocator>(&self, mem: &GuestMemory<A>, from: u64, into: &mut [u8])
         requires inside { All (Within mem.now) self.now }
         requires range { from + length into.old ≤ length (readable_of mem.now self.now) }
         ensures { into.new ≡ take (length into.old) (drop from (readable_of mem.now self.now)) }
     {
+        // What it ensures: no place passes 2^32.
+        let _ = self.buffers();
         let mut done = 0;
         while done < into.len() {
-            let rest = segment_at(self.buffers(), false, from + done as u64);
-            let n = (rest.len as usize).min(into.len() - done);
-            let part = mem.slice(rest.addr, n as u64);
-            into[done..done + n].copy_from_slice(part);
+            let part = self.read_part(mem, from + done as u64);
+            let n = part.len().min(into.len() - done);
+            into[done..done + n].copy_from_slice(&part[..n]);
             done += n;
         }
     }
@@ -35,36 +97,15 @@ impl Chain {
         ensures written { mem.new ≡ scatter mem.old (drop from (writable_of self.now)) bytes.now }
         ensures same_range { SameRange mem.old mem.new }
     {
+        // What it ensures: no place passes 2^32.
+        let _ = self.buffers();
         let mut done = 0;
         while done < bytes.len() {
-            let rest = segment_at(self.buffers(), true, from + done as u64);
-            let n = (rest.len as usize).min(bytes.len() - done);
-            let part = mem.part_mut(rest.addr, n as u64);
-            part.copy_from_slice(&bytes[done..done + n]);
+            let left = &bytes[done..];
+            let part = Chain::lend(mem, self, from + done as u64, left.len() as u64);
+            let n = part.len();
+            part.copy_from_slice(&left[..n]);
             done += n;
         }
     }
-}
-
-/// What is left of the segment that a place of the writable list (`writable`) or of the readable one lies
-/// in, from that place on. It is looked for from the first buffer on.
-fn segment_at(buffers: &[Buffer], writable: bool, place: u64) -> Segment
-    requires addressable { All (λ b. b.segment.addr + b.segment.len ≤ 2 ^ 64) buffers.now }
-    requires in_list { place < len_of writable buffers.now }
-    ensures { result ≡ rest_at (segments_of writable buffers.now) place }
-{
-    let mut left = place;
-    for buffer in buffers {
-        let Segment { addr, len } = buffer.segment;
-        if buffer.writable == writable {
-            if left < u64::from(len) {
-                return Segment {
-                    addr: addr + left,
-                    len: len - left as u32,
-                };
-            }
-            left -= u64::from(len);
-        }
-    }
-    unreachable!()
 }

@@ -147,6 +147,83 @@ fn a_write_may_begin_at_any_place_and_the_later_byte_stands(rt: HostRuntime) -> 
     Ok(())
 }
 
+/// Whether the readable list is these bytes, which all lie in one segment: from each place on the rest of
+/// them is lent.
+fn lends_each_rest<A: Allocator>(
+    mem: &GuestMemory<A>,
+    buffers: &[Buffer],
+    bytes: &[u8],
+) -> Result<bool, Fault> {
+    let chain = chain_of(mem, buffers)?;
+    if chain.readable_len() != bytes.len() as u64 {
+        return Ok(false);
+    }
+    for from in 0..bytes.len() {
+        if chain.read_part(mem, from as u64) != &bytes[from..] {
+            return Ok(false);
+        }
+    }
+    Ok(true)
+}
+
+#[test]
+fn empty_segments_are_passed_over(rt: HostRuntime) -> Result<(), Fail> {
+    let mut mem = GuestMemory::new(rt.alloc(), BASE, 4096)?;
+    let last = BASE + 4096;
+    let _ = mem.put_u32(last - 4, 0x6463_6261);
+    for len in 0..=3u8 {
+        for place in 0..4 {
+            let mut buffers = [readable(last, 0); 4];
+            buffers[place] = readable(last - u64::from(len), u32::from(len));
+            let bytes = &b"abcd"[4 - usize::from(len)..];
+            assert!(rt;
+                lends_each_rest(&mem, &buffers, bytes)?,
+                "{len} bytes at place {place}"
+            );
+        }
+    }
+    Ok(())
+}
+
+/// Fills the part that is lent from a place on, and answers how long it is.
+fn fill_part<A: Allocator>(
+    mem: &mut GuestMemory<A>,
+    buffers: &[Buffer],
+    place: u64,
+    most: u64,
+    byte: u8,
+) -> Result<usize, Fault> {
+    let chain = chain_of(mem, buffers)?;
+    if place >= chain.writable_len() || most == 0 {
+        return Ok(0);
+    }
+    let part = chain.write_part(mem, place, most);
+    part.fill(byte);
+    Ok(part.len())
+}
+
+#[test]
+fn a_part_ends_with_its_segment(rt: HostRuntime) -> Result<(), Fail> {
+    let mut mem = GuestMemory::new(rt.alloc(), BASE, 4096)?;
+    let buffers = [
+        writable(BASE, 3),
+        writable(BASE + 0x10, 0),
+        writable(BASE + 2, 2),
+    ];
+    // A place, the most that is wanted, the byte that is written, how much is lent, and the first bytes of
+    // memory then.
+    for (place, most, byte, lent, first) in [
+        (0, 9, 0x11, 3, 0x0011_1111),
+        (3, 9, 0x22, 2, 0x2222_1111),
+        (1, 1, 0x33, 1, 0x2222_3311),
+        (4, 9, 0x44, 1, 0x4422_3311),
+    ] {
+        let len = fill_part(&mut mem, &buffers, place, most, byte)?;
+        assert_eq!(rt; (len, mem.get_u64(BASE)), (lent, Some(first)));
+    }
+    Ok(())
+}
+
 #[test]
 fn a_fault_says_what_is_wrong(rt: HostRuntime) -> Result<(), Fail> {
     assert_eq!(rt;
