@@ -1,13 +1,10 @@
 -- A service in its course: the chains so far, and what stays along them.
-use Rattle.std.proofs.Common.{◌≡◌, ℕ, Bool, true, false, List, refl, ap, ◌∙◌}
-use Rattle.std.specs.Prelude.{◌&&◌}
+use Rattle.std.proofs.Common.{◌≡◌, ℕ, Bool, true, List, refl, ap, ◌∙◌}
 use Rattle.guest_memory.specs.Memory.{Memory, SameRange}
 use Rattle.guest_memory.proofs.Ranges.{same_trans}
 use Rattle.chain.specs.declared.segment.Buffer.{Buffer}
-use Rattle.chain.specs.declared.fault.Fault.{Fault}
-use Rattle.chain.specs.Bytes.{readable_of, writable_of}
-use Rattle.chain.specs.Service.{Entry, Device, Does, Spent, Faulted, Refused, Runs, Course}
-use Rattle.chain.proofs.Servicing.{course_begins, course_goes_on, runs_out, runs_into, runs_short}
+use Rattle.chain.specs.Service.{Entry, Device, Does, Course}
+use Rattle.chain.proofs.Servicing.{course_begins, course_goes_on}
 use Rattle.mmio_window.specs.declared.queue.Queue.{Queue}
 use Rattle.mmio_window.specs.Queue.{LiesIn, made_as, queue_kind}
 

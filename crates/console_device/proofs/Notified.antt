@@ -2,7 +2,7 @@
 use Rattle.std.proofs.Common.{◌≡◌, ◌≢◌, ℕ, Bool, Option, Some, None, Result, Ok, Err, List, refl, sym, subst}
 use Rattle.guest_memory.specs.Memory.{Memory, SameRange}
 use Rattle.chain.specs.declared.fault.Fault.{Fault}
-use Rattle.chain.specs.Service.{Device, Ending, Spent, Faulted, Refused, IsService}
+use Rattle.chain.specs.Service.{Device, Ending, Refused, IsService}
 use Rattle.mmio_window.specs.declared.queue.Queue.{Queue}
 use Rattle.mmio_window.specs.Queue.{made_as, queue_kind}
 use Rattle.mmio_window.specs.Serving.{IsNotified, Notified, after_service, ending_of_result}

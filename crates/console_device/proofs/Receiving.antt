@@ -1,7 +1,7 @@
 -- Bytes of pending input on their way into a chain.
-use Rattle.std.proofs.Common.{◌≡◌, ℕ, zero, suc, ◌+◌, ◌-◌, ◌≤◌, false, true, Bool, nat_lt, List, [], ◌∷◌, ◌++◌, length, map, take, drop, replicate, Option, Some, None, refl, sym, ap, ◌∙◌, arith}
+use Rattle.std.proofs.Common.{◌≡◌, ℕ, zero, suc, ◌-◌, false, true, Bool, nat_lt, List, [], ◌∷◌, ◌++◌, length, map, take, drop, Option, Some, None, refl, sym, ap, ◌∙◌, arith}
 use Rattle.std.specs.Prelude.{◌||◌, min}
-use Rattle.std.proofs.lemmas.List.{length-map, length-replicate, length-append, length-take, take_min, append-nil}
+use Rattle.std.proofs.lemmas.List.{length-map, length-replicate, length-append, length-take, take_min}
 use Rattle.std.proofs.lemmas.Bool.{lt-ltb}
 use Rattle.guest_memory.specs.Memory.{Memory, put}
 use Rattle.chain.specs.declared.segment.Buffer.{Buffer}

@@ -1,5 +1,5 @@
 -- Whole services of the two queues, over any kind of ring.
-use Rattle.std.proofs.Common.{◌≡◌, ◌≢◌, ℕ, ◌+◌, ◌-◌, Bool, List, [], ◌∷◌, ◌++◌, length, map, take, drop, replicate, Option, Some, None, refl, sym, ap, subst, ◌∙◌, arith, append_assoc}
+use Rattle.std.proofs.Common.{◌≡◌, ◌≢◌, ℕ, ◌+◌, ◌-◌, Bool, List, [], ◌∷◌, ◌++◌, length, map, take, drop, Option, Some, None, refl, sym, ap, ◌∙◌, arith, append_assoc}
 use Rattle.std.specs.Prelude.{min}
 use Rattle.std.proofs.lemmas.List.{drop-drop, length-map, length-replicate, length-append, length-take, append-nil}
 use Rattle.guest_memory.specs.Memory.{Memory}
@@ -8,7 +8,7 @@ use Rattle.chain.specs.Bytes.{writable_of}
 use Rattle.chain.specs.Service.{Kind, Given, Ending, Spent, Faulted, Refused, Site, Served, after, ServesAll, stop, open_site, Works, IsService, IsExactUnless, HasAtMostOneAnswer, used_len}
 use Rattle.chain.proofs.Partial.{unwritten, used_len-run}
 use Rattle.chain.proofs.Servicing.{exact_service, never_refused}
-use Rattle.chain.proofs.Simulating.{Matches, DoesAs, ServedAs, service_as}
+use Rattle.chain.proofs.Simulating.{DoesAs, service_as}
 use Rattle.console_device.specs.Input.{IsLeft}
 use Rattle.console_device.specs.Output.{PutsOut}
 use Rattle.console_device.specs.Device.{received, receive, transmitted, transmit, exact_transmit}

@@ -1,5 +1,5 @@
 -- Readable bytes of a chain on their way out.
-use Rattle.std.proofs.Common.{◌≡◌, ℕ, ◌+◌, ◌<◌, ◌≤◌, get_or, arith, Bool, if◌then◌else◌, false, true, List, [], ◌∷◌, ◌++◌, length, sum_by, drop, Option, None, refl, sym, ap, ◌∙◌, append_assoc}
+use Rattle.std.proofs.Common.{◌≡◌, ℕ, ◌+◌, ◌<◌, ◌≤◌, get_or, arith, Bool, if◌then◌else◌, false, true, List, ◌∷◌, ◌++◌, length, sum_by, drop, Option, None, refl, sym, ap, ◌∙◌, append_assoc}
 use Rattle.std.specs.List.{flat_map}
 use Rattle.std.proofs.lemmas.List.{drop_more, length-replicate, length-append}
 use Rattle.std.proofs.lemmas.List.Sums.{sum_by-cons}

@@ -13,6 +13,8 @@ use guest_memory::GuestMemory;
 use mmio_window::{DeviceKind, Window};
 use negotiation::{Features, Flags};
 use std::alloc::{Allocator, Global};
+use std::fmt::Debug;
+use std::process::Abort;
 use std::test::Fail;
 
 /// The first address of the guest's memory, and how many bytes it has.
@@ -44,12 +46,23 @@ const WRITE: u16 = 2;
 
 const INDIRECT: u16 = 4;
 
+/// Tells of which row or step something else was found than what is wanted. The one assertion with a message:
+/// a message is dear to prove.
+fn same<R: Debug, T: PartialEq + Debug>(rt: &impl Abort, row: &R, found: &T, wanted: &T) {
+    assert_eq!(rt; found, wanted, "{row:?}");
+}
+
 /// A descriptor of a split queue (2.7.5): its address, length, flags and next descriptor.
-#[derive(Clone, Copy)]
+#[derive(Clone, Copy, Debug)]
 struct Descriptor(u64, u32, u16, u16);
 
 /// A descriptor that no chain leads to.
 const UNUSED: Descriptor = Descriptor(0, 0, 0, 0);
+
+/// Whether these bytes stand at the address.
+fn has<M: Allocator>(mem: &GuestMemory<M>, addr: u64, bytes: &[u8]) -> bool {
+    mem.part(addr, bytes.len() as u64) == Some(bytes)
+}
 
 /// Writes a table of descriptors.
 fn put_table<M: Allocator>(mem: &mut GuestMemory<M>, table: u64, descriptors: &[Descriptor]) {

@@ -7,6 +7,14 @@ ghost use Rattle.negotiation.specs.Negotiation.{is_live};
 ghost use Rattle.negotiation.specs.Sets.{has};
 
 use crate::{Features, Flags, Negotiation, Status};
+use std::fmt::Debug;
+use std::process::Abort;
+
+/// Tells of which row something else was found than what is wanted. The one assertion with a message: a message
+/// is dear to prove.
+fn same<R: Debug, T: PartialEq + Debug>(rt: &impl Abort, row: &R, found: &T, wanted: &T) {
+    assert_eq!(rt; found, wanted, "{row:?}");
+}
 
 // What every device offers.
 fn common() -> Features {
@@ -44,43 +52,61 @@ fn begun(low: u32, high: u32) -> Negotiation {
 #[test]
 fn device_features(rt: HostRuntime) {
     let read_only = block().union(Features::BLOCK_RO);
-    for (offered, low) in [
-        (block(), 0x3000_0244),
-        (read_only, 0x3000_0264),
-        (console(), 0x3000_0005),
-    ] {
-        let negotiation = Negotiation::new(offered);
-        assert_eq!(rt; negotiation.offered().word(0), low);
-        assert_eq!(rt; negotiation.offered().word(1), 5);
-        assert_eq!(rt; negotiation.offered().word(2), 0);
-        assert_eq!(rt; negotiation.offered().word(0xffff_ffff), 0);
-    }
+    same(&rt, &"block", &words_of(block()), &[0x3000_0244, 5, 0, 0]);
+    same(
+        &rt,
+        &"read-only",
+        &words_of(read_only),
+        &[0x3000_0264, 5, 0, 0],
+    );
+    same(
+        &rt,
+        &"console",
+        &words_of(console()),
+        &[0x3000_0005, 5, 0, 0],
+    );
     let later = block()
         .union(Features::BLOCK_WRITE_ZEROES)
         .union(Features::NOTIFICATION_DATA);
-    assert_eq!(rt; later.word(0), 0x3000_4244);
-    assert_eq!(rt; later.word(1), 0x45);
+    same(&rt, &"later", &words_of(later), &[0x3000_4244, 0x45, 0, 0]);
 }
+
+// What DeviceFeatures shows at the selectors 0, 1, 2 and the last.
+fn words_of(offered: Features) -> [u32; 4] {
+    let offered = Negotiation::new(offered).offered();
+    [
+        offered.word(0),
+        offered.word(1),
+        offered.word(2),
+        offered.word(0xffff_ffff),
+    ]
+}
+
+// The words that a driver accepts, and Status once it has asked for FEATURES_OK.
+type Accepted = (u32, u32, u8);
+
+const ACCEPTED: [Accepted; 5] = [
+    (0, 1, 0x0b),
+    (0x3000_0244, 5, 0x0b),
+    (8, 1, 0x03),
+    (0, 0, 0x03),
+    (0, 3, 0x03),
+];
 
 #[test]
 fn features_ok(rt: HostRuntime) {
-    for (low, high, status) in [
-        (0, 1, 0x0b),
-        (0x3000_0244, 5, 0x0b),
-        (8, 1, 0x03),
-        (0, 0, 0x03),
-        (0, 3, 0x03),
-    ] {
-        let mut negotiation = begun(low, high);
-        assert_eq!(rt; negotiation.status().bits(), status, "at {low:x} {high:x}");
-        negotiation.write_status(0x0f);
-        assert_eq!(rt;
-            negotiation.status().bits(),
-            status | 4,
-            "at {low:x} {high:x}"
-        );
-        assert_eq!(rt; negotiation.live(), status == 0x0b, "at {low:x} {high:x}");
+    for accepted in &ACCEPTED {
+        check_features_ok(&rt, accepted);
     }
+}
+
+fn check_features_ok(rt: &impl Abort, accepted: &Accepted) {
+    let (low, high, status) = *accepted;
+    let mut negotiation = begun(low, high);
+    same(rt, accepted, &negotiation.status().bits(), &status);
+    negotiation.write_status(0x0f);
+    same(rt, accepted, &negotiation.status().bits(), &(status | 4));
+    same(rt, accepted, &negotiation.live(), &(status == 0x0b));
 }
 
 #[test]
@@ -96,13 +122,24 @@ fn features_stay_once_settled(rt: HostRuntime) {
     assert!(rt; negotiation.negotiated() == negotiation.accepted());
 }
 
+// What is written to Status, one after another, and what it is then. None is a reset.
+type Written = (u32, u8);
+
+const WRITTEN: [Written; 4] = [(0x100, 0x0f), (0x70, 0x0f), (0x80, 0x8f), (1, 0x8f)];
+
+fn check_written(rt: &impl Abort, negotiation: &mut Negotiation, written: &Written) {
+    let (value, status) = *written;
+    let reset = negotiation.write_status(value);
+    let found = (reset, negotiation.status().bits());
+    same(rt, written, &found, &(false, status));
+}
+
 #[test]
 fn status_writes(rt: HostRuntime) {
     let mut negotiation = begun(0, 1);
     negotiation.write_status(0x0f);
-    for (value, status) in [(0x100, 0x0f), (0x70, 0x0f), (0x80, 0x8f), (1, 0x8f)] {
-        assert!(rt; !negotiation.write_status(value), "at {value:x}");
-        assert_eq!(rt; negotiation.status().bits(), status, "at {value:x}");
+    for written in &WRITTEN {
+        check_written(&rt, &mut negotiation, written);
     }
     assert!(rt; !negotiation.live());
     assert!(rt; negotiation.write_status(0));

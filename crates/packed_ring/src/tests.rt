@@ -6,10 +6,11 @@ mod notifications;
 mod services;
 mod setup;
 
-use crate::PackedRing;
+use crate::{PackedRing, Token};
 use chain::{Chain, Fault};
 use guest_memory::GuestMemory;
 use std::alloc::Global;
+use std::fmt::Debug;
 use std::process::Abort;
 use std::test::Fail;
 
@@ -55,6 +56,12 @@ fn put_descriptors(mem: &mut GuestMemory, table: u64, descriptors: &[Descriptor]
     }
 }
 
+/// Tells of which row or step something else was found than what is wanted. The one assertion with a message:
+/// a message is dear to prove.
+fn same<R: Debug, T: PartialEq + Debug>(rt: &impl Abort, row: &R, found: &T, wanted: &T) {
+    assert_eq!(rt; found, wanted, "{row:?}");
+}
+
 /// A guest's memory, and a ring in it.
 #[derive(Drop)]
 struct Guest {
@@ -73,30 +80,68 @@ impl Guest {
         })
     }
 
+    fn open(&mut self, rt: &impl Abort) -> Result<(), Fault> {
+        assert!(rt; self.ring.lies_in(&self.mem));
+        self.ring.open(&self.mem)
+    }
+
+    fn take(&mut self, rt: &impl Abort, chain: &mut Chain) -> Result<Option<Token>, Fault> {
+        assert!(rt; self.ring.lies_in(&self.mem));
+        self.ring.take(&self.mem, chain)
+    }
+
+    /// Serves the next chain, if one is on offer, as a device that writes these bytes from its first writable
+    /// one on, and says that it wrote `len`, and whether it wrote any. Answers whether a chain was served.
+    fn serve_next(
+        &mut self,
+        rt: &impl Abort,
+        bytes: &[u8],
+        len: u32,
+        wrote: bool,
+    ) -> Result<bool, Fault> {
+        let mut chain = Chain::new();
+        assert!(rt; self.ring.lies_in(&self.mem));
+        let Some(token) = self.ring.take(&self.mem, &mut chain)? else {
+            return Ok(false);
+        };
+        assert!(rt; bytes.len() as u64 <= chain.writable_len());
+        chain.write_at(&mut self.mem, 0, bytes);
+        assert!(rt; self.ring.lies_in(&self.mem));
+        self.ring.give(&mut self.mem, token, len, wrote);
+        Ok(true)
+    }
+
+    fn serve_chains(&mut self, rt: &impl Abort, len: u32) -> Result<(), Fault> {
+        for _ in 0..=256 {
+            if !self.serve_next(rt, &[], len, len > 0)? {
+                break;
+            }
+        }
+        Ok(())
+    }
+
+    fn close(&mut self, rt: &impl Abort) -> bool {
+        assert!(rt; self.ring.lies_in(&self.mem));
+        self.ring.close(&mut self.mem)
+    }
+
     /// Serves all that is on offer, as a device that says of each chain that it wrote `len` bytes. Answers
     /// the fault that it met, and whether a notification is wanted.
     fn serve(&mut self, rt: &impl Abort, len: u32) -> (Option<Fault>, bool) {
-        let mut chain = Chain::new();
-        let mut fault = None;
-        assert!(rt; self.ring.lies_in(&self.mem));
-        assert!(rt; self.ring.open(&self.mem).is_ok());
-        for _ in 0..=256 {
-            assert!(rt; self.ring.lies_in(&self.mem));
-            match self.ring.take(&self.mem, &mut chain) {
-                Ok(None) => break,
-                // And then nothing more is taken.
-                Err(met) => fault = Some(met),
-                Ok(Some(token)) => self.ring.give(&mut self.mem, token, len, len > 0),
-            }
-        }
-        assert!(rt; self.ring.lies_in(&self.mem));
-        (fault, self.ring.close(&mut self.mem))
+        let opened = self.open(rt);
+        let served = self.serve_chains(rt, len);
+        (opened.err().or(served.err()), self.close(rt))
     }
 
     /// Puts descriptors into the ring from a position on.
     fn put(&mut self, position: u16, descriptors: &[Descriptor]) {
         let addr = DESC + 16 * u64::from(position);
         put_descriptors(&mut self.mem, addr, descriptors);
+    }
+
+    /// Whether these bytes stand at the address.
+    fn has(&self, addr: u64, bytes: &[u8]) -> bool {
+        self.mem.part(addr, bytes.len() as u64) == Some(bytes)
     }
 
     /// The len, the id and the flags of the descriptor at a position.

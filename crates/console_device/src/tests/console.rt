@@ -1,19 +1,32 @@
 //! The console without its queues: input, emergency byte, size and configuration.
 
-use crate::tests::up;
+use crate::tests::{same, up};
 use crate::{ConsoleDevice, NoMemory};
 use guest_memory::GuestMemory;
+use std::alloc::Global;
+use std::process::Abort;
 use std::test::Fail;
+
+/// How many bytes are typed, how many of them are taken, and for how many there is room then.
+type Typed = (usize, usize, usize);
+
+const TYPED: [Typed; 4] = [(0, 0, 4096), (1, 1, 4095), (4096, 4096, 0), (4097, 4096, 0)];
 
 #[test]
 fn input_takes_what_fits_in_4096_bytes(rt: HostRuntime) -> Result<(), Fail> {
-    let typed = [0x61; 4097];
-    for (len, took) in [(0, 0), (1, 1), (4096, 4096), (4097, 4096)] {
-        let mut console = ConsoleDevice::new(rt.alloc(), 80, 25)?;
-        assert_eq!(rt; console.input(&typed[..len]), took);
-        assert_eq!(rt; console.input(&typed), 4096 - took);
-        assert_eq!(rt; console.input(&typed), 0);
+    for typed in &TYPED {
+        check_typed(&rt, rt.alloc(), typed)?;
     }
+    Ok(())
+}
+
+fn check_typed(rt: &impl Abort, alloc: Global, typed: &Typed) -> Result<(), Fail> {
+    let (len, took, room) = *typed;
+    let bytes = [0x61; 4097];
+    let mut console = ConsoleDevice::new(alloc, 80, 25)?;
+    same(rt, typed, &console.input(&bytes[..len.min(4097)]), &took);
+    same(rt, typed, &console.input(&bytes), &room);
+    same(rt, typed, &console.input(&bytes), &0);
     Ok(())
 }
 

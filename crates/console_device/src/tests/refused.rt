@@ -1,9 +1,10 @@
 //! Each request for memory refused in turn.
 
-use crate::tests::{DATA, Descriptor, TRANSMIT, WRITE, after_transmit, fill, guest, up};
+use crate::tests::{DATA, Descriptor, TRANSMIT, WRITE, after_transmit, fill, guest, same, up};
 use crate::{ConsoleDevice, NoMemory};
 use refusing::RefusingHeap;
-use std::alloc::Allocator;
+use std::alloc::{Allocator, Global};
+use std::process::Abort;
 use std::test::Fail;
 
 #[test]
@@ -35,7 +36,7 @@ fn an_emergency_byte_without_room_changes_nothing(rt: HostRuntime) -> Result<(),
 }
 
 /// What stands after a notify in which the nth request for room was refused.
-#[derive(Clone, Copy)]
+#[derive(Clone, Copy, Debug)]
 struct Refused {
     nth: u64,
     answer: Result<(), NoMemory>,
@@ -76,27 +77,30 @@ const CHAINS: [Descriptor; 2] = [
 
 #[test]
 fn a_chain_without_room_stays_on_offer(rt: HostRuntime) -> Result<(), Fail> {
-    for row in REFUSED {
-        let heap = RefusingHeap::new(rt.alloc());
-        let mut mem = guest(rt.alloc(), &CHAINS, [0, 1], 2)?;
-        fill(&mut mem, DATA + 0x1000, 0x1000, 0x42);
-        let mut window = up(&mem, TRANSMIT);
-        let mut console = ConsoleDevice::new(rt.alloc(), 80, 25)?;
-        let mut out = Vec::new(&heap);
-        heap.refuse_from(row.nth);
-        let (answer, seen) = after_transmit(&mut console, &mut mem, &mut window, &mut out);
-        assert_eq!(rt; (answer, out.len()), (row.answer, row.out));
-        assert_eq!(rt;
-            (seen.used, seen.interrupts, seen.status),
-            (row.used, row.interrupts, 0x0f)
-        );
-        // the next notify goes on with that chain
-        heap.refuse_from(0);
-        let (answer, seen) = after_transmit(&mut console, &mut mem, &mut window, &mut out);
-        assert_eq!(rt; (answer, out.len(), seen.used), (Ok(()), 4097, 2));
-        assert_eq!(rt; out.first(), Some(&b'a'));
-        assert!(rt; is_all(&out, 0x42));
+    for row in &REFUSED {
+        check_refused(&rt, rt.alloc(), row)?;
     }
+    Ok(())
+}
+
+fn check_refused(rt: &impl Abort, alloc: Global, row: &Refused) -> Result<(), Fail> {
+    let heap = RefusingHeap::new(alloc);
+    let mut mem = guest(alloc, &CHAINS, [0, 1], 2)?;
+    fill(&mut mem, DATA + 0x1000, 0x1000, 0x42);
+    let mut window = up(&mem, TRANSMIT);
+    let mut console = ConsoleDevice::new(alloc, 80, 25)?;
+    let mut out = Vec::new(&heap);
+    heap.refuse_from(row.nth);
+    let (answer, seen) = after_transmit(&mut console, &mut mem, &mut window, &mut out);
+    same(rt, row, &(answer, out.len()), &(row.answer, row.out));
+    let found = (seen.used, seen.interrupts, seen.status);
+    same(rt, row, &found, &(row.used, row.interrupts, 0x0f));
+    // the next notify goes on with that chain
+    heap.refuse_from(0);
+    let (answer, seen) = after_transmit(&mut console, &mut mem, &mut window, &mut out);
+    same(rt, row, &(answer, out.len(), seen.used), &(Ok(()), 4097, 2));
+    same(rt, row, &out.first(), &Some(&b'a'));
+    same(rt, row, &is_all(&out, 0x42), &true);
     Ok(())
 }
 

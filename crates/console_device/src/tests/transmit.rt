@@ -3,12 +3,14 @@
 use crate::ConsoleDevice;
 use crate::tests::{
     DATA, Descriptor, INDIRECT, INDIRECT_TABLE, NEXT, Seen, TRANSMIT, UNUSED, WRITE, after_receive,
-    after_transmit, guest, up,
+    after_transmit, guest, has, same, up,
 };
+use std::alloc::Global;
+use std::process::Abort;
 use std::test::Fail;
 
 /// Two chains, with `>` out before.
-#[derive(Clone, Copy)]
+#[derive(Clone, Copy, Debug)]
 struct Transmitted {
     table: [Descriptor; 3],
     heads: [u16; 2],
@@ -93,17 +95,22 @@ const TRANSMITTED: [Transmitted; 5] = [
 
 #[test]
 fn readable_bytes_go_out_in_order(rt: HostRuntime) -> Result<(), Fail> {
-    for row in TRANSMITTED {
-        let mut mem = guest(rt.alloc(), &row.table, row.heads, 2)?;
-        let mut window = up(&mem, TRANSMIT);
-        let mut console = ConsoleDevice::new(rt.alloc(), 80, 25)?;
-        let mut out = Vec::new(rt.alloc());
-        out.push(b'>')?;
-        let answer = after_transmit(&mut console, &mut mem, &mut window, &mut out);
-        assert_eq!(rt; answer, (Ok(()), row.seen));
-        assert_eq!(rt; Some(out.as_slice()), row.out.get(..row.len));
-        assert_eq!(rt; mem.get_u64(DATA), Some(0x6867_6665_6463_6261));
+    for row in &TRANSMITTED {
+        check_transmitted(&rt, rt.alloc(), row)?;
     }
+    Ok(())
+}
+
+fn check_transmitted(rt: &impl Abort, alloc: Global, row: &Transmitted) -> Result<(), Fail> {
+    let mut mem = guest(alloc, &row.table, row.heads, 2)?;
+    let mut window = up(&mem, TRANSMIT);
+    let mut console = ConsoleDevice::new(alloc, 80, 25)?;
+    let mut out = Vec::new(alloc);
+    out.push(b'>')?;
+    let answer = after_transmit(&mut console, &mut mem, &mut window, &mut out);
+    same(rt, row, &answer, &(Ok(()), row.seen));
+    same(rt, row, &Some(out.as_slice()), &row.out.get(..row.len));
+    same(rt, row, &has(&mem, DATA, b"abcdefgh"), &true);
     Ok(())
 }
 
@@ -114,7 +121,8 @@ fn a_queue_that_is_not_ready_is_not_served(rt: HostRuntime) -> Result<(), Fail> 
     let mut console = ConsoleDevice::new(rt.alloc(), 80, 25)?;
     let _ = console.input(b"ABCD");
     let seen = after_receive(&mut console, &mut mem, &mut window);
-    assert_eq!(rt; (seen.used, seen.interrupts, seen.status), (0, 0, 0x0f));
-    assert_eq!(rt; mem.get_u32(DATA), Some(0x6463_6261));
+    let found = (seen.used, seen.interrupts, seen.status);
+    same(&rt, &"not served", &found, &(0, 0, 0x0f));
+    same(&rt, &"bytes", &has(&mem, DATA, b"abcd"), &true);
     Ok(())
 }

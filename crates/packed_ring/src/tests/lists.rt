@@ -2,11 +2,13 @@
 
 use super::{
     AVAIL, BASE, DESC, DEVICE, DRIVER, Descriptor, Guest, INDIRECT, NEXT, REQUEST, USED, WRITE,
-    put_descriptors,
+    put_descriptors, same,
 };
 use crate::PackedRing;
 use chain::{Chain, Fault};
 use guest_memory::GuestMemory;
+use std::alloc::Global;
+use std::process::Abort;
 use std::test::Fail;
 
 const TABLE: u64 = BASE + 0x7000;
@@ -20,7 +22,9 @@ const ON: Descriptor = (BASE, 1, 5, AVAIL | NEXT);
 const NONE: Descriptor = (BASE, 1, 8, 0);
 
 /// The ring's descriptors, the fault, and the id and the flags of the first one after the service.
-const LISTS: [([Descriptor; 4], Option<Fault>, u16, u16); 17] = [
+type List = ([Descriptor; 4], Option<Fault>, u16, u16);
+
+const LISTS: [List; 17] = [
     ([LAST, NONE, NONE, NONE], None, 9, 0x8082),
     ([ON, ON, ON, LAST], None, 9, 0x8082),
     // The id is that of the last one. Only the first has to be available.
@@ -91,23 +95,27 @@ const LISTS: [([Descriptor; 4], Option<Fault>, u16, u16); 17] = [
 
 #[test]
 fn a_list_has_its_fault(rt: HostRuntime) -> Result<(), Fail> {
-    for (descriptors, fault, id, flags) in LISTS {
-        let mut guest = Guest::new(rt.alloc(), 4, true, true)?;
-        guest.put(0, &descriptors);
-        assert_eq!(rt; guest.serve(&rt, 1).0, fault, "{descriptors:?}");
-        let used = guest.used(0);
-        assert_eq!(rt;
-            (used.1, used.2),
-            (Some(id), Some(flags)),
-            "{descriptors:?}"
-        );
+    for list in &LISTS {
+        check_list(&rt, rt.alloc(), list)?;
     }
+    Ok(())
+}
+
+fn check_list(rt: &impl Abort, alloc: Global, list: &List) -> Result<(), Fail> {
+    let (descriptors, fault, id, flags) = list;
+    let mut guest = Guest::new(alloc, 4, true, true)?;
+    guest.put(0, descriptors);
+    same(rt, list, &guest.serve(rt, 1).0, fault);
+    let used = guest.used(0);
+    same(rt, list, &(used.1, used.2), &(Some(*id), Some(*flags)));
     Ok(())
 }
 
 /// The ring's first descriptor, which refers to the request as a table; whether VIRTIO_F_INDIRECT_DESC was
 /// negotiated; and the fault.
-const TABLES: [(Descriptor, bool, Option<Fault>); 12] = [
+type Table = (Descriptor, bool, Option<Fault>);
+
+const TABLES: [Table; 12] = [
     ((TABLE, 0x30, 3, AVAIL | INDIRECT), true, None),
     ((TABLE, 0x30, 3, AVAIL | INDIRECT | WRITE), true, None),
     ((TABLE, 0x18, 3, AVAIL | INDIRECT), true, Some(Fault::Table)),
@@ -149,25 +157,33 @@ const TABLES: [(Descriptor, bool, Option<Fault>); 12] = [
 
 #[test]
 fn a_table_is_a_list(rt: HostRuntime) -> Result<(), Fail> {
-    for (first, indirect, fault) in TABLES {
-        let mut guest = Guest::new(rt.alloc(), 4, indirect, false)?;
-        guest.put(0, &[first]);
-        put_descriptors(&mut guest.mem, TABLE, &REQUEST);
-        put_descriptors(&mut guest.mem, TABLE + 0x30, &[(BASE + 0xffff, 2, 0, 0)]);
-        let met = guest.serve(&rt, 0x201).0;
-        assert_eq!(rt; met, fault, "{first:?}");
-        let used = if met.is_none() {
-            (Some(0x201), Some(3), Some(0x8082))
-        } else {
-            (Some(first.1), Some(3), Some(first.3))
-        };
-        assert_eq!(rt; guest.used(0), used, "{first:?}");
+    for table in &TABLES {
+        check_table(&rt, rt.alloc(), table)?;
     }
     Ok(())
 }
 
+fn check_table(rt: &impl Abort, alloc: Global, table: &Table) -> Result<(), Fail> {
+    let (first, indirect, fault) = table;
+    let mut guest = Guest::new(alloc, 4, *indirect, false)?;
+    guest.put(0, &[*first]);
+    put_descriptors(&mut guest.mem, TABLE, &REQUEST);
+    put_descriptors(&mut guest.mem, TABLE + 0x30, &[(BASE + 0xffff, 2, 0, 0)]);
+    let met = guest.serve(rt, 0x201).0;
+    same(rt, table, &met, fault);
+    let used = if met.is_none() {
+        (Some(0x201), Some(3), Some(0x8082))
+    } else {
+        (Some(first.1), Some(3), Some(first.3))
+    };
+    same(rt, table, &guest.used(0), &used);
+    Ok(())
+}
+
 /// The flags of both entries of a table, and how many of their bytes are readable and writable.
-const ENTRIES: [(u16, u64, u64); 8] = [
+type Entries = (u16, u64, u64);
+
+const ENTRIES: [Entries; 8] = [
     (0, 8, 0),
     (NEXT, 8, 0),
     (INDIRECT, 8, 0),
@@ -181,24 +197,28 @@ const ENTRIES: [(u16, u64, u64); 8] = [
 #[test]
 fn only_write_counts_in_a_table(rt: HostRuntime) -> Result<(), Fail> {
     let mut guest = Guest::new(rt.alloc(), 4, true, false)?;
-    let mut chain = Chain::new();
     guest.put(0, &[(TABLE, 0x20, 3, AVAIL | INDIRECT)]);
-    for (flags, readable, writable) in ENTRIES {
-        put_descriptors(&mut guest.mem, TABLE, &[(BASE, 4, 0x1234, flags); 2]);
-        assert!(rt; guest.ring.lies_in(&guest.mem));
-        assert!(rt; guest.ring.open(&guest.mem).is_ok());
-        assert!(rt; guest.ring.take(&guest.mem, &mut chain).is_ok());
-        assert_eq!(rt;
-            (chain.readable_len(), chain.writable_len()),
-            (readable, writable),
-            "flags {flags:x}"
-        );
+    for entries in &ENTRIES {
+        check_entries(&rt, &mut guest, entries);
     }
     Ok(())
 }
 
+/// The chain is taken and not given back, so that it stays on offer.
+fn check_entries(rt: &impl Abort, guest: &mut Guest, entries: &Entries) {
+    let (flags, readable, writable) = *entries;
+    let mut chain = Chain::new();
+    put_descriptors(&mut guest.mem, TABLE, &[(BASE, 4, 0x1234, flags); 2]);
+    same(rt, entries, &guest.open(rt), &Ok(()));
+    same(rt, entries, &guest.take(rt, &mut chain).is_ok(), &true);
+    let lens = (chain.readable_len(), chain.writable_len());
+    same(rt, entries, &lens, &(readable, writable));
+}
+
 /// In a ring of 256: the len of all descriptors but the last, which have NEXT, the last one, and the fault.
-const LONG_LISTS: [(u32, Descriptor, Option<Fault>); 5] = [
+type LongList = (u32, Descriptor, Option<Fault>);
+
+const LONG_LISTS: [LongList; 5] = [
     (1, (BASE, 1, 6, 0), None),
     (1, (BASE, 1, 6, NEXT), Some(Fault::Loop)),
     (0x100_0000, (BASE, 0xff_ffff, 6, 0), None),
@@ -212,21 +232,37 @@ const LONG_LISTS: [(u32, Descriptor, Option<Fault>); 5] = [
 
 #[test]
 fn a_long_list_has_its_fault(rt: HostRuntime) -> Result<(), Fail> {
-    let mut mem = GuestMemory::new(rt.alloc(), BASE, 0x100_0000)?;
-    for (len, last, fault) in LONG_LISTS {
-        for index in 0..255 {
-            put_descriptors(&mut mem, DESC + 16 * index, &[(BASE, len, 5, AVAIL | NEXT)]);
-        }
-        put_descriptors(&mut mem, DESC + 16 * 255, &[last]);
-        let ring = PackedRing::new(&mem, 256, DESC, DRIVER, DEVICE, true, false);
-        let mut ring = ring.ok_or("no ring")?;
-        let mut chain = Chain::new();
-        assert!(rt; ring.lies_in(&mem));
-        assert!(rt; ring.open(&mem).is_ok());
-        let taken = ring.take(&mem, &mut chain);
-        assert_eq!(rt; taken.err(), fault, "{len:x}, {last:?}");
-        let held = if fault.is_none() { 256 } else { 0 };
-        assert_eq!(rt; chain.buffers().len(), held, "{len:x}, {last:?}");
+    for list in &LONG_LISTS {
+        check_long_list(&rt, rt.alloc(), list)?;
     }
     Ok(())
+}
+
+fn check_long_list(rt: &impl Abort, alloc: Global, list: &LongList) -> Result<(), Fail> {
+    let (_, _, fault) = list;
+    let mut guest = long_ring(alloc, list)?;
+    let mut chain = Chain::new();
+    same(rt, list, &guest.open(rt), &Ok(()));
+    same(rt, list, &guest.take(rt, &mut chain).err(), fault);
+    let held = if fault.is_none() { 256 } else { 0 };
+    same(rt, list, &chain.buffers().len(), &held);
+    Ok(())
+}
+
+fn long_ring(alloc: Global, list: &LongList) -> Result<Guest, Fail> {
+    let (len, last, _) = list;
+    let mut mem = GuestMemory::new(alloc, BASE, 0x100_0000)?;
+    for index in 0..255 {
+        put_descriptors(
+            &mut mem,
+            DESC + 16 * index,
+            &[(BASE, *len, 5, AVAIL | NEXT)],
+        );
+    }
+    put_descriptors(&mut mem, DESC + 16 * 255, &[*last]);
+    let ring = PackedRing::new(&mem, 256, DESC, DRIVER, DEVICE, true, false);
+    Ok(Guest {
+        mem,
+        ring: ring.ok_or("no ring")?,
+    })
 }

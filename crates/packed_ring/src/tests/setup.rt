@@ -1,12 +1,15 @@
 //! Which numbers and areas make a ring.
 
-use super::{BASE, DESC, DEVICE, DRIVER};
+use super::{BASE, DESC, DEVICE, DRIVER, same};
 use crate::PackedRing;
 use guest_memory::GuestMemory;
+use std::process::Abort;
 use std::test::Fail;
 
 /// A queue size, the addresses of descriptor ring, driver area and device area, and whether there is a ring.
-const SETUPS: [(u32, u64, u64, u64, bool); 26] = [
+type Setup = (u32, u64, u64, u64, bool);
+
+const SETUPS: [Setup; 26] = [
     (4, DESC, DRIVER, DEVICE, true),
     (1, DESC, DRIVER, DEVICE, true),
     (2, DESC, DRIVER, DEVICE, true),
@@ -38,13 +41,14 @@ const SETUPS: [(u32, u64, u64, u64, bool); 26] = [
 #[test]
 fn a_ring_has_a_queue_size_and_areas(rt: HostRuntime) -> Result<(), Fail> {
     let mem = GuestMemory::new(rt.alloc(), BASE, 0x1_0000)?;
-    for (n, desc, driver, device, made) in SETUPS {
-        let ring = PackedRing::new(&mem, n, desc, driver, device, true, true);
-        assert_eq!(rt;
-            ring.is_some(),
-            made,
-            "{n}, {desc:x}, {driver:x}, {device:x}"
-        );
+    for setup in &SETUPS {
+        check_setup(&rt, &mem, setup);
     }
     Ok(())
+}
+
+fn check_setup(rt: &impl Abort, mem: &GuestMemory, setup: &Setup) {
+    let (n, desc, driver, device, made) = *setup;
+    let ring = PackedRing::new(mem, n, desc, driver, device, true, true);
+    same(rt, setup, &ring.is_some(), &made);
 }
