@@ -55,9 +55,11 @@ class Scene:
         word, fields = self.guests[guest].events[number]
         return f"{word} {slot:x} {fields}"
 
-    def is_own_byte(self, at):
-        """Whether a byte of the image lies in any guest's disk."""
-        return any(slot.start <= at // SECTOR < slot.start + slot.count for slot in (guest.slot for guest in self.guests))
+    def outside_of_disks(self, image):
+        """The sectors of an image that lie in no guest's disk."""
+        ends = [(guest.slot.start, guest.slot.start + guest.slot.count) for guest in self.guests]
+        gaps = zip([0] + [last for _, last in ends], [first for first, _ in ends] + [len(image) // SECTOR])
+        return [image[SECTOR * first:SECTOR * last] for first, last in gaps]
 
 
 def slot_line(slot):
