@@ -33,7 +33,7 @@ impl<A: Allocator + Copy> Slot<A> {
     }
 
     /// Writes bytes to the memory.
-    pub(super) fn write_memory(&mut self, addr: u64, new: &[u8]) -> Reply<A>
+    pub(crate) fn write_memory(&mut self, addr: u64, new: &[u8]) -> Reply<A>
         ensures given { (bytes : List ℕ) (health : Health) →
             MayGive (state_of bytes self.old) (EventKind.MemWrite addr new.now) health health
             (replies (state_of bytes self.new) result) }
