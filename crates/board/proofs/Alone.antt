@@ -5,22 +5,33 @@ use Rattle.std.specs.List.{slice_get}
 use Rattle.std.proofs.lemmas.Bool.Decides.{eqb_tells}
 use Rattle.board.specs.declared.event.Event.{Event}
 use Rattle.board.specs.declared.event.EventKind.{EventKind}
-use Rattle.board.specs.declared.event.EventKind.TheVariants.{Read, Write, MemRead, MemWrite}
+use Rattle.board.specs.declared.event.EventKind.TheVariants.{Read, Write, MemRead, MemWrite, Input, Resize}
 use Rattle.board.specs.declared.reply.Reply.TheVariants.{NoMemory}
 use Rattle.board.specs.declared.reply.Record.{Record}
 use Rattle.board.specs.Image.{Health}
-use Rattle.board.specs.Machine.{Outcome, Gives, IsNext, RunsOnItsOwn, record_of}
+use Rattle.board.specs.Machine.{Gives, IsNext, RunsOnItsOwn, record_of, task_at, with_write}
+use Rattle.board.specs.Outcome.{Outcome}
 use Rattle.board.specs.Slot.{SlotState}
-use Rattle.board.specs.World.{World, IsRefused, MayGive, SlotStep, MissingStep, Step}
+use Rattle.board.specs.Task.{Task, Nothing, ServeBlock, ServeReceive}
+use Rattle.board.specs.World.{World, IsCutShort, IsRefused, MayGive, SlotStep, MissingStep, Step}
 use Rattle.board.specs.Line.{Move, IsLine, IsUndisturbed, IsQuiet, RunsAlone, IsAlone, SeesTheSame, own_events, own_records, events_of, records_of}
 use Rattle.board.proofs.OneRun.{OneRun, next_of, one_run}
+
+-- a task that was cut short shows it
+cut_short_shows : {A : Type 0} (task : Task) (state : SlotState) (old new : Health) (outcome : Outcome A) → IsCutShort task state old new outcome → outcome.reply ≢ NoMemory → new.failures ≡ old.failures → ⊥
+cut_short_shows Nothing state old new outcome refused answered stood = refused
+cut_short_shows ServeBlock state old new outcome refused answered stood = absurd (omega (arith, refused.failures, stood))
+cut_short_shows ServeReceive state old new outcome refused answered stood = refused
 
 -- an event that was refused shows it: memory was wanting, or a call of the image failed
 refused_shows : {A : Type 0} (state : SlotState) (what : EventKind A) (old new : Health) (outcome : Outcome A) → IsRefused state what old new outcome → outcome.reply ≢ NoMemory → new.failures ≡ old.failures → ⊥
 refused_shows state (Read window offset width) old new outcome refused answered stood = refused
-refused_shows state (Write window offset width value) old new outcome refused answered stood = absurd (omega (arith, refused.failures, stood))
+refused_shows state (Write window offset width value) old new outcome refused answered stood =
+    cut_short_shows (task_at window offset width value state) (with_write window offset width value state) old new outcome refused answered stood
 refused_shows state (MemRead addr len) old new outcome refused answered stood = answered (ap (λ o. o.reply) refused.unchanged)
 refused_shows state (MemWrite addr bytes) old new outcome refused answered stood = refused
+refused_shows state (Input bytes) old new outcome refused answered stood = refused
+refused_shows state (Resize cols rows) old new outcome refused answered stood = refused
 
 -- an event that met no refusal came out as the one-slot machine has it
 served : {A : Type 0} (state : SlotState) (what : EventKind A) (old new : Health) (outcome : Outcome A) → MayGive state what old new outcome → outcome.reply ≢ NoMemory → new.failures ≡ old.failures → Gives state what old new outcome

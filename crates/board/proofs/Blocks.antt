@@ -17,15 +17,17 @@ use Rattle.mmio_window.specs.Writing.{action_of, written}
 use Rattle.block_device.specs.declared.device.BlockDevice.{BlockDevice}
 use Rattle.block_device.specs.declared.extent.Extent.{Extent}
 use Rattle.block_device.specs.Device.{block_device, device_by, exact_device}
-use Rattle.block_device.specs.Outcome.{Outcome}
+use Rattle.block_device.specs.Outcome.{Outcome, Completes, Ends}
 use Rattle.block_device.specs.declared.request.Request.{Request}
 use Rattle.block_device.specs.Extent.{IsWithin, extent_disk}
 use Rattle.board.specs.declared.event.EventKind.TheVariants.{Read, Write}
-use Rattle.board.specs.declared.reply.Reply.TheVariants.{Value, Done}
+use Rattle.board.specs.declared.reply.Reply.TheVariants.{Value, NoMemory}
 use Rattle.board.specs.Image.{Health, Tells, bytes_of, health_of, sectors_of, disk_with}
-use Rattle.board.specs.Machine.{replies, register, device_of, with_write, IsBlockService, Finishes, Writes}
+use Rattle.board.specs.Machine.{register, action_at, with_write}
+use Rattle.board.specs.Outcome.{Outcome as Came, replies, does}
 use Rattle.board.specs.Slot.{SlotState, BoardSlot, state_of}
-use Rattle.board.specs.World.{MayGive}
+use Rattle.board.specs.Task.{Task, Nothing, ServeBlock, task_of, device_of, IsBlockService, Finishes}
+use Rattle.board.specs.World.{IsCutShort, MayGive}
 use Rattle.block_device.proofs.Guests.{notified_anywhere}
 use Rattle.mmio_window.specs.Serving.{IsNotified}
 use Rattle.board.proofs.Guests.{disk_of_parts}
@@ -87,41 +89,69 @@ block_served slot memory block = record slot { memory = memory; block = block }
 abbrev mid : ℕ → ℕ → ℕ → BoardSlot → WindowState
 mid offset width value slot = written offset width value slot.memory slot.block
 
--- a notification of the block device: of the one that may fail, and of the one that never does
-pub notified_writes : (Way : Request → List ℕ → Disk → Outcome → Type 0) (slot : BoardSlot) (offset width value : ℕ) (memory : Memory) (block : WindowState) (old new : Disk)
+-- what a notified block device did, as its guest sees it: of the one that may fail, and of the one that never does
+notified_service : {A : Type 0} (Way : Request → List ℕ → Disk → Outcome → Type 0) (slot : BoardSlot) (offset width value : ℕ) (memory : Memory) (block : WindowState) (old new : Disk)
     → Tells old → Tells new → IsWhole old → IsWhole new → IsWithin old.sector_count slot.extent → IsWithin new.sector_count slot.extent
-    → action_of offset width value slot.block ≡ action.Notify 0
     → IsNotified (device_by Way (slot_device slot)) 0 (queue_at 0 (mid offset width value slot)) slot.memory memory (mid offset width value slot) block (extent_disk slot.extent old) (extent_disk slot.extent new)
-    → Writes (device_by Way (device_of (state_of (bytes_of old) slot))) (state_of (bytes_of old) slot) Block offset width value (health_of old) (health_of new) (state_of (bytes_of new) (block_served slot memory block))
-notified_writes Way slot offset width value memory block old new tells tells' whole whole' lies lies' notify h =
+    → IsBlockService {A = A} (device_by Way (device_of (state_of (bytes_of old) slot))) (with_write Block offset width value (state_of (bytes_of old) slot)) (health_of old) (health_of new) (does (state_of (bytes_of new) (block_served slot memory block)))
+notified_service Way slot offset width value memory block old new tells tells' whole whole' lies lies' h =
     let start = state_of (bytes_of old) slot in
-    let last = state_of (bytes_of new) (block_served slot memory block) in
     let before = mid offset width value slot in
     let count : slot.extent.count ≡ sectors_of start.extent = sym (count_of slot.extent old tells whole lies) in
     let guest = notified_anywhere Way (slot_device slot) (queue_at 0 before) slot.memory memory before block (extent_disk slot.extent old) (extent_disk slot.extent new) h in
     let own = subst (λ c. IsNotified (device_by Way (counted_device slot.read_only c)) 0 (queue_at 0 before) slot.memory memory before block (extent_disk slot.extent old) (extent_disk slot.extent new)) count guest in
     let seen = seen_service (device_by Way (device_of start)) slot (block_served slot memory block) before old new tells tells' whole whole' lies lies' own in
-    let service : IsBlockService (device_by Way (device_of start)) (with_write Block offset width value start) last (health_of old) (health_of new) = record { notified = seen.notified; rest = refl } in
-    subst (λ (a : Action). Finishes (device_by Way (device_of start)) Block a (with_write Block offset width value start) last (health_of old) (health_of new)) (sym notify) service
-
--- ---- no service
-
--- a write that doesn't notify the block device is done with itself
-pub unnotified : (device : Device Disk) (act : Action) (state : SlotState) (health : Health) → act ≢ action.Notify 0 → Finishes device Block act state state health health
-unnotified device (action.Notify zero) state health other = absurd (other refl)
-unnotified device (action.Notify (suc q)) state health other = record { state = refl; image = refl }
-unnotified device action.Reset state health other = record { state = refl; image = refl }
-unnotified device (action.ConfigWrite offset width value) state health other = record { state = refl; image = refl }
-unnotified device action.None state health other = record { state = refl; image = refl }
-
--- and so is one to the console's window
-pub console_writes : (device : Device Disk) (act : Action) (state : SlotState) (health : Health) → Finishes device Console act state state health health
-console_writes device (action.Notify q) state health = record { state = refl; image = refl }
-console_writes device action.Reset state health = record { state = refl; image = refl }
-console_writes device (action.ConfigWrite offset width value) state health = record { state = refl; image = refl }
-console_writes device action.None state health = record { state = refl; image = refl }
+    record { notified = seen.notified; is = refl }
 
 -- ---- events
+
+-- what comes of a write to a window, by what the write leaves to be done
+pub write_given : {A : Type 0} (state : SlotState) (window : DeviceKind) (act : Action) (offset width value : ℕ) (old new : Health) (outcome : Came A)
+    → action_at window offset width value state ≡ act
+    → (Finishes (task_of window act) (with_write window offset width value state) old new outcome × ((outcome.reply ≢ NoMemory) × (new.failures ≡ old.failures)))
+    ⊎ IsCutShort (task_of window act) (with_write window offset width value state) old new outcome
+    → MayGive state (Write window offset width value) old new outcome
+write_given {A} state window act offset width value old new outcome is (inl h) = inl (record {
+  alike = subst (λ (a : Action). Finishes (task_of window a) (with_write window offset width value state) old new outcome) (sym is) h.0;
+  answered = h.1.0;
+  failures = h.1.1;
+})
+write_given {A} state window act offset width value old new outcome is (inr h) =
+    inr (subst (λ (a : Action). IsCutShort (task_of window a) (with_write window offset width value state) old new outcome) (sym is) h)
+
+-- the block device was notified of its queue
+pub notified_given : {A : Type 0} (slot : BoardSlot) (offset width value : ℕ) (memory : Memory) (block : WindowState) (old new : Disk)
+    → Tells old → Tells new → IsWhole old → IsWhole new → IsWithin old.sector_count slot.extent → IsWithin new.sector_count slot.extent
+    → action_of offset width value slot.block ≡ action.Notify 0
+    → old.failures ≤ new.failures
+    → IsNotified (block_device (slot_device slot)) 0 (queue_at 0 (mid offset width value slot)) slot.memory memory (mid offset width value slot) block (extent_disk slot.extent old) (extent_disk slot.extent new)
+    → (new.failures ≡ old.failures → IsNotified (exact_device (slot_device slot)) 0 (queue_at 0 (mid offset width value slot)) slot.memory memory (mid offset width value slot) block (extent_disk slot.extent old) (extent_disk slot.extent new))
+    → MayGive {A = A} (state_of (bytes_of old) slot) (Write Block offset width value) (health_of old) (health_of new) (does (state_of (bytes_of new) (block_served slot memory block)))
+notified_given {A} slot offset width value memory block old new tells tells' whole whole' lies lies' notify rises served exact =
+    write_given (state_of (bytes_of old) slot) Block (action.Notify 0) offset width value (health_of old) (health_of new) (does (state_of (bytes_of new) (block_served slot memory block))) notify (either (cases_eq new.failures old.failures))
+  where
+    start : SlotState
+    start = with_write Block offset width value (state_of (bytes_of old) slot)
+
+    came : Came A
+    came = does (state_of (bytes_of new) (block_served slot memory block))
+
+    either : (new.failures ≡ old.failures) ⊎ (new.failures ≢ old.failures)
+        → (Finishes ServeBlock start (health_of old) (health_of new) came × ((came.reply ≢ NoMemory) × (new.failures ≡ old.failures))) ⊎ IsCutShort ServeBlock start (health_of old) (health_of new) came
+    either (inl stood) = inl (notified_service Completes slot offset width value memory block old new tells tells' whole whole' lies lies' (exact stood), (λ none. cc, stood))
+    either (inr rose) = inr (record {
+      service = notified_service Ends slot offset width value memory block old new tells tells' whole whole' lies lies' served;
+      failures = grind (arith, nat_tests, rises, rose);
+    })
+
+-- nothing is left to be done
+nothing_given : {A : Type 0} (state : SlotState) (window : DeviceKind) (act : Action) (offset width value : ℕ) (health : Health)
+    → action_at window offset width value state ≡ act → task_of window act ≡ Nothing
+    → MayGive {A = A} state (Write window offset width value) health health (does (with_write window offset width value state))
+nothing_given {A} state window act offset width value health is none =
+    let after = with_write window offset width value state in
+    write_given state window act offset width value health health (does after) is
+    (inl (subst (λ (t : Task). Finishes {A = A} t after health health (does after)) (sym none) (record { alike = refl; image = refl }), (λ wanting. cc, refl)))
 
 -- a read of a window
 pub read_given : {A : Type 0} (state : SlotState) (window : DeviceKind) (offset width value : ℕ) (health : Health) → value ≡ register state window offset width → MayGive {A = A} state (Read window offset width) health health (replies state (Value value))
@@ -130,21 +160,3 @@ read_given state window offset width value health is = inl (record {
   answered = λ none. cc;
   failures = refl;
 })
-
--- a write to a window
-pub write_given : {A : Type 0} (state last : SlotState) (window : DeviceKind) (offset width value : ℕ) (old new : Health) → old.failures ≤ new.failures
-    → Writes (block_device (device_of state)) state window offset width value old new last
-    → (new.failures ≡ old.failures → Writes (exact_device (device_of state)) state window offset width value old new last)
-    → MayGive {A = A} state (Write window offset width value) old new (replies last Done)
-write_given {A} state last window offset width value old new rises writes exact = either (cases_eq new.failures old.failures)
-  where
-    either : (new.failures ≡ old.failures) ⊎ (new.failures ≢ old.failures) → MayGive {A = A} state (Write window offset width value) old new (replies last Done)
-    either (inl stood) = inl (record {
-      alike = record { last = last; is = refl; writes = exact stood };
-      answered = λ none. cc;
-      failures = stood;
-    })
-    either (inr rose) = inr (record {
-      written = record { last = last; is = refl; writes = writes };
-      failures = grind (arith, nat_tests, rises, rose);
-    })

@@ -34,9 +34,11 @@ use Rattle.board.specs.declared.event.EventKind.TheVariants as event
 use Rattle.board.specs.declared.reply.Reply.TheVariants.{BadSlot, NoMemory}
 use Rattle.board.specs.declared.reply.Record.{Record}
 use Rattle.board.specs.Image.{Health, disk_with}
-use Rattle.board.specs.Machine.{Outcome as Came, device_of, action_at, with_write, IsBlockService, Finishes, Writes}
+use Rattle.board.specs.Machine.{action_at, task_at, with_write}
+use Rattle.board.specs.Outcome.{Outcome as Came}
 use Rattle.board.specs.Slot.{SlotState, KeepsBesideDisk}
-use Rattle.board.specs.World.{World, IsRefused, MayGive, SlotStep, MissingStep, Step, KeepsBoard}
+use Rattle.board.specs.Task.{task_of, device_of}
+use Rattle.board.specs.World.{World, IsFailedService, IsCutShort, IsRefused, MayGive, SlotStep, MissingStep, Step, KeepsBoard}
 use Rattle.board.proofs.Alone.{get_set}
 
 -- ---- the memory keeps its range
@@ -232,17 +234,19 @@ notified_keeps n device (Some queue) old new before after s t small many h =
 
 -- ---- an event
 
-service_beside : (device : BlockDevice) (old new : SlotState) (before after : Health) → 512 * device.extent.count ≤ length old.extent → IsBlockService (block_device device) old new before after → KeepsBesideDisk old new
-service_beside device old new before after small h =
-    let kept : KeepsNotified (length old.extent) old.memory new.memory (disk_with new.extent after) =
-    notified_keeps (length old.extent) device (queue_at 0 old.block) old.memory new.memory old.block new.block (disk_with old.extent before) (disk_with new.extent after) small (record { bytes = old.extent; told = refl; size = refl }) h.notified in
-    let told : Some new.extent ≡ Some kept.many.bytes = kept.many.told in
-    let same : new.extent ≡ kept.many.bytes = cc told in
+service_beside : {A : Type 0} (old : SlotState) (before after : Health) (outcome : Came A) → IsFailedService old before after outcome → KeepsBesideDisk old outcome.state
+service_beside {A} old before after outcome h =
+    let small : 512 * (device_of old).extent.count ≤ length old.extent = omega arith in
+    let kept : KeepsNotified (length old.extent) old.memory outcome.state.memory (disk_with outcome.state.extent after) =
+    notified_keeps (length old.extent) (device_of old) (queue_at 0 old.block) old.memory outcome.state.memory old.block outcome.state.block (disk_with old.extent before) (disk_with outcome.state.extent after) small (record { bytes = old.extent; told = refl; size = refl }) h.service.notified in
+    let told : Some outcome.state.extent ≡ Some kept.many.bytes = kept.many.told in
+    let same : outcome.state.extent ≡ kept.many.bytes = cc told in
     record {
-      console = ap (λ (s : SlotState). s.console) h.rest;
-      cols = ap (λ (s : SlotState). s.cols) h.rest;
-      rows = ap (λ (s : SlotState). s.rows) h.rest;
-      read_only = ap (λ (s : SlotState). s.read_only) h.rest;
+      console = ap (λ (o : Came A). o.state.console) h.service.is;
+      pending = ap (λ (o : Came A). o.state.pending) h.service.is;
+      cols = ap (λ (o : Came A). o.state.cols) h.service.is;
+      rows = ap (λ (o : Came A). o.state.rows) h.service.is;
+      read_only = ap (λ (o : Came A). o.state.read_only) h.service.is;
       memory = kept.range;
       extent = ap (λ (bs : List ℕ). length bs) same ∙ kept.many.size;
     }
@@ -250,33 +254,38 @@ service_beside device old new before after small h =
 never : (before after : Health) → before.failures < after.failures → after ≡ before → ⊥
 never before after rose is = let same : after.failures ≡ before.failures = ap (λ (h : Health). h.failures) is in omega arith
 
-block_beside : (device : BlockDevice) (act : Action) (old new : SlotState) (before after : Health) → 512 * device.extent.count ≤ length old.extent → before.failures < after.failures → Finishes (block_device device) Block act old new before after → KeepsBesideDisk old new
-block_beside device (action.Notify zero) old new before after small rose h = service_beside device old new before after small h
-block_beside device (action.Notify (suc q)) old new before after small rose h = absurd (never before after rose h.image)
-block_beside device action.Reset old new before after small rose h = absurd (never before after rose h.image)
-block_beside device (action.ConfigWrite offset width value) old new before after small rose h = absurd (never before after rose h.image)
-block_beside device action.None old new before after small rose h = absurd (never before after rose h.image)
+-- a write to the block window
+block_beside : {A : Type 0} (act : Action) (old : SlotState) (before after : Health) (outcome : Came A) → IsCutShort (task_of Block act) old before after outcome → KeepsBesideDisk old outcome.state
+block_beside (action.Notify zero) old before after outcome h = service_beside old before after outcome h
+block_beside (action.Notify (suc q)) old before after outcome h = absurd h
+block_beside action.Reset old before after outcome h = absurd h
+block_beside (action.ConfigWrite offset width value) old before after outcome h = absurd h
+block_beside action.None old before after outcome h = absurd h
 
-console_stood : (device : BlockDevice) (act : Action) (old new : SlotState) (before after : Health) → before.failures < after.failures → Finishes (block_device device) Console act old new before after → ⊥
-console_stood device (action.Notify q) old new before after rose h = never before after rose h.image
-console_stood device action.Reset old new before after rose h = never before after rose h.image
-console_stood device (action.ConfigWrite offset width value) old new before after rose h = never before after rose h.image
-console_stood device action.None old new before after rose h = never before after rose h.image
+-- in one to the console's the image has no part
+console_stood : {A : Type 0} (act : Action) (old : SlotState) (before after : Health) (outcome : Came A) → before.failures < after.failures → IsCutShort (task_of Console act) old before after outcome → ⊥
+console_stood (action.Notify zero) old before after outcome rose h = h
+console_stood (action.Notify (suc q)) old before after outcome rose h = h
+console_stood action.Reset old before after outcome rose h = h
+console_stood (action.ConfigWrite offset width value) old before after outcome rose h = h
+console_stood action.None old before after outcome rose h = h
 
-write_beside : (state last : SlotState) (window : DeviceKind) (offset width value : ℕ) (before after : Health) → before.failures < after.failures → Writes (block_device (device_of state)) state window offset width value before after last → KeepsBesideDisk state last
-write_beside state last Block offset width value before after rose h =
-    let kept : KeepsBesideDisk (with_write Block offset width value state) last =
-    block_beside (device_of state) (action_at Block offset width value state) (with_write Block offset width value state) last before after (omega arith) rose h in
-    record { console = kept.console; cols = kept.cols; rows = kept.rows; read_only = kept.read_only; memory = kept.memory; extent = kept.extent }
-write_beside state last Console offset width value before after rose h =
-    absurd (console_stood (device_of state) (action_at Console offset width value state) (with_write Console offset width value state) last before after rose h)
+write_beside : {A : Type 0} (state : SlotState) (window : DeviceKind) (offset width value : ℕ) (before after : Health) (outcome : Came A) → before.failures < after.failures
+    → IsCutShort (task_at window offset width value state) (with_write window offset width value state) before after outcome → KeepsBesideDisk state outcome.state
+write_beside state Block offset width value before after outcome rose h =
+    let kept : KeepsBesideDisk (with_write Block offset width value state) outcome.state =
+    block_beside (action_at Block offset width value state) (with_write Block offset width value state) before after outcome h in
+    record { console = kept.console; pending = kept.pending; cols = kept.cols; rows = kept.rows; read_only = kept.read_only; memory = kept.memory; extent = kept.extent }
+write_beside state Console offset width value before after outcome rose h =
+    absurd (console_stood (action_at Console offset width value state) (with_write Console offset width value state) before after outcome rose h)
 
 refused_beside : {A : Type 0} (state : SlotState) (what : EventKind A) (before after : Health) (outcome : Came A) → before.failures < after.failures → IsRefused state what before after outcome → KeepsBesideDisk state outcome.state
 refused_beside state (event.Read window offset width) before after outcome rose h = absurd h
-refused_beside {A} state (event.Write window offset width value) before after outcome rose h =
-    subst (λ (o : Came A). KeepsBesideDisk state o.state) (sym h.written.is) (write_beside state h.written.last window offset width value before after rose h.written.writes)
+refused_beside state (event.Write window offset width value) before after outcome rose h = write_beside state window offset width value before after outcome rose h
 refused_beside state (event.MemRead addr len) before after outcome rose h = absurd (never before after rose h.image)
 refused_beside state (event.MemWrite addr bytes) before after outcome rose h = absurd h
+refused_beside state (event.Input bytes) before after outcome rose h = absurd h
+refused_beside state (event.Resize cols rows) before after outcome rose h = absurd h
 
 given_beside : {A : Type 0} (state : SlotState) (what : EventKind A) (before after : Health) (outcome : Came A) → before.failures < after.failures → MayGive state what before after outcome → KeepsBesideDisk state outcome.state
 given_beside state what before after outcome rose (inl h) = let same : after.failures ≡ before.failures = h.failures in absurd (omega arith)

@@ -1,6 +1,7 @@
 pub mod Guests
 pub mod OneRun
 pub mod Blocks
+pub mod Consoles
 pub mod Outside
 pub mod Seats
 pub mod Alone

@@ -20,6 +20,7 @@ had_memory : {A : Type 0} (answer : Reply A) → answer ≢ reply.NoMemory → l
 had_memory (reply.Value x) had = refl
 had_memory reply.Done had = refl
 had_memory (reply.Bytes bs) had = refl
+had_memory (reply.Took count) had = refl
 had_memory reply.BadSlot had = refl
 had_memory reply.BadRange had = refl
 had_memory reply.NoMemory had = absurd (had refl)

@@ -1,121 +1,151 @@
 -- The one-slot machine is deterministic, and how its image fared before an event is never seen.
-use Rattle.std.proofs.Common.{◌≡◌, ℕ, zero, suc, Bool, Option, Some, None, List, [], ◌∷◌, map, refl, sym, ◌∙◌, ap, subst}
+use Rattle.std.proofs.Common.{◌≡◌, ℕ, Bool, Option, Some, None, List, [], ◌∷◌, map, refl, sym, ◌∙◌, ap, subst}
 use Rattle.guest_memory.specs.Memory.{Memory}
-use Rattle.chain.specs.Service.{Site, Ending}
+use Rattle.chain.specs.Service.{Device, Site, Ending, IsService}
+use Rattle.chain.proofs.Servicing.{at_most_one_service}
 use Rattle.sector_cache.specs.Disk.{Disk}
-use Rattle.mmio_window.specs.declared.action.Action.{Action}
-use Rattle.mmio_window.specs.declared.action.Action.TheVariants as action
-use Rattle.mmio_window.specs.declared.device_kind.DeviceKind.{DeviceKind}
-use Rattle.mmio_window.specs.declared.device_kind.DeviceKind.TheVariants.{Block, Console}
 use Rattle.mmio_window.specs.declared.queue.Queue.{Queue}
+use Rattle.mmio_window.specs.Queue.{queue_kind}
+use Rattle.mmio_window.specs.Serving.{IsNotified, after_service}
 use Rattle.mmio_window.specs.Window.{WindowState, with_ring, queue_at}
+use Rattle.mmio_window.proofs.QueueKind.{has_at_most_one_chain}
 use Rattle.block_device.specs.declared.device.BlockDevice.{BlockDevice}
 use Rattle.block_device.specs.Device.{exact_device}
-use Rattle.mmio_window.specs.Serving.{IsNotified, after_service}
 use Rattle.block_device.proofs.OneService.{at_most_one_exact_service}
+use Rattle.console_device.specs.Device.{receive}
+use Rattle.console_device.specs.Input.{fitting}
+use Rattle.console_device.proofs.Services.{receive_once, receive_never_refused}
 use Rattle.board.specs.declared.event.EventKind.{EventKind}
-use Rattle.board.specs.declared.event.EventKind.TheVariants.{Read, Write, MemRead, MemWrite}
+use Rattle.board.specs.declared.event.EventKind.TheVariants.{Read, Write, MemRead, MemWrite, Input, Resize}
+use Rattle.board.specs.declared.reply.Reply.{Reply}
+use Rattle.board.specs.declared.reply.Reply.TheVariants.{Done, Took}
 use Rattle.board.specs.declared.reply.Record.{Record}
 use Rattle.board.specs.Image.{Health, disk_with}
-use Rattle.board.specs.Machine.{Outcome, does, device_of, action_at, with_write, IsBlockService, Finishes, Gives, IsNext, IsCourse, RunsOnItsOwn, record_of, at_rest}
+use Rattle.board.specs.Machine.{task_at, with_write, with_input, Gives, IsNext, IsCourse, RunsOnItsOwn, record_of, at_rest}
+use Rattle.board.specs.Outcome.{Outcome, replies, does}
 use Rattle.board.specs.Slot.{SlotState}
+use Rattle.board.specs.Task.{Task, Nothing, ServeBlock, ServeReceive, device_of, IsBlockService, IsReceiveService, Finishes}
 use Rattle.board.proofs.Guests.{AtRest, exact_at_rest}
 
 -- ---- how the image fared is never seen
 
-record FinishesAtRest (device : BlockDevice) (window : DeviceKind) (act : Action) (old new : SlotState) : Type 0 where
+record FinishesAtRest {A : Type 0} (task : Task) (old : SlotState) (outcome : Outcome A) : Type 0 where
   health : Health
-  finishes : Finishes (exact_device device) window act old new at_rest health
+  finishes : Finishes task old at_rest health outcome
 
-finishes_at_rest : (device : BlockDevice) (window : DeviceKind) (act : Action) (old new : SlotState) (before after : Health) → Finishes (exact_device device) window act old new before after → FinishesAtRest device window act old new
-finishes_at_rest device Block (action.Notify zero) old new before after h =
-    let rested : AtRest device (queue_at 0 old.block) old.memory new.memory old.block new.block old.extent new.extent =
-    exact_at_rest device (queue_at 0 old.block) old.memory new.memory old.block new.block old.extent new.extent before after h.notified in
-    record { health = rested.health; finishes = record { notified = rested.notified; rest = h.rest } }
-finishes_at_rest device Block (action.Notify (suc q)) old new before after h = record { health = at_rest; finishes = record { state = h.state; image = refl } }
-finishes_at_rest device Block action.Reset old new before after h = record { health = at_rest; finishes = record { state = h.state; image = refl } }
-finishes_at_rest device Block (action.ConfigWrite offset width value) old new before after h = record { health = at_rest; finishes = record { state = h.state; image = refl } }
-finishes_at_rest device Block action.None old new before after h = record { health = at_rest; finishes = record { state = h.state; image = refl } }
-finishes_at_rest device Console (action.Notify q) old new before after h = record { health = at_rest; finishes = record { state = h.state; image = refl } }
-finishes_at_rest device Console action.Reset old new before after h = record { health = at_rest; finishes = record { state = h.state; image = refl } }
-finishes_at_rest device Console (action.ConfigWrite offset width value) old new before after h = record { health = at_rest; finishes = record { state = h.state; image = refl } }
-finishes_at_rest device Console action.None old new before after h = record { health = at_rest; finishes = record { state = h.state; image = refl } }
+finishes_at_rest : {A : Type 0} (task : Task) (old : SlotState) (before after : Health) (outcome : Outcome A) → Finishes task old before after outcome → FinishesAtRest task old outcome
+finishes_at_rest Nothing old before after outcome h = record { health = at_rest; finishes = record { alike = h.alike; image = refl } }
+finishes_at_rest ServeBlock old before after outcome h =
+    let rested : AtRest (device_of old) (queue_at 0 old.block) old.memory outcome.state.memory old.block outcome.state.block old.extent outcome.state.extent =
+    exact_at_rest (device_of old) (queue_at 0 old.block) old.memory outcome.state.memory old.block outcome.state.block old.extent outcome.state.extent before after h.notified in
+    record { health = rested.health; finishes = record { notified = rested.notified; is = h.is } }
+finishes_at_rest ServeReceive old before after outcome h = record { health = at_rest; finishes = record { notified = h.notified; is = h.is; image = refl } }
 
 -- what an event gives is what comes of it for a guest alone
 pub next_of : {A : Type 0} (state : SlotState) (what : EventKind A) (before after : Health) (outcome : Outcome A) → Gives state what before after outcome → IsNext state what outcome
 next_of state (Read window offset width) before after outcome h = record { after = at_rest; gives = record { alike = h.alike; image = refl } }
 next_of state (Write window offset width value) before after outcome h =
-    let rested : FinishesAtRest (device_of state) window (action_at window offset width value state) (with_write window offset width value state) h.last =
-    finishes_at_rest (device_of state) window (action_at window offset width value state) (with_write window offset width value state) h.last before after h.writes in
-    record { after = rested.health; gives = record { last = h.last; is = h.is; writes = rested.finishes } }
+    let rested : FinishesAtRest (task_at window offset width value state) (with_write window offset width value state) outcome =
+    finishes_at_rest (task_at window offset width value state) (with_write window offset width value state) before after outcome h in
+    record { after = rested.health; gives = rested.finishes }
 next_of state (MemRead addr len) before after outcome h = record { after = at_rest; gives = record { alike = h.alike; image = refl } }
 next_of state (MemWrite addr bytes) before after outcome h = record { after = at_rest; gives = record { alike = h.alike; image = refl } }
+next_of state (Input bytes) before after outcome h = record { after = at_rest; gives = record { notified = h.notified; is = h.is; image = refl } }
+next_of state (Resize cols rows) before after outcome h = record { after = at_rest; gives = record { alike = h.alike; image = refl } }
 
 -- ---- there is at most one outcome
 
 -- what two services leave is the same
-record SameEnd (m n : Memory) (v w : WindowState) (s t : Disk) : Type 0 where
+record SameEnd {State : Type 0} (m n : Memory) (v w : WindowState) (s t : State) : Type 0 where
   memory : m ≡ n
   window : v ≡ w
-  disk : s ≡ t
+  state : s ≡ t
 
-notified_once : (device : BlockDevice) (queue : Option Queue) (old m n : Memory) (before v w : WindowState) (bytes : List ℕ) (disk s t : Disk) → disk.told ≡ Some bytes
-    → IsNotified (exact_device device) 0 queue old m before v disk s → IsNotified (exact_device device) 0 queue old n before w disk t → SameEnd m n v w s t
-notified_once device None old m n before v w bytes disk s t told a b = record {
+-- from a state there is at most one service
+abbrev HasOneService : {State : Type 0} → Device State → State → Type 0
+HasOneService {State} device s =
+    (m : Memory) (queue : Queue) (a b : Site Queue State) (e f : Ending) (v w : Bool)
+    → IsService queue_kind device (record { memory = m; ring = queue; state = s }) a e v
+    → IsService queue_kind device (record { memory = m; ring = queue; state = s }) b f w
+    → (a ≡ b) × (e ≡ f) × (v ≡ w)
+
+notified_once : {State : Type 0} (device : Device State) (q : ℕ) (queue : Option Queue) (old m n : Memory) (before v w : WindowState) (s0 s t : State) → HasOneService device s0
+    → IsNotified device q queue old m before v s0 s → IsNotified device q queue old n before w s0 t → SameEnd m n v w s t
+notified_once device q None old m n before v w s0 s t once a b = record {
   memory = a.notified.1.memory ∙ sym b.notified.1.memory;
   window = a.notified.1.window ∙ sym b.notified.1.window;
-  disk = a.notified.1.state ∙ sym b.notified.1.state;
+  state = a.notified.1.state ∙ sym b.notified.1.state;
 }
-notified_once device (Some queue) old m n before v w bytes disk s t told a b =
+notified_once {State} device q (Some queue) old m n before v w s0 s t once a b =
     let x = a.notified in
     let y = b.notified in
-    let start : Site Queue Disk = record { memory = old; ring = queue; state = disk } in
-    let one : Site Queue Disk = record { memory = m; ring = x.last; state = s } in
-    let other : Site Queue Disk = record { memory = n; ring = y.last; state = t } in
-    let same = at_most_one_exact_service device bytes start one other a.ending b.ending x.wanted y.wanted told x.service y.service in
-    let ring : x.last ≡ y.last = ap (λ (z : Site Queue Disk). z.ring) same.0 in
+    let one : Site Queue State = record { memory = m; ring = x.last; state = s } in
+    let other : Site Queue State = record { memory = n; ring = y.last; state = t } in
+    let same = once old queue one other a.ending b.ending x.wanted y.wanted x.service y.service in
+    let ring : x.last ≡ y.last = ap (λ (z : Site Queue State). z.ring) same.0 in
     record {
-      memory = ap (λ (z : Site Queue Disk). z.memory) same.0;
-      window = x.window ∙ (ap (λ (q : Queue). after_service a.ending x.wanted (with_ring 0 before q)) ring
-          ∙ (ap (λ (e : Ending). after_service e x.wanted (with_ring 0 before y.last)) same.1
-          ∙ (ap (λ (z : Bool). after_service b.ending z (with_ring 0 before y.last)) same.2 ∙ sym y.window)));
-      disk = ap (λ (z : Site Queue Disk). z.state) same.0;
+      memory = ap (λ (z : Site Queue State). z.memory) same.0;
+      window = x.window ∙ (ap (λ (r : Queue). after_service a.ending x.wanted (with_ring q before r)) ring
+          ∙ (ap (λ (e : Ending). after_service e x.wanted (with_ring q before y.last)) same.1
+          ∙ (ap (λ (z : Bool). after_service b.ending z (with_ring q before y.last)) same.2 ∙ sym y.window)));
+      state = ap (λ (z : Site Queue State). z.state) same.0;
     }
 
+-- of the block device over a disk that tells its bytes
+one_block : (device : BlockDevice) (bytes : List ℕ) (health : Health) → HasOneService (exact_device device) (disk_with bytes health)
+one_block device bytes health m queue a b e f v w x y =
+    at_most_one_exact_service device bytes (record { memory = m; ring = queue; state = disk_with bytes health }) a b e f v w refl x y
+
+-- and of the console's queues
+one_receive : (pending : List ℕ) → HasOneService receive pending
+one_receive pending m queue a b e f v w x y =
+    let old : Site Queue (List ℕ) = record { memory = m; ring = queue; state = pending } in
+    let same = at_most_one_service queue_kind receive has_at_most_one_chain receive_once old a b e f v w
+    (receive_never_refused queue_kind old a e v x) (receive_never_refused queue_kind old b f w y) x y in
+    (same.site, same.ending, same.wanted)
+
 -- a slot with another memory, extent and block window
-abbrev with_parts : SlotState → Memory → List ℕ → WindowState → SlotState
-with_parts state memory extent block = record state { memory = memory; extent = extent; block = block }
+abbrev with_block : SlotState → Memory → List ℕ → WindowState → SlotState
+with_block state memory extent block = record state { memory = memory; extent = extent; block = block }
 
-same_parts : (state : SlotState) (m n : Memory) (x y : List ℕ) (v w : WindowState) → m ≡ n → x ≡ y → v ≡ w → with_parts state m x v ≡ with_parts state n y w
-same_parts state m n x y v w p q r = rw (p, q, r) refl
+same_block : (state : SlotState) (m n : Memory) (x y : List ℕ) (v w : WindowState) → m ≡ n → x ≡ y → v ≡ w → with_block state m x v ≡ with_block state n y w
+same_block state m n x y v w p q r = rw (p, q, r) refl
 
-service_once : (device : BlockDevice) (old one other : SlotState) (h k : Health) → IsBlockService (exact_device device) old one at_rest h → IsBlockService (exact_device device) old other at_rest k → one ≡ other
-service_once device old one other h k a b =
-    let end : SameEnd one.memory other.memory one.block other.block (disk_with one.extent h) (disk_with other.extent k) =
-    notified_once device (queue_at 0 old.block) old.memory one.memory other.memory old.block one.block other.block old.extent (disk_with old.extent at_rest) (disk_with one.extent h) (disk_with other.extent k) refl a.notified b.notified in
-    let told : Some one.extent ≡ Some other.extent = ap (λ (d : Disk). d.told) end.disk in
-    a.rest ∙ (same_parts old one.memory other.memory one.extent other.extent one.block other.block end.memory (cc told) end.window ∙ sym b.rest)
+block_once : {A : Type 0} (device : BlockDevice) (old : SlotState) (h k : Health) (one other : Outcome A) → IsBlockService (exact_device device) old at_rest h one → IsBlockService (exact_device device) old at_rest k other → one ≡ other
+block_once device old h k one other a b =
+    let end : SameEnd one.state.memory other.state.memory one.state.block other.state.block (disk_with one.state.extent h) (disk_with other.state.extent k) =
+    notified_once (exact_device device) 0 (queue_at 0 old.block) old.memory one.state.memory other.state.memory old.block one.state.block other.state.block (disk_with old.extent at_rest) (disk_with one.state.extent h) (disk_with other.state.extent k) (one_block device old.extent at_rest) a.notified b.notified in
+    let told : Some one.state.extent ≡ Some other.state.extent = ap (λ (d : Disk). d.told) end.state in
+    a.is ∙ (ap does (same_block old one.state.memory other.state.memory one.state.extent other.state.extent one.state.block other.state.block end.memory (cc told) end.window) ∙ sym b.is)
 
-finishes_once : (device : BlockDevice) (window : DeviceKind) (act : Action) (old one other : SlotState) (h k : Health) → Finishes (exact_device device) window act old one at_rest h → Finishes (exact_device device) window act old other at_rest k → one ≡ other
-finishes_once device Block (action.Notify zero) old one other h k a b = service_once device old one other h k a b
-finishes_once device Block (action.Notify (suc q)) old one other h k a b = a.state ∙ sym b.state
-finishes_once device Block action.Reset old one other h k a b = a.state ∙ sym b.state
-finishes_once device Block (action.ConfigWrite offset width value) old one other h k a b = a.state ∙ sym b.state
-finishes_once device Block action.None old one other h k a b = a.state ∙ sym b.state
-finishes_once device Console (action.Notify q) old one other h k a b = a.state ∙ sym b.state
-finishes_once device Console action.Reset old one other h k a b = a.state ∙ sym b.state
-finishes_once device Console (action.ConfigWrite offset width value) old one other h k a b = a.state ∙ sym b.state
-finishes_once device Console action.None old one other h k a b = a.state ∙ sym b.state
+-- a slot with another memory, console window and pending input
+abbrev with_console : SlotState → Memory → WindowState → List ℕ → SlotState
+with_console state memory console pending = record state { memory = memory; console = console; pending = pending }
+
+same_console : (state : SlotState) (m n : Memory) (v w : WindowState) (x y : List ℕ) → m ≡ n → v ≡ w → x ≡ y → with_console state m v x ≡ with_console state n w y
+same_console state m n v w x y p q r = rw (p, q, r) refl
+
+received_once : {A : Type 0} (old : SlotState) (reply : Reply A) (h k : Health) (one other : Outcome A) → IsReceiveService old reply at_rest h one → IsReceiveService old reply at_rest k other → one ≡ other
+received_once old reply h k one other a b =
+    let end : SameEnd one.state.memory other.state.memory one.state.console other.state.console one.state.pending other.state.pending =
+    notified_once receive 0 (queue_at 0 old.console) old.memory one.state.memory other.state.memory old.console one.state.console other.state.console old.pending one.state.pending other.state.pending (one_receive old.pending) a.notified b.notified in
+    a.is ∙ (ap (λ (s : SlotState). replies s reply) (same_console old one.state.memory other.state.memory one.state.console other.state.console one.state.pending other.state.pending end.memory end.window end.state) ∙ sym b.is)
+
+finishes_once : {A : Type 0} (task : Task) (old : SlotState) (h k : Health) (one other : Outcome A) → Finishes task old at_rest h one → Finishes task old at_rest k other → one ≡ other
+finishes_once Nothing old h k one other a b = a.alike ∙ sym b.alike
+finishes_once ServeBlock old h k one other a b = block_once (device_of old) old h k one other a b
+finishes_once ServeReceive old h k one other a b = received_once old Done h k one other a b
 
 -- an event has at most one outcome
 pub next_once : {A : Type 0} (state : SlotState) (what : EventKind A) (one other : Outcome A) → IsNext state what one → IsNext state what other → one ≡ other
 next_once state (Read window offset width) one other a b = a.gives.alike ∙ sym b.gives.alike
 next_once state (Write window offset width value) one other a b =
-    a.gives.is
-    ∙ (ap does (finishes_once (device_of state) window (action_at window offset width value state) (with_write window offset width value state) a.gives.last b.gives.last a.after b.after a.gives.writes b.gives.writes)
-    ∙ sym b.gives.is)
+    finishes_once (task_at window offset width value state) (with_write window offset width value state) a.after b.after one other a.gives b.gives
 next_once state (MemRead addr len) one other a b = a.gives.alike ∙ sym b.gives.alike
 next_once state (MemWrite addr bytes) one other a b = a.gives.alike ∙ sym b.gives.alike
+next_once state (Input bytes) one other a b =
+    received_once (with_input bytes state) (Took (fitting state.pending bytes)) a.after b.after one other a.gives b.gives
+next_once state (Resize cols rows) one other a b = a.gives.alike ∙ sym b.gives.alike
 
 record OneCourse {A : Type 0} (one other : List (Outcome A)) (s t : SlotState) : Type 0 where
   outcomes : one ≡ other

@@ -1,7 +1,7 @@
 -- One slot's event, seen as a step of the whole board. Here the extents' being apart is used: what a
 -- slot's event does to the image stays within that slot's own.
 use Rattle.std.proofs.Common.{◌≡◌, ◌≢◌, ◌⊎◌, inl, inr, ℕ, zero, suc, ◌<◌, Bool, true, false, ◌||◌, List, [], ◌∷◌, length, map, Option, Some, None, get_or, refl, sym, ◌∙◌, ap, subst, append-nil, arith}
-use Rattle.std.specs.Prelude.{slice_set, MatchOption, All, AllPairs}
+use Rattle.std.specs.Prelude.{nat_lt, slice_set, MatchOption, All, AllPairs}
 use Rattle.std.specs.List.{slice_get, list_any}
 use Rattle.std.specs.Option.{option_map}
 use Rattle.std.proofs.Math.Seq.{map-set_same}
@@ -64,6 +64,7 @@ with_extent_bytes slot bytes = record {
   read_only = slot.read_only;
   block = slot.block;
   console = slot.console;
+  pending = slot.pending;
   cols = slot.cols;
   rows = slot.rows;
 }
@@ -133,6 +134,10 @@ noted_set slots h slot new true here is =
     map-set (λ (s : BoardSlot). s.disturbed) slots h new ∙ ap (λ b. slice_set (disturbed_of slots) h b) (is ∙ or_true slot.disturbed)
 noted_set slots h slot new false here is =
     map-set_same (λ (s : BoardSlot). s.disturbed) slots h new slot ((is ∙ or_false slot.disturbed) ∙ ap (λ (s : BoardSlot). s.disturbed) (sym (get_or_from_slice_get slots h slot slot here)))
+
+-- where the failures stay nothing is noted
+pub noted_none : (h failures : ℕ) (flags : List Bool) → flags ≡ noted h (nat_lt failures failures) flags
+noted_none h failures flags = let stays : nat_lt failures failures ≡ false = grind (arith, nat_tests) in rw stays refl
 
 -- A slot of the board served its guest, and left the image's bytes outside its own extent as they were:
 -- the board handled the event.

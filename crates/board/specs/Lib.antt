@@ -4,6 +4,8 @@ pub use Rattle.sector_cache.specs.Disk
 pub mod Image
 pub mod Extent
 pub mod Slot
+pub mod Outcome
+pub mod Task
 pub mod Machine
 pub mod World
 pub mod Line

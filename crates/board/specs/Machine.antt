@@ -1,42 +1,25 @@
 -- The one-slot machine: what a guest would see if it were alone, one event after another.
-use Rattle.std.specs.Prelude.{◌≡◌, ℕ, zero, ◌+◌, ◌&&◌, Bool, false, nat_le, if◌then◌else◌, List, [], ◌∷◌, ◌++◌, length, map, replicate}
-use Rattle.byteorder.specs.Endian.{little_bytes}
+use Rattle.std.specs.Prelude.{◌≡◌, ℕ, ◌+◌, ◌&&◌, Bool, false, nat_le, if◌then◌else◌, List, [], ◌∷◌, ◌++◌, length, map, take}
 use Rattle.guest_memory.specs.Memory.{Memory, part_of, put}
-use Rattle.chain.specs.Service.{Device}
 use Rattle.mmio_window.specs.declared.action.Action.{Action}
-use Rattle.mmio_window.specs.declared.action.Action.TheVariants.{Notify}
 use Rattle.mmio_window.specs.declared.device_kind.DeviceKind.{DeviceKind}
 use Rattle.mmio_window.specs.declared.device_kind.DeviceKind.TheVariants.{Block, Console}
 use Rattle.mmio_window.specs.Interrupts.{interrupt_bits}
 use Rattle.mmio_window.specs.Reading.{read_value}
-use Rattle.mmio_window.specs.Serving.{IsNotified}
-use Rattle.mmio_window.specs.Window.{WindowState, queue_at}
+use Rattle.mmio_window.specs.Window.{WindowState, with_config_changed}
 use Rattle.mmio_window.specs.Writing.{action_of, written}
-use Rattle.sector_cache.specs.Disk.{Disk}
-use Rattle.block_device.specs.declared.device.BlockDevice.{BlockDevice}
-use Rattle.block_device.specs.Config.{config_of}
-use Rattle.block_device.specs.Device.{exact_device}
+use Rattle.block_device.specs.Config as block
+use Rattle.console_device.specs.Config as console
+use Rattle.console_device.specs.Input.{fitting}
 use Rattle.board.specs.declared.event.EventKind.{EventKind}
-use Rattle.board.specs.declared.event.EventKind.TheVariants.{Read, Write, MemRead, MemWrite}
+use Rattle.board.specs.declared.event.EventKind.TheVariants.{Read, Write, MemRead, MemWrite, Input, Resize}
 use Rattle.board.specs.declared.reply.Reply.{Reply}
-use Rattle.board.specs.declared.reply.Reply.TheVariants.{Value, Done, Bytes, BadRange}
+use Rattle.board.specs.declared.reply.Reply.TheVariants.{Value, Bytes, BadRange, Took}
 use Rattle.board.specs.declared.reply.Record.{Record}
-use Rattle.board.specs.Image.{Health, sectors_of, disk_with}
+use Rattle.board.specs.Image.{Health, sectors_of}
+use Rattle.board.specs.Outcome.{Outcome, replies, does, IsDetermined}
 use Rattle.board.specs.Slot.{SlotState}
-
--- What comes of an event: the slot's state after it, the reply, and what the console put out.
-pub record Outcome (A : Type 0) : Type 0 where
-  pub state : SlotState
-  pub reply : Reply A
-  pub output : List ℕ
-
--- the state stays, this is the reply, and nothing is put out
-abbrev pub replies : {A : Type 0} → SlotState → Reply A → Outcome A
-replies state reply = record { state = state; reply = reply; output = [] }
-
--- the event was done, this is the state after it, and nothing is put out
-abbrev pub does : {A : Type 0} → SlotState → Outcome A
-does state = replies state Done
+use Rattle.board.specs.Task.{Task, task_of, IsReceiveService, Finishes}
 
 -- whether the n bytes from address a on all lie in the memory
 abbrev pub holds : Memory → ℕ → ℕ → Bool
@@ -61,14 +44,10 @@ abbrev pub window_of : DeviceKind → SlotState → WindowState
 window_of Block state = state.block
 window_of Console state = state.console
 
--- the configuration of the console (5.3.4): columns in 2 bytes, rows in 2, and zeros
-abbrev pub console_config : ℕ → ℕ → List ℕ
-console_config cols rows = little_bytes 2 cols ++ little_bytes 2 rows ++ replicate 60 0
-
 -- the configuration of each device
 abbrev pub config_at : DeviceKind → SlotState → List ℕ
-config_at Block state = config_of (sectors_of state.extent)
-config_at Console state = console_config state.cols state.rows
+config_at Block state = block.config_of (sectors_of state.extent)
+config_at Console state = console.config_of state.cols state.rows
 
 -- what a read of a window gives
 abbrev pub register : SlotState → DeviceKind → ℕ → ℕ → ℕ
@@ -86,69 +65,41 @@ with_write Console offset width value state =
 abbrev pub action_at : DeviceKind → ℕ → ℕ → ℕ → SlotState → Action
 action_at window offset width value state = action_of offset width value (window_of window state)
 
--- ---- the block device
+-- what is left for the device to do
+abbrev pub task_at : DeviceKind → ℕ → ℕ → ℕ → SlotState → Task
+task_at window offset width value state = task_of window (action_at window offset width value state)
 
--- The block device as its guest knows it: its sectors are all that there are.
-abbrev pub device_of : SlotState → BlockDevice
-device_of state = record {
-  extent = record { start = 0; count = sectors_of state.extent };
-  read_only = state.read_only;
-}
+-- ---- the console
 
--- A block device serves its queue (5.2.6), over an image that holds the guest's sectors and nothing
--- else: its window, memory and those sectors may change, and the rest of the slot stays.
-pub record IsBlockService (device : Device Disk) (old new : SlotState) (before after : Health) : Type 0 where
-  pub notified :
-      IsNotified device 0 (queue_at 0 old.block) old.memory new.memory old.block new.block
-      (disk_with old.extent before) (disk_with new.extent after)
-  pub rest : new ≡ record old { memory = new.memory; extent = new.extent; block = new.block }
+-- the slot with what is typed behind its pending input: the first bytes that fit
+abbrev pub with_input : List ℕ → SlotState → SlotState
+with_input bytes state =
+    record state { pending = state.pending ++ take (fitting state.pending bytes) bytes }
 
--- nothing is left to be done
-pub record NothingIsLeft (old new : SlotState) (before after : Health) : Type 0 where
-  pub state : new ≡ old
-  pub image : after ≡ before
-
--- What a device does after a write: the block device serves its queue where it is notified of it. The
--- console does nothing yet.
-abbrev pub Finishes : Device Disk → DeviceKind → Action → SlotState → SlotState → Health → Health → Type 0
-Finishes device Block (Notify zero) old new before after = IsBlockService device old new before after
-Finishes device _ _ old new before after = NothingIsLeft old new before after
+-- the slot with another size of its console, whose driver is told of it where there is one (5.3.4)
+abbrev pub resized : ℕ → ℕ → SlotState → SlotState
+resized cols rows state =
+    record state { console = with_config_changed state.console; cols = cols; rows = rows }
 
 -- ---- events
 
--- A write to a window leads to this state: the registers are written, and the device does its part.
-abbrev pub Writes : Device Disk → SlotState → DeviceKind → ℕ → ℕ → ℕ → Health → Health → SlotState → Type 0
-Writes device state window offset width value before after last =
-    Finishes device window (action_at window offset width value state)
-    (with_write window offset width value state) last before after
-
--- What comes of a write to a window: that it was done.
-pub record IsWritten {A : Type 0} (device : Device Disk) (state : SlotState) (window : DeviceKind)
-    (offset width value : ℕ) (before after : Health) (outcome : Outcome A) : Type 0 where
-  pub last : SlotState
-  pub is : outcome ≡ does last
-  pub writes : Writes device state window offset width value before after last
-
--- What comes of an event that the image has no part in.
-pub record IsDetermined {A : Type 0} (outcome wanted : Outcome A) (before after : Health) : Type 0 where
-  pub alike : outcome ≡ wanted
-  pub image : after ≡ before
-
--- what may come of an event, with such a block device, where the image fares so before and after it
-abbrev pub GivesBy : {A : Type 0} → Device Disk → SlotState → EventKind A → Health → Health → Outcome A → Type 0
-GivesBy device state (Read window offset width) before after outcome =
-    IsDetermined outcome (replies state (Value (register state window offset width))) before after
-GivesBy device state (Write window offset width value) before after outcome =
-    IsWritten device state window offset width value before after outcome
-GivesBy device state (MemRead addr len) before after outcome =
-    IsDetermined outcome (memory_read state addr len) before after
-GivesBy device state (MemWrite addr bytes) before after outcome =
-    IsDetermined outcome (memory_written state addr bytes) before after
-
--- what comes of an event where no call of the image fails
+-- What comes of an event where memory is found for it and no call of the image fails; the image fares so
+-- before and after it. A write to a window writes its registers, and then the device does its part. What is
+-- typed is pending, and then the console serves its receive queue.
 abbrev pub Gives : {A : Type 0} → SlotState → EventKind A → Health → Health → Outcome A → Type 0
-Gives state what before after outcome =
-    GivesBy (exact_device (device_of state)) state what before after outcome
+Gives state (Read window offset width) before after outcome =
+    IsDetermined outcome (replies state (Value (register state window offset width))) before after
+Gives state (Write window offset width value) before after outcome =
+    Finishes (task_at window offset width value state) (with_write window offset width value state)
+    before after outcome
+Gives state (MemRead addr len) before after outcome =
+    IsDetermined outcome (memory_read state addr len) before after
+Gives state (MemWrite addr bytes) before after outcome =
+    IsDetermined outcome (memory_written state addr bytes) before after
+Gives state (Input bytes) before after outcome =
+    IsReceiveService (with_input bytes state) (Took (fitting state.pending bytes)) before after outcome
+Gives state (Resize cols rows) before after outcome =
+    IsDetermined outcome (does (resized cols rows state)) before after
 
 -- ---- a guest alone
 

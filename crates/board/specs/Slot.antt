@@ -1,5 +1,5 @@
 -- A slot: what its guest can see, and what the board keeps of it.
-use Rattle.std.specs.Prelude.{◌≡◌, ℕ, ◌+◌, Bool, false, if◌then◌else◌, List, length}
+use Rattle.std.specs.Prelude.{◌≡◌, ℕ, ◌+◌, Bool, false, if◌then◌else◌, List, [], length, ◌≤◌}
 use Rattle.guest_memory.specs.Memory.{Memory, SameRange, zeroed}
 use Rattle.negotiation.specs.Features.{block_seg_max, block_ro, block_blk_size, block_flush, indirect_desc, version_1}
 use Rattle.mmio_window.specs.declared.device_kind.DeviceKind.TheVariants.{Block, Console}
@@ -11,13 +11,15 @@ use Rattle.block_device.specs.declared.extent.Extent.{Extent}
 use Rattle.board.specs.declared.spec.SlotSpec.{SlotSpec}
 
 -- All that one guest can see: its memory, the bytes of its extent of the image, whether its block
--- device refuses writes, the windows of its two devices, and the size of its console.
+-- device refuses writes, the windows of its two devices, and of its console what was typed and is still
+-- pending, and the size.
 pub record SlotState : Type 0 where
   pub memory : Memory
   pub extent : List ℕ
   pub read_only : Bool
   pub block : WindowState
   pub console : WindowState
+  pub pending : List ℕ
   pub cols : ℕ
   pub rows : ℕ
 
@@ -29,6 +31,7 @@ pub record BoardSlot : Type 0 where
   pub read_only : Bool
   pub block : WindowState
   pub console : WindowState
+  pub pending : List ℕ
   pub cols : ℕ
   pub rows : ℕ
   pub disturbed : Bool
@@ -41,24 +44,28 @@ state_of bytes slot = record {
   read_only = slot.read_only;
   block = slot.block;
   console = slot.console;
+  pending = slot.pending;
   cols = slot.cols;
   rows = slot.rows;
 }
 
--- All that a block request doesn't reach stays: the console's window and size, whether the disk may be
+-- All that a block request doesn't reach stays: the console's window, pending input and size, whether the disk may be
 -- written, where the memory lies and how large it is, and how many bytes the disk has.
 pub record KeepsBesideDisk (old new : SlotState) : Type 0 where
   pub console : new.console ≡ old.console
+  pub pending : new.pending ≡ old.pending
   pub cols : new.cols ≡ old.cols
   pub rows : new.rows ≡ old.rows
   pub read_only : new.read_only ≡ old.read_only
   pub memory : SameRange old.memory new.memory
   pub extent : length new.extent ≡ length old.extent
 
--- both windows are sound for the memory: their ready queues lie in it
-pub record HasSoundWindows (memory : Memory) (block console : WindowState) : Type 0 where
+-- Both windows are sound for the memory: their ready queues lie in it. And no more input is pending than may
+-- be.
+pub record IsSoundSlot (memory : Memory) (block console : WindowState) (pending : List ℕ) : Type 0 where
   pub block_sound : IsSound memory block
   pub console_sound : IsSound memory console
+  pub pending_fits : length pending ≤ 4096
 
 -- the features that every device offers (6)
 abbrev pub device_features : ℕ
@@ -73,8 +80,8 @@ block_features read_only =
 abbrev pub console_features : ℕ
 console_features = device_features
 
--- a slot of a new board: its memory is all zeros, its windows are as after a reset, nothing met a
--- refusal yet, and the rest is as it was asked for
+-- a slot of a new board: its memory is all zeros, its windows are as after a reset, nothing is pending or met
+-- a refusal yet, and the rest is as it was asked for
 abbrev pub opened : SlotSpec → BoardSlot
 opened spec = record {
   memory = zeroed spec.base spec.len;
@@ -82,6 +89,7 @@ opened spec = record {
   read_only = spec.read_only;
   block = fresh_window Block (block_features spec.read_only) 0;
   console = fresh_window Console console_features 0;
+  pending = [];
   cols = spec.cols;
   rows = spec.rows;
   disturbed = false;

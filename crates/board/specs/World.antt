@@ -2,20 +2,21 @@
 use Rattle.std.specs.Prelude.{◌≡◌, ◌≢◌, ◌⊎◌, ℕ, ◌<◌, ◌||◌, Bool, true, false, nat_lt, if◌then◌else◌, IsTrue, List, [], ◌++◌, map, slice_set, MatchOption}
 use Rattle.std.specs.List.{slice_get}
 use Rattle.guest_memory.specs.Memory.{Memory, Inside}
-use Rattle.mmio_window.specs.declared.device_kind.DeviceKind.{DeviceKind}
 use Rattle.sector_cache.specs.Disk.{Disk}
 use Rattle.block_device.specs.declared.extent.Extent.{Extent}
 use Rattle.block_device.specs.Device.{block_device}
 use Rattle.board.specs.declared.event.Event.{Event}
 use Rattle.board.specs.declared.event.EventKind.{EventKind}
-use Rattle.board.specs.declared.event.EventKind.TheVariants.{Read, Write, MemRead, MemWrite}
+use Rattle.board.specs.declared.event.EventKind.TheVariants.{Read, Write, MemRead, MemWrite, Input, Resize}
 use Rattle.board.specs.declared.reply.Reply.{Reply}
 use Rattle.board.specs.declared.reply.Reply.TheVariants.{BadSlot, NoMemory}
 use Rattle.board.specs.declared.reply.Record.{Record}
 use Rattle.board.specs.Extent.{outside_of}
 use Rattle.board.specs.Image.{Health, bytes_of, health_of}
-use Rattle.board.specs.Machine.{Outcome, replies, holds, device_of, IsWritten, Gives, record_of}
+use Rattle.board.specs.Machine.{holds, task_at, with_write, Gives, record_of}
+use Rattle.board.specs.Outcome.{Outcome, replies}
 use Rattle.board.specs.Slot.{SlotState, BoardSlot, state_of}
+use Rattle.board.specs.Task.{Task, Nothing, ServeBlock, ServeReceive, device_of, IsBlockService}
 
 -- A board: its slots, and the image that they share.
 pub record BoardState (I : Type 0) : Type 0 where
@@ -70,20 +71,28 @@ pub record IsUnread {A : Type 0} (state : SlotState) (addr len : ℕ) (old new :
   pub unchanged : outcome ≡ replies state NoMemory
   pub image : new ≡ old
 
--- A write that notified the block device met an image that failed: each request that met no failure is
--- served as ever, and each that did is counted and ends in one of the ways of a request that fails.
-pub record IsUnwritten {A : Type 0} (state : SlotState) (window : DeviceKind) (offset width value : ℕ)
-    (old new : Health) (outcome : Outcome A) : Type 0 where
-  pub written : IsWritten (block_device (device_of state)) state window offset width value old new outcome
+-- A service of the block device met an image that failed: each request that met no failure is served as
+-- ever, and each that did is counted and ends in one of the ways of a request that fails.
+pub record IsFailedService {A : Type 0} (state : SlotState) (old new : Health) (outcome : Outcome A) : Type 0 where
+  pub service : IsBlockService (block_device (device_of state)) state old new outcome
   pub failures : old.failures < new.failures
 
--- how an event may be refused for want of memory or by the image; some can't be
+-- how a task may be refused for want of memory or by the image; some can't be
+abbrev pub IsCutShort : {A : Type 0} → Task → SlotState → Health → Health → Outcome A → Type 0
+IsCutShort Nothing state old new outcome = ⊥
+IsCutShort ServeBlock state old new outcome = IsFailedService state old new outcome
+IsCutShort ServeReceive state old new outcome = ⊥
+
+-- and how an event may be
 abbrev pub IsRefused : {A : Type 0} → SlotState → EventKind A → Health → Health → Outcome A → Type 0
 IsRefused state (Read window offset width) old new outcome = ⊥
 IsRefused state (Write window offset width value) old new outcome =
-    IsUnwritten state window offset width value old new outcome
+    IsCutShort (task_at window offset width value state) (with_write window offset width value state)
+    old new outcome
 IsRefused state (MemRead addr len) old new outcome = IsUnread state addr len old new outcome
 IsRefused state (MemWrite addr bytes) old new outcome = ⊥
+IsRefused state (Input bytes) old new outcome = ⊥
+IsRefused state (Resize cols rows) old new outcome = ⊥
 
 -- what may come of an event of a slot in this state, where the image fared so before and after it
 abbrev pub MayGive : {A : Type 0} → SlotState → EventKind A → Health → Health → Outcome A → Type 0
@@ -172,6 +181,8 @@ MayLackMemory memory (Read window offset width) = ⊥
 MayLackMemory memory (Write window offset width value) = ⊥
 MayLackMemory memory (MemRead addr len) = (0 < len) × Inside memory addr len
 MayLackMemory memory (MemWrite addr bytes) = ⊥
+MayLackMemory memory (Input bytes) = ⊥
+MayLackMemory memory (Resize cols rows) = ⊥
 
 -- What can be seen of the board stays, but for what is noted of refusals, and nothing was put out.
 pub record KeepsBoard {A : Type 0} (old : World) (written : Record A) (new : World) : Type 0 where

@@ -1,10 +1,10 @@
-//! What comes in: the events of the guests.
+//! What comes in: the events of the guests and of their consoles.
 
 use crate::bytes::Bytes;
 use mmio_window::DeviceKind;
 use std::alloc::{Allocator, Global};
 
-/// What one guest does, in one step that nothing interrupts.
+/// What one guest does, or what is done to its console, in one step that nothing interrupts.
 #[derive(Drop)]
 #[derive_where(Debug, PartialEq, Eq)]
 pub struct Event<A: Allocator = Global> {
@@ -40,5 +40,14 @@ pub enum EventKind<A: Allocator = Global> {
     MemWrite {
         addr: u64,
         bytes: Bytes<A>,
+    },
+    /// Bytes are typed to the guest's console (5.3.6). Those that find no room are lost.
+    Input {
+        bytes: Bytes<A>,
+    },
+    /// The guest's console gets another size (5.3.4).
+    Resize {
+        cols: u16,
+        rows: u16,
     },
 }

@@ -13,7 +13,8 @@ ghost use Rattle.board.specs.declared.event.EventKind.{EventKind};
 ghost use Rattle.board.specs.declared.reply.Reply.{Reply};
 ghost use Rattle.board.specs.declared.reply.Record.{Record};
 ghost use Rattle.board.specs.Line.{Move, IsLine, IsNoted, IsQuiet, IsAlone, IsRun, SeesTheSame, events_of, own_events};
-ghost use Rattle.board.specs.Machine.{Outcome, IsNext, RunsOnItsOwn};
+ghost use Rattle.board.specs.Machine.{IsNext, RunsOnItsOwn};
+ghost use Rattle.board.specs.Outcome.{Outcome};
 ghost use Rattle.board.specs.Slot.{SlotState, KeepsBesideDisk};
 ghost use Rattle.board.specs.World.{World, KeepsBoard, Step};
 

@@ -14,6 +14,8 @@ pub enum Reply<A: Allocator = Global> {
     Done,
     /// What a read of memory gave.
     Bytes(Bytes<A>),
+    /// How many of the bytes that were typed the console took: the first ones.
+    Took(usize),
     /// The board has no such slot. Nothing changed.
     BadSlot,
     /// Not all of the range lies inside the slot's memory. Nothing changed.

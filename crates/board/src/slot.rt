@@ -2,16 +2,18 @@
 //!
 //! Nothing here knows of other slots. What a slot does is stated against the one-slot machine, and
 //! the board lifts that to all of its slots. `memory` has the events of the guest's memory, `window`
-//! those of its devices' windows.
+//! those of its devices' windows, and `console` what is done to its console from outside.
 
 ghost use Rattle.std.specs.Prelude.{◌≡◌, ◌≢◌, ◌<◌, ◌≤◌, ◌||◌, ℕ, List, All, map, nat_lt, IfOk};
 ghost use Rattle.block_device.specs.Extent.{IsWithin, KeepsOutside};
 ghost use Rattle.board.specs.Fault.{IsMemory};
 ghost use Rattle.board.specs.Image.{Tells, bytes_of, health_of};
-ghost use Rattle.board.specs.Machine.{replies, block_irq, console_irq};
+ghost use Rattle.board.specs.Machine.{block_irq, console_irq};
+ghost use Rattle.board.specs.Outcome.{replies};
 ghost use Rattle.board.specs.Slot.{interrupt_words, opened, state_of};
 ghost use Rattle.board.specs.World.{MayGive, Serves, MayLackMemory, met_refusal};
 
+mod console;
 mod memory;
 mod window;
 
@@ -20,6 +22,7 @@ use crate::features;
 use crate::reply::Reply;
 use crate::spec::SlotSpec;
 use block_device::BlockDevice;
+use console_device::ConsoleDevice;
 use guest_memory::GuestMemory;
 use mmio_window::{DeviceKind, Window};
 use sector_cache::{Image, SectorCache};
@@ -30,32 +33,32 @@ use std::marker::Model;
 #[derive(Drop)]
 pub(crate) struct Slot<A: Allocator = Global> {
     memory: GuestMemory<A>,
-    device: BlockDevice,
+    block_device: BlockDevice,
     block: Window,
+    console_device: ConsoleDevice<A>,
     console: Window,
-    cols: u16,
-    rows: u16,
     // Whether an event of the slot has met a refusal.
     disturbed: bool,
 }
 
 impl<A: Allocator> Model for Slot<A> {
-    ghost use Rattle.board.specs.Slot.{BoardSlot, HasSoundWindows};
+    ghost use Rattle.board.specs.Slot.{BoardSlot, IsSoundSlot};
 
     ghost Value = { BoardSlot };
 
     ghost view = { λ s. record {
       memory = s.memory;
-      extent = s.device.extent;
-      read_only = s.device.read_only;
+      extent = s.block_device.extent;
+      read_only = s.block_device.read_only;
       block = s.block;
       console = s.console;
-      cols = s.cols;
-      rows = s.rows;
+      pending = s.console_device.pending;
+      cols = s.console_device.cols;
+      rows = s.console_device.rows;
       disturbed = s.disturbed;
     } };
 
-    ghost invariant = { λ s. HasSoundWindows s.memory s.block s.console };
+    ghost invariant = { λ s. IsSoundSlot s.memory s.block s.console s.console_device.pending };
 }
 
 // What came of an event.
@@ -72,18 +75,20 @@ impl<A: Allocator + Copy> Slot<A> {
         requires { IsMemory spec.now.base spec.now.len }
         ensures { IfOk result (λ slot. slot ≡ opened spec.now) }
     {
-        match GuestMemory::new(alloc, spec.base, spec.len) {
-            Ok(memory) => Ok(Slot {
-                memory,
-                device: BlockDevice::new(spec.extent, spec.read_only),
-                block: Window::new(DeviceKind::Block, features::of_block(spec.read_only)),
-                console: Window::new(DeviceKind::Console, features::of_console()),
-                cols: spec.cols,
-                rows: spec.rows,
-                disturbed: false,
-            }),
-            Err(_) => Err(AllocError),
-        }
+        let Ok(memory) = GuestMemory::new(alloc, spec.base, spec.len) else {
+            return Err(AllocError);
+        };
+        let Ok(console_device) = ConsoleDevice::new(alloc, spec.cols, spec.rows) else {
+            return Err(AllocError);
+        };
+        Ok(Slot {
+            memory,
+            block_device: BlockDevice::new(spec.extent, spec.read_only),
+            block: Window::new(DeviceKind::Block, features::of_block(spec.read_only)),
+            console_device,
+            console: Window::new(DeviceKind::Console, features::of_console()),
+            disturbed: false,
+        })
     }
 
     /// Serves one event of the slot's guest, and notes a refusal. What its console puts out is
@@ -144,7 +149,6 @@ impl<A: Allocator + Copy> Slot<A> {
         ensures bad_range_image { result.reply ≡ Reply.BadRange → cache.new ≡ cache.old }
         ensures no_memory { result.reply ≡ Reply.NoMemory → MayLackMemory self.old.memory what.now }
     {
-        let mut failed = false;
         let reply = match what {
             EventKind::Read {
                 window,
@@ -156,14 +160,16 @@ impl<A: Allocator + Copy> Slot<A> {
                 offset,
                 width,
                 value,
-            } => {
-                failed = self.write_window(*window, *offset, *width, *value, cache);
-                Reply::Done
-            }
+            } => return self.write_window(*window, *offset, *width, *value, cache),
             EventKind::MemRead { addr, len } => self.read_memory(alloc, *addr, *len),
             EventKind::MemWrite { addr, bytes } => self.write_memory(*addr, bytes.as_slice()),
+            EventKind::Input { bytes } => self.input(bytes.as_slice()),
+            EventKind::Resize { cols, rows } => self.resize(*cols, *rows),
         };
-        Answer { reply, failed }
+        Answer {
+            reply,
+            failed: false,
+        }
     }
 }
 

@@ -14,7 +14,6 @@ ghost use Rattle.board.specs.Slot.{interrupt_words};
 ghost use Rattle.board.specs.World.{Answers, disturbed_of, world_of};
 
 use crate::board::Board;
-use crate::reply::Reply;
 use guest_memory::GuestMemory;
 use sector_cache::Image;
 use std::alloc::Allocator;
@@ -65,9 +64,7 @@ impl<I: Image, A: Allocator> Board<I, A> {
         into.copy_from_slice(part);
         true
     }
-}
 
-impl<I: Image, A: Allocator + Copy> Board<I, A> {
     /// Copies bytes into the slot's memory, from address `addr` on: the event of that write, for who
     /// has the bytes in a slice. False where there is no such slot, or not all of the range lies in its
     /// memory: nothing has changed then.
@@ -85,6 +82,6 @@ impl<I: Image, A: Allocator + Copy> Board<I, A> {
         let Some(slot) = self.slots.get_mut(slot as usize) else {
             return false;
         };
-        matches!(slot.write_memory(addr, from), Reply::Done)
+        slot.put_bytes(addr, from)
     }
 }

@@ -4,16 +4,20 @@ use Rattle.std.specs.List.{slice_get}
 use Rattle.std.proofs.lemmas.Option.{slice_get_past, slice_get_read}
 use Rattle.board.specs.Slot.{BoardSlot}
 use Rattle.board.specs.Image.{Tells, bytes_of}
-use Rattle.board.specs.World.{MayLackMemory, extents_of}
+use Rattle.board.specs.World.{MayLackMemory, disturbed_of, extents_of}
 use Rattle.board.proofs.Outside.{outside_kept}
 use Rattle.board.proofs.Runs.{handled_outside}
-use Rattle.board.proofs.Seats.{set_same, extents_of-set, handles, handles_missing, noted_set, slot_within}
+use Rattle.board.proofs.Seats.{set_same, extents_of-set, handles, handles_missing, noted_none, noted_set, slot_within}
 use Rattle.board.proofs.board.Board.handle.Goals as goal
 
 pub returns-in_default-clause-handles : goal.returns-in_default-clause-handles
 returns-in_default-clause-handles g c tells =
     let past : length c.self.inside.slots.items ≤ c.args.slot = grind (arith, c.in_default.ensures.variant.1) in
     rw (← c.self.view_is) (handles_missing c.self.inside.slots.items (g.I.Image.disk c.self.inside.cache) (record { slot = c.args.slot; what = c.args.what.now }) c.args.out.now.items (slice_get_past c.self.inside.slots.items c.args.slot past))
+
+pub returns-in_default-clause-noted : goal.returns-in_default-clause-noted
+returns-in_default-clause-noted g c =
+    rw (← c.self.view_is) (noted_none c.args.slot (g.I.Image.disk c.self.inside.cache).failures (disturbed_of c.self.inside.slots.items))
 
 -- the slot of that number
 there : (g : _) (c : goal.After-self-2-1 g) → slice_get c.self.inside.slots.items c.args.slot ≡ Some c.in-Some.slot.now

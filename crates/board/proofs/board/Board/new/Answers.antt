@@ -21,6 +21,9 @@ open_all-requires g c = memories _ c.args.slots.now c.in_default.ensures.ok
 pub invariant_of-result : goal.invariant_of-result
 invariant_of-result g c = rw (c.in-Ok-open_all.ensures, c.in-Ok.ensures.seen, ← c.sectors.ensures) (sound _ c.args.slots.now c.in_default.ensures.ok)
 
+pub returns-in-Ok-open_all-clause-accepted : goal.returns-in-Ok-open_all-clause-accepted
+returns-in-Ok-open_all-clause-accepted g c = record { slots_good = rw (← c.sectors.ensures) c.in_default.ensures.ok; capacity = c.in-Ok.ensures.ok }
+
 pub returns-in-Ok-open_all-clause-exact : goal.returns-in-Ok-open_all-clause-exact
 returns-in-Ok-open_all-clause-exact g c = λ fault some refuses.
     some (one_fault _ c.args.slots.now c.args.cache fault NoMemory refuses (rw (← c.sectors.ensures) c.in_default.ensures.ok, c.in-Ok.ensures.ok))

@@ -1,8 +1,8 @@
 use Rattle.board.specs.Image.{bytes_of, health_of}
 use Rattle.board.specs.Slot.{state_of}
-use Rattle.board.proofs.Blocks.{count_of, read_given, write_given}
+use Rattle.board.proofs.Blocks.{count_of, read_given}
 use Rattle.board.proofs.slot.Slot.answer.Goals as goal
-use Rattle.board.proofs.slot.Slot.answer.Goals.{in-Read, in-Write, in-MemRead, in-MemWrite}
+use Rattle.board.proofs.slot.Slot.answer.Goals.{in-Read, in-MemRead, in-MemWrite, in-Input, in-Resize}
 
 pub returns-clause-given : goal.returns-clause-given
 returns-clause-given g c = λ tells.
@@ -11,15 +11,11 @@ returns-clause-given g c = λ tells.
     let slot = c.args.self.now in
     elim c.match-what.branch [
       | in-Read w ↦
-          rw (w.self-is, w.cache-is, w.reply-is, w.in-Read.is)
+          rw (w.self-is, w.reply-is, w.in-Read.is)
           (read_given (state_of bytes slot) w.in-Read.window w.in-Read.offset w.in-Read.width w.read_window.result (health_of old)
           (w.read_window.ensures bytes (count_of slot.extent old tells (g.met.I.Image.whole c.args.cache.now) c.requires.lies)))
-      | in-Write w ↦
-          let new = g.I.Image.disk w.write_window-failed.new.cache in
-          let called = w.write_window-failed.ensures in
-          rw (w.self-is, w.cache-is, w.reply-is, w.in-Write.is)
-          (write_given (state_of bytes slot) (state_of (bytes_of new) w.write_window-failed.new.self) w.in-Write.window w.in-Write.offset w.in-Write.width w.in-Write.value
-          (health_of old) (health_of new) called.rises (called.written tells) (λ stood. called.exact stood tells))
-      | in-MemRead w ↦ rw (w.self-is, w.cache-is, w.reply-is, w.in-MemRead.is) (w.read_memory-reply.ensures.given bytes (health_of old))
-      | in-MemWrite w ↦ rw (w.self-is, w.cache-is, w.reply-is, w.in-MemWrite.is, ← w.as_slice.ensures) (w.write_memory-reply.ensures.given bytes (health_of old))
+      | in-MemRead w ↦ rw (w.self-is, w.reply-is, w.in-MemRead.is) (w.read_memory-reply.ensures.given bytes (health_of old))
+      | in-MemWrite w ↦ rw (w.self-is, w.reply-is, w.in-MemWrite.is, ← w.as_slice.ensures) (w.write_memory-reply.ensures.given bytes (health_of old))
+      | in-Input w ↦ rw (w.self-is, w.reply-is, w.in-Input.is, ← w.as_slice-in-Input.ensures) (w.input-reply.ensures.given bytes (health_of old))
+      | in-Resize w ↦ rw (w.self-is, w.reply-is, w.in-Resize.is) (w.resize-reply.ensures.given bytes (health_of old))
     ]

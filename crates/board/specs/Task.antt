@@ -1,0 +1,76 @@
+-- What a slot's devices have to do once a window was written, and what comes of it.
+use Rattle.std.specs.Prelude.{◌≡◌, ℕ, zero}
+use Rattle.chain.specs.Service.{Device}
+use Rattle.mmio_window.specs.declared.action.Action.{Action}
+use Rattle.mmio_window.specs.declared.action.Action.TheVariants.{Notify}
+use Rattle.mmio_window.specs.declared.device_kind.DeviceKind.{DeviceKind}
+use Rattle.mmio_window.specs.declared.device_kind.DeviceKind.TheVariants.{Block, Console}
+use Rattle.mmio_window.specs.Serving.{IsNotified}
+use Rattle.mmio_window.specs.Window.{queue_at}
+use Rattle.sector_cache.specs.Disk.{Disk}
+use Rattle.block_device.specs.declared.device.BlockDevice.{BlockDevice}
+use Rattle.block_device.specs.Device.{exact_device}
+use Rattle.console_device.specs.Device.{receive}
+use Rattle.board.specs.declared.reply.Reply.{Reply}
+use Rattle.board.specs.declared.reply.Reply.TheVariants.{Done}
+use Rattle.board.specs.Image.{Health, sectors_of, disk_with}
+use Rattle.board.specs.Outcome.{Outcome, replies, does, IsDetermined}
+use Rattle.board.specs.Slot.{SlotState}
+
+-- A task: the block device serves its one queue (5.2.2), or the console its receive queue (5.3.2).
+pub data Task : Type 0 where
+  Nothing : Task
+  ServeBlock : Task
+  ServeReceive : Task
+
+-- what a write to a window of this kind leaves to be done
+abbrev pub task_of : DeviceKind → Action → Task
+task_of Block (Notify zero) = ServeBlock
+task_of Console (Notify zero) = ServeReceive
+task_of _ _ = Nothing
+
+-- The block device as its guest knows it: its sectors are all that there are.
+abbrev pub device_of : SlotState → BlockDevice
+device_of state = record {
+  extent = record { start = 0; count = sectors_of state.extent };
+  read_only = state.read_only;
+}
+
+-- A block device serves its queue (5.2.6), over an image that holds the guest's sectors and nothing
+-- else: its window, memory and those sectors may change, and the rest of the slot stays.
+pub record IsBlockService {A : Type 0} (device : Device Disk) (old : SlotState) (before after : Health)
+    (outcome : Outcome A) : Type 0 where
+  pub notified :
+      IsNotified device 0 (queue_at 0 old.block) old.memory outcome.state.memory
+      old.block outcome.state.block
+      (disk_with old.extent before) (disk_with outcome.state.extent after)
+  pub is :
+      outcome
+      ≡ does (record old {
+        memory = outcome.state.memory;
+        extent = outcome.state.extent;
+        block = outcome.state.block;
+      })
+
+-- The console fills the chains of its receive queue from pending input (5.3.6): its window, the memory
+-- and pending input may change, and the rest of the slot stays.
+pub record IsReceiveService {A : Type 0} (old : SlotState) (reply : Reply A) (before after : Health)
+    (outcome : Outcome A) : Type 0 where
+  pub notified :
+      IsNotified receive 0 (queue_at 0 old.console) old.memory outcome.state.memory
+      old.console outcome.state.console old.pending outcome.state.pending
+  pub is :
+      outcome
+      ≡ replies (record old {
+        memory = outcome.state.memory;
+        console = outcome.state.console;
+        pending = outcome.state.pending;
+      }) reply
+  pub image : after ≡ before
+
+-- What comes of a task where memory is found and no call of the image fails.
+abbrev pub Finishes : {A : Type 0} → Task → SlotState → Health → Health → Outcome A → Type 0
+Finishes Nothing state before after outcome = IsDetermined outcome (does state) before after
+Finishes ServeBlock state before after outcome =
+    IsBlockService (exact_device (device_of state)) state before after outcome
+Finishes ServeReceive state before after outcome = IsReceiveService state Done before after outcome
