@@ -36,6 +36,13 @@ impl<I: Image, A: Allocator> Board<I, A> {
         Some(slot.interrupts())
     }
 
+    /// The image, as it stands. Each write went through to it.
+    pub fn image(&self) -> &I
+        ensures { result.now ≡ self.now.image }
+    {
+        self.cache.image()
+    }
+
     /// The slot's memory, as it stands. There is no answer for a slot that isn't there.
     pub fn memory(&self, slot: u8) -> Option<&GuestMemory<A>>
         ensures there { IsSome result ↔ (slot < length self.now.slots) }

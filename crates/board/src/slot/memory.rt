@@ -60,6 +60,8 @@ impl<A: Allocator> Slot<A> {
         ensures done { OnTrue result
             (self.new ≡ record self.old { memory = put self.old.memory addr new.now }) }
         ensures kept { OnFalse result (self.new ≡ self.old) }
+        ensures extent { self.new.extent ≡ self.old.extent }
+        ensures disturbed { self.new.disturbed ≡ self.old.disturbed }
     {
         if !self.memory.holds(addr, new.len() as u64) {
             return false;
