@@ -8,6 +8,7 @@ pub mod Alone
 pub mod Failures
 pub mod Noted
 pub mod Runs
+pub mod Access
 pub mod Keeping
 pub mod Specs
 pub mod Faults

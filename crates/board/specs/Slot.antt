@@ -3,6 +3,7 @@ use Rattle.std.specs.Prelude.{◌≡◌, ℕ, ◌+◌, Bool, false, if◌then◌
 use Rattle.guest_memory.specs.Memory.{Memory, SameRange, zeroed}
 use Rattle.negotiation.specs.Features.{block_seg_max, block_ro, block_blk_size, block_flush, console_size, console_emerg_write, indirect_desc, event_idx, version_1, ring_packed}
 use Rattle.mmio_window.specs.declared.device_kind.DeviceKind.TheVariants.{Block, Console}
+use Rattle.mmio_window.specs.Interrupts.{interrupt_bits}
 use Rattle.mmio_window.specs.Soundness.{IsSound}
 use Rattle.mmio_window.specs.Window.{WindowState, fresh_window}
 use Rattle.sector_cache.specs.Sector.{extent_of}
@@ -104,3 +105,7 @@ opened spec = record {
   rows = spec.rows;
   disturbed = false;
 }
+
+-- InterruptStatus of a slot's two windows (4.2.2), the block device's before the console's
+abbrev pub interrupt_words : BoardSlot → ℕ × ℕ
+interrupt_words slot = (interrupt_bits slot.block.interrupts, interrupt_bits slot.console.interrupts)

@@ -9,6 +9,8 @@ ghost use Rattle.board.specs.Slot.{opened, state_of};
 ghost use Rattle.board.specs.Image.{Tells};
 ghost use Rattle.board.specs.World.{Handles, Answers, MayLackMemory, disturbed_of, extents_of, met_refusal, noted, world_of};
 
+mod access;
+
 use crate::bytes::Bytes;
 use crate::check;
 use crate::event::{Event, EventKind};

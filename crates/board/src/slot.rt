@@ -9,7 +9,7 @@ ghost use Rattle.block_device.specs.Extent.{IsWithin, KeepsOutside};
 ghost use Rattle.board.specs.Fault.{IsMemory};
 ghost use Rattle.board.specs.Image.{Tells, bytes_of, health_of};
 ghost use Rattle.board.specs.Machine.{block_irq, console_irq};
-ghost use Rattle.board.specs.Slot.{opened, state_of};
+ghost use Rattle.board.specs.Slot.{interrupt_words, opened, state_of};
 ghost use Rattle.board.specs.World.{Serves, MayLackMemory, met_refusal};
 
 mod console;
@@ -182,6 +182,20 @@ impl<A: Allocator> Slot<A> {
         ensures { result ≡ self.now.disturbed }
     {
         self.disturbed
+    }
+
+    /// The guest's memory.
+    pub(crate) fn memory(&self) -> &GuestMemory<A>
+        ensures { result.now ≡ self.now.memory }
+    {
+        &self.memory
+    }
+
+    /// InterruptStatus of the block window and of the console window.
+    pub(crate) fn interrupts(&self) -> (u8, u8)
+        ensures { result ≡ interrupt_words self.now }
+    {
+        (self.block.interrupts(), self.console.interrupts())
     }
 
     /// The block window's InterruptStatus.

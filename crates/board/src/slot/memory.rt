@@ -1,9 +1,11 @@
 //! A guest's own reads and writes of its memory.
 
-ghost use Rattle.std.specs.Prelude.{◌≡◌, ◌≢◌, ◌<◌, ℕ, List};
-ghost use Rattle.guest_memory.specs.Memory.{Inside};
+ghost use Rattle.std.specs.Prelude.{◌≡◌, ◌≢◌, ◌<◌, ℕ, List, length};
+ghost use Rattle.std.specs.Bool.{OnTrue, OnFalse};
+ghost use Rattle.guest_memory.specs.Memory.{Inside, put};
 ghost use Rattle.board.specs.declared.event.EventKind.{EventKind};
 ghost use Rattle.board.specs.Image.{Health};
+ghost use Rattle.board.specs.Machine.{holds};
 ghost use Rattle.board.specs.Outcome.{replies};
 ghost use Rattle.board.specs.Slot.{state_of};
 ghost use Rattle.board.specs.World.{MayGive};
@@ -43,12 +45,30 @@ impl<A: Allocator + Copy> Slot<A> {
         ensures bad_range { result ≡ Reply.BadRange → self.new ≡ self.old }
         ensures no_memory { result ≢ Reply.NoMemory }
     {
+        if self.put_bytes(addr, new) {
+            Reply::Done
+        } else {
+            Reply::BadRange
+        }
+    }
+}
+
+impl<A: Allocator> Slot<A> {
+    /// Puts bytes into the memory, where all of the range lies in it.
+    pub(crate) fn put_bytes(&mut self, addr: u64, new: &[u8]) -> bool
+        ensures test { result ≡ holds self.old.memory addr (length new.now) }
+        ensures done { OnTrue result
+            (self.new ≡ record self.old { memory = put self.old.memory addr new.now }) }
+        ensures kept { OnFalse result (self.new ≡ self.old) }
+        ensures extent { self.new.extent ≡ self.old.extent }
+        ensures disturbed { self.new.disturbed ≡ self.old.disturbed }
+    {
         if !self.memory.holds(addr, new.len() as u64) {
-            return Reply::BadRange;
+            return false;
         }
         self.memory
             .part_mut(addr, new.len() as u64)
             .copy_from_slice(new);
-        Reply::Done
+        true
     }
 }

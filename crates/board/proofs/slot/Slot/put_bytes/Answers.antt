@@ -1,7 +1,7 @@
 use Rattle.guest_memory.specs.Memory.{Memory, SameRange, put}
 use Rattle.guest_memory.proofs.Ranges.{put_range}
 use Rattle.mmio_window.proofs.Soundness.{IsSound-same_range}
-use Rattle.board.proofs.slot.Slot.write_memory.Goals as goal
+use Rattle.board.proofs.slot.Slot.put_bytes.Goals as goal
 
 pub invariant_of-self : goal.invariant_of-self
 invariant_of-self g c =

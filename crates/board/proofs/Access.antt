@@ -1,0 +1,47 @@
+-- What an embedder writes to a guest's memory between events, as the step of that event.
+use Rattle.std.proofs.Common.{◌≡◌, inl, ℕ, Bool, true, false, ◌||◌, nat_lt, arith, List, [], length, map, Some, refl, sym, ◌∙◌, ap}
+use Rattle.std.specs.Prelude.{AllPairs, slice_set}
+use Rattle.std.specs.Bool.{OnTrue}
+use Rattle.std.specs.List.{slice_get}
+use Rattle.std.proofs.Math.Seq.{map-set_same}
+use Rattle.std.proofs.lemmas.Bool.Decides.{nat_tests}
+use Rattle.std.proofs.lemmas.Option.{get_or_from_slice_get}
+use Rattle.guest_memory.specs.Memory.{put}
+use Rattle.sector_cache.specs.Disk.{Disk}
+use Rattle.board.specs.declared.event.EventKind.TheVariants.{MemWrite}
+use Rattle.board.specs.declared.reply.Reply.TheVariants.{Done}
+use Rattle.board.specs.Extent.{IsApart}
+use Rattle.board.specs.Image.{bytes_of}
+use Rattle.board.specs.Machine.{holds, block_irq, console_irq}
+use Rattle.board.specs.Slot.{BoardSlot, state_of}
+use Rattle.board.specs.World.{Answers, disturbed_of, extents_of, seen}
+use Rattle.board.proofs.Runs.{answered}
+use Rattle.board.proofs.Seats.{handles}
+
+-- where a slot keeps its note of refusals, all do
+pub disturbed_kept : (slots : List BoardSlot) (h : ℕ) (slot new : BoardSlot) → slice_get slots h ≡ Some slot → new.disturbed ≡ slot.disturbed → disturbed_of (slice_set slots h new) ≡ disturbed_of slots
+disturbed_kept slots h slot new here same =
+    map-set_same (λ (s : BoardSlot). s.disturbed) slots h new slot (same ∙ ap (λ (s : BoardSlot). s.disturbed) (sym (get_or_from_slice_get slots h slot slot here)))
+
+-- where the image failed no more often, nothing is noted
+unmet : (b : Bool) (n : ℕ) → b ≡ (b || (false || nat_lt n n))
+unmet true n = refl
+unmet false n = grind (arith, nat_tests)
+
+-- bytes that fit a slot's memory were put there: the event of that write is answered
+pub bytes_put : (A : Type 0) (slots : List BoardSlot) (disk : Disk) (h : ℕ) (slot new : BoardSlot) (addr : ℕ) (bytes : List ℕ) (done : Bool) →
+    AllPairs IsApart (extents_of slots) → slice_get slots h ≡ Some slot → done ≡ holds slot.memory addr (length bytes) →
+    OnTrue done (new ≡ record slot { memory = put slot.memory addr bytes }) →
+    OnTrue done
+    (Answers {A = A} (seen slots disk) (record { slot = h; what = MemWrite addr bytes }) Done [] [] (seen (slice_set slots h new) disk))
+bytes_put A slots disk h slot new addr bytes false apart here test is = _
+bytes_put A slots disk h slot new addr bytes true apart here test is =
+    let shown = state_of (bytes_of disk) new in
+    answered
+    (handles slots disk disk (record { slot = h; what = MemWrite addr bytes }) slot new Done (block_irq shown) (console_irq shown) [] []
+    apart here (ap (λ (s : BoardSlot). s.extent) is) (ap (λ (s : BoardSlot). s.disturbed) is ∙ unmet slot.disturbed disk.failures) refl
+    (record {
+      output = [];
+      given = inl (record { alike = record { alike = rw (← test, is) refl; image = refl }; answered = λ no. absurd (cc); failures = refl });
+      appended = refl;
+    }) refl refl)

@@ -1,0 +1,94 @@
+//! What an embedder reaches between events: the words of interrupt lines, and the guests' memories.
+//!
+//! Nothing here takes memory, so nothing here can be refused for want of it.
+
+ghost use Rattle.std.specs.Prelude.{◌≡◌, ◌↔◌, ◌<◌, [], IsTrue, IsSome, IfSome, IsSomeAnd, length};
+ghost use Rattle.std.specs.Bool.{OnTrue, OnFalse};
+ghost use Rattle.std.specs.List.{slice_get};
+ghost use Rattle.std.specs.Option.{option_map};
+ghost use Rattle.guest_memory.specs.Memory.{Inside, part_of};
+ghost use Rattle.board.specs.declared.event.EventKind.{EventKind};
+ghost use Rattle.board.specs.declared.reply.Reply.{Reply};
+ghost use Rattle.board.specs.Image.{Tells};
+ghost use Rattle.board.specs.Slot.{interrupt_words};
+ghost use Rattle.board.specs.World.{Answers, disturbed_of, world_of};
+
+use crate::board::Board;
+use guest_memory::GuestMemory;
+use sector_cache::Image;
+use std::alloc::Allocator;
+
+impl<I: Image, A: Allocator> Board<I, A> {
+    /// How many slots the board has, from 1 to 16. They are numbered from 0.
+    pub fn slots(&self) -> usize
+        ensures { result ≡ length self.now.slots }
+    {
+        self.slots.len()
+    }
+
+    /// InterruptStatus of the slot's block window and of its console window, in this order (4.2.2).
+    /// A window's interrupt line is raised while its word isn't 0. There is no answer for a slot that
+    /// isn't there.
+    pub fn interrupts(&self, slot: u8) -> Option<(u8, u8)>
+        ensures { result ≡ option_map interrupt_words (slice_get self.now.slots slot) }
+    {
+        let slot = self.slots.get(slot as usize)?;
+        Some(slot.interrupts())
+    }
+
+    /// The image, as it stands. Each write went through to it.
+    pub fn image(&self) -> &I
+        ensures { result.now ≡ self.now.image }
+    {
+        self.cache.image()
+    }
+
+    /// The slot's memory, as it stands. There is no answer for a slot that isn't there.
+    pub fn memory(&self, slot: u8) -> Option<&GuestMemory<A>>
+        ensures there { IsSome result ↔ (slot < length self.now.slots) }
+        ensures value { IfSome result (λ memory.
+            IsSomeAnd (slice_get self.now.slots slot) (λ found. memory.now ≡ found.memory)) }
+    {
+        let slot = self.slots.get(slot as usize)?;
+        Some(slot.memory())
+    }
+
+    /// Copies bytes out of the slot's memory, from address `addr` on. False where there is no such slot,
+    /// or not all of the range lies in its memory: `into` is then left as it was.
+    pub fn read_memory(&self, slot: u8, addr: u64, into: &mut [u8]) -> bool
+        ensures inside { IsTrue result ↔ IsSomeAnd (slice_get self.now.slots slot)
+            (λ found. Inside found.memory addr (length into.old)) }
+        ensures read { OnTrue result (IsSomeAnd (slice_get self.now.slots slot)
+            (λ found. into.new ≡ part_of found.memory addr (length into.old))) }
+        ensures kept { OnFalse result (into.new ≡ into.old) }
+    {
+        let Some(memory) = self.memory(slot) else {
+            return false;
+        };
+        let Some(part) = memory.part(addr, into.len() as u64) else {
+            return false;
+        };
+        into.copy_from_slice(part);
+        true
+    }
+
+    /// Copies bytes into the slot's memory, from address `addr` on: the event of that write, for who
+    /// has the bytes in a slice. False where there is no such slot, or not all of the range lies in its
+    /// memory: nothing has changed then.
+    pub fn write_memory(&mut self, slot: u8, addr: u64, from: &[u8]) -> bool
+        ensures step { Tells (I.disk self.old.image) → OnTrue result
+            (Answers {A = A} (world_of I.disk self.old)
+            (record { slot = slot; what = EventKind.MemWrite addr from.now }) Reply.Done [] []
+            (world_of I.disk self.new)) }
+        ensures inside { IsTrue result ↔ IsSomeAnd (slice_get self.old.slots slot)
+            (λ found. Inside found.memory addr (length from.now)) }
+        ensures kept { OnFalse result (self.new ≡ self.old) }
+        ensures image { self.new.image ≡ self.old.image }
+        ensures disturbed { disturbed_of self.new.slots ≡ disturbed_of self.old.slots }
+    {
+        let Some(slot) = self.slots.get_mut(slot as usize) else {
+            return false;
+        };
+        slot.put_bytes(addr, from)
+    }
+}
