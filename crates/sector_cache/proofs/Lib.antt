@@ -1,4 +1,6 @@
 pub mod Coherence
+pub mod Filed
 pub mod Gathered
 pub mod Keeping
 pub mod Sectors
+pub mod TestFiles

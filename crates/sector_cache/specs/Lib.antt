@@ -1,7 +1,9 @@
 pub mod Sector
 pub mod Disk
+pub mod Backing
 pub mod Fault
 pub mod Kept
+pub mod FileImage
 pub mod MemoryImage
 pub mod Script
 pub mod ScriptedImage

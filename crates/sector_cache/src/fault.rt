@@ -10,6 +10,17 @@ pub enum ImageFault {
     BadSize,
 }
 
+/// Why a file is no image. The file is closed then.
+#[derive(Clone, Copy, Debug, PartialEq, Eq, Hash, Error)]
+pub enum FileImageFault {
+    /// Its length is no multiple of 512.
+    #[error("the length of the file is no multiple of 512 bytes")]
+    BadSize,
+    /// Its length could not be found.
+    #[error("the length of the file could not be found")]
+    Io,
+}
+
 /// Why there is no cache. The first that fits, in this order, is the one that is answered.
 #[derive(Clone, Copy, Debug, PartialEq, Eq, Hash, Error)]
 pub enum CacheFault {

@@ -1,12 +1,14 @@
 //! Disk images by sectors of 512 bytes, and a cache of sectors over one of them.
 //!
 //! `image` says what an image is, `memory` and `scripted` have the two that live in memory,
-//! `cache` the cache, `fault` what their constructors answer where they refuse, and `laws` what holds
-//! of every value.
+//! `file_image` the one over a file, `backing` what that asks of its file, `cache` the cache, `fault` what
+//! their constructors answer where they refuse, and `laws` what holds of every value.
 #![tactic(auto)]
 
+mod backing;
 mod cache;
 mod fault;
+mod file_image;
 mod image;
 mod kept;
 mod laws;
@@ -14,8 +16,10 @@ mod memory;
 mod scripted;
 mod sector;
 
+pub use backing::BackingFile;
 pub use cache::SectorCache;
-pub use fault::{CacheFault, ImageFault, Refused};
+pub use fault::{CacheFault, FileImageFault, ImageFault, Refused};
+pub use file_image::FileImage;
 pub use image::{Image, ImageError};
 pub use laws::memory_images_tell;
 pub use memory::MemoryImage;

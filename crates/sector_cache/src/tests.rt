@@ -4,14 +4,19 @@ ghost use Rattle.std.specs.Prelude.{◌≡◌};
 
 mod blind;
 mod both;
+mod files;
 mod gather;
 mod image_calls;
+mod memory_file;
 mod plain;
 mod refused;
 mod sectors;
 mod switched;
 
-use crate::{CacheFault, Image, ImageError, ImageFault, MemoryImage, ScriptedImage, SectorCache};
+use crate::{
+    CacheFault, FileImageFault, Image, ImageError, ImageFault, MemoryImage, ScriptedImage,
+    SectorCache,
+};
 use blind::BlindImage;
 use gather::gather;
 use sectors::filled;
@@ -59,7 +64,11 @@ fn caches_have_1_to_65536_sectors(rt: HostRuntime) -> Result<(), Fail> {
 }
 
 /// Reads sector 0, writes 55 into sector 1, flushes and reads sector 1, and answers which succeeded.
-fn four_calls<I: Image>(image: &mut I, zero: &mut [u8; 512], one: &mut [u8; 512]) -> [bool; 4]
+pub(crate) fn four_calls<I: Image>(
+    image: &mut I,
+    zero: &mut [u8; 512],
+    one: &mut [u8; 512],
+) -> [bool; 4]
     requires { (I.disk image.old).sector_count ≡ 2 }
 {
     let read = image.read_sector(0, zero).is_ok();
@@ -158,9 +167,11 @@ fn sectors_are_gathered(rt: HostRuntime) -> Result<(), Fail> {
 #[test]
 fn faults_are_told(rt: HostRuntime) -> Result<(), Fail> {
     let told = format!(in rt.alloc();
-        "{}, {}, {}, {}",
+        "{}, {}, {}, {}, {}, {}",
         ImageError,
         ImageFault::BadSize,
+        FileImageFault::BadSize,
+        FileImageFault::Io,
         CacheFault::BadCapacity,
         CacheFault::NoMemory
     )?;
@@ -168,6 +179,8 @@ fn faults_are_told(rt: HostRuntime) -> Result<(), Fail> {
         told.as_str(),
         "the image failed, \
          the length of the image is no multiple of 512 bytes, \
+         the length of the file is no multiple of 512 bytes, \
+         the length of the file could not be found, \
          the capacity of the cache is not in 1..=65536 sectors, \
          no memory for the cache"
     );

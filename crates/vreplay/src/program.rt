@@ -9,6 +9,7 @@ use crate::image::zero_image;
 use crate::last_line::end;
 use crate::replayed::replayed;
 use crate::words::read_words;
+use sector_cache::BackingFile;
 use std::alloc::Allocator;
 use std::io;
 use std::io::{ErrorKind, Write};
@@ -17,6 +18,8 @@ use trace::{ReplayFault, finish};
 
 /// Does what the words after the program's name ask for, and answers the status.
 pub fn program<R: Input + Print + Files + AllocGlobal>(rt: &R, words: &[String]) -> u8
+where
+    R::File: BackingFile,
     ensures usage { 0 < length words.now → NamesNoCall (texts_of words.now) → (result ≡ 2) ⊎ (result ≡ 3) }
     ensures only_usage { result ≡ 2 → NamesNoCall (texts_of words.now) }
     ensures some_words { result ≡ 2 → 0 < length words.now }
@@ -30,6 +33,8 @@ pub(crate) fn program_in<A: Allocator + Copy, R: Input + Print + Files + AllocGl
     alloc: A,
     words: &[String],
 ) -> u8
+where
+    R::File: BackingFile,
     ensures usage { 0 < length words.now → NamesNoCall (texts_of words.now) → (result ≡ 2) ⊎ (result ≡ 3) }
     ensures only_usage { result ≡ 2 → NamesNoCall (texts_of words.now) }
     ensures some_words { result ≡ 2 → 0 < length words.now }
@@ -57,6 +62,8 @@ fn carry_out<A: Allocator + Copy, R: Input + Files + AllocGlobal, W: Write>(
     words: &[String],
     out: &mut W,
 ) -> Result<(), Fault>
+where
+    R::File: BackingFile,
     ensures refused { 0 < length words.now → NamesNoCall (texts_of words.now) → (result ≡ Err Fault.Usage) ⊎ (result ≡ Err (Fault.Replay ReplayFault.NoMemory)) }
     ensures usage { result ≡ Err Fault.Usage → NamesNoCall (texts_of words.now) }
     ensures some_words { result ≡ Err Fault.Usage → 0 < length words.now }

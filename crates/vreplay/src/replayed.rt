@@ -5,7 +5,7 @@ ghost use Rattle.sector_cache.specs.MemoryImage.{disk_of};
 ghost use Rattle.board.specs.Image.{Tells};
 ghost use Rattle.vreplay.specs.Replayed.{ComesTo, HasRun};
 
-use sector_cache::MemoryImage;
+use sector_cache::{Image, MemoryImage};
 use std::alloc::Allocator;
 use std::io::{Read, Write};
 use trace::{ReplayFault, replay};
@@ -18,9 +18,22 @@ pub fn replayed<A: Allocator + Copy, T: Read, W: Write>(
     out: &mut W,
     image: MemoryImage<A>,
 ) -> Result<MemoryImage<A>, ReplayFault>
-    ensures comes_to { ComesTo (T.remaining trace.old) (W.contents out.old) (W.contents out.new) image result }
+    ensures comes_to { ComesTo A disk_of (T.remaining trace.old) (W.contents out.old) (W.contents out.new) image result }
     ensures tells { Tells (disk_of image) }
     ensures run { IfOk result (λ after. HasRun A (T.remaining trace.old) (W.contents out.old) (W.contents out.new) (disk_of image) (disk_of after)) }
+{
+    replayed_over(alloc, trace, out, image)
+}
+
+/// The same over any image. What is promised of the run is promised where the image tells its bytes.
+pub fn replayed_over<A: Allocator + Copy, T: Read, W: Write, I: Image + Drop>(
+    alloc: A,
+    trace: &mut T,
+    out: &mut W,
+    image: I,
+) -> Result<I, ReplayFault>
+    ensures comes_to { ComesTo A I.disk (T.remaining trace.old) (W.contents out.old) (W.contents out.new) image result }
+    ensures run { Tells (I.disk image) → IfOk result (λ after. HasRun A (T.remaining trace.old) (W.contents out.old) (W.contents out.new) (I.disk image) (I.disk after)) }
 {
     match replay(alloc, trace, out, image) {
         (image, Ok(())) => Ok(image),

@@ -2,6 +2,7 @@
 
 mod calls;
 mod disk;
+mod in_place;
 mod input;
 mod machine;
 mod order;

@@ -1,24 +1,34 @@
 //! What the words of the command line ask for.
 
-ghost use Rattle.std.specs.Prelude.{◌≡◌, IfOk, IfErr};
-ghost use Rattle.clap.specs.Words.{FailsBy, HasMatchesOf, fault_of, kind_of};
-ghost use Rattle.vreplay.specs.Words.{IsCall, RefusesBy, texts_of, vreplay};
+ghost use Rattle.std.specs.Prelude.{◌≡◌, ◌↔◌, Some, IfOk, IfErr, IfSome, IsNone, IsSome, IsTrue, codes};
+ghost use Rattle.clap.specs.Words.{FailsBy, HasMatchesOf, fault_of, first_value, found_of, kind_of};
+ghost use Rattle.vreplay.specs.Words.{IsCall, RefusesBy, is_in_place, saved_to, texts_of, vreplay};
 
 use crate::fault::Fault;
 use clap::error::ErrorKind;
-use clap::{Arg, ArgMatches, Command, Error};
+use clap::{Arg, ArgAction, ArgMatches, Command, Error};
 use std::alloc::Global;
 use trace::ReplayFault;
 
-/// The files that a call with words names.
+/// The files that a call with words names, and what is to become of the image.
 #[derive(Clone, Copy, Debug, PartialEq, Eq)]
 pub struct Call<'a> {
     /// The trace that is replayed.
     pub trace: &'a str,
     /// The image that it is replayed over.
     pub image: &'a str,
-    /// What the image's bytes are written to after the replay.
-    pub save: Option<&'a str>,
+    pub keeping: Keeping<'a>,
+}
+
+/// What is to become of an image.
+#[derive(Clone, Copy, Debug, PartialEq, Eq)]
+pub enum Keeping<'a> {
+    /// It is read whole, and isn't changed.
+    Unchanged,
+    /// The same, and after the replay its bytes are written to this file.
+    Saved(&'a str),
+    /// It is read and written in place.
+    InPlace,
 }
 
 /// Reads the words after the program's name.
@@ -33,8 +43,36 @@ pub fn read_words<'a>(alloc: Global, words: &'a [String]) -> Result<Call<'a>, Fa
     let (Some(trace), Some(image)) = (matches.get_str("trace"), matches.get_str("image")) else {
         return Err(Fault::Usage);
     };
-    let save = matches.get_str("save");
-    Ok(Call { trace, image, save })
+    let Some(keeping) = keeping_of(&matches) else {
+        return Err(Fault::Usage);
+    };
+    Ok(Call {
+        trace,
+        image,
+        keeping,
+    })
+}
+
+// What is to become of the image, where not both options were given.
+fn keeping_of<'a>(matches: &ArgMatches<'a>) -> Option<Keeping<'a>>
+    ensures save { IfSome result (λ keeping. first_value (found_of matches.now) (codes "save") ≡ saved_to keeping) }
+    ensures in_place { IfSome result (λ keeping. IsTrue (is_in_place keeping) ↔ first_value (found_of matches.now) (codes "in-place") ≡ Some (codes "true")) }
+    ensures flag { IsNone result → first_value (found_of matches.now) (codes "in-place") ≡ Some (codes "true") }
+    ensures file { IsNone result → IsSome (first_value (found_of matches.now) (codes "save")) }
+{
+    match (matches.get_str("save"), is_given(matches, "in-place")) {
+        (None, false) => Some(Keeping::Unchanged),
+        (Some(file), false) => Some(Keeping::Saved(file)),
+        (None, true) => Some(Keeping::InPlace),
+        (Some(_), true) => None,
+    }
+}
+
+// Whether a flag was given.
+fn is_given(matches: &ArgMatches<'_>, flag: &str) -> bool
+    ensures { IsTrue result ↔ first_value (found_of matches.now) flag.now ≡ Some (codes "true") }
+{
+    matches.get_str(flag) == Some("true")
 }
 
 // Parses the words by the program's command.
@@ -45,11 +83,15 @@ fn parse<'a>(alloc: Global, words: &'a [String]) -> Result<ArgMatches<'a>, Error
     let trace = Arg::new(alloc, "trace");
     let image = Arg::new(alloc, "image");
     let save = Arg::new(alloc, "save").long("save");
+    let in_place = Arg::new(alloc, "in-place")
+        .long("in-place")
+        .action(ArgAction::SetTrue);
     Command::new(alloc, "vreplay")
         .no_binary_name(true)
         .arg(trace)?
         .arg(image)?
         .arg(save)?
+        .arg(in_place)?
         .try_get_matches_from(words)
 }
 

@@ -9,7 +9,8 @@ use std::process::Abort;
 use std::test::Fail;
 
 /// A call with these words: what is on its input, what the files `trace` and `image` hold, from which call
-/// on the files fail, and how many bytes the output takes.
+/// on the files fail, how many bytes of a file served in place are read or written at once, and how many bytes the
+/// output takes.
 #[derive(Clone, Copy)]
 pub struct Call<'a> {
     pub words: &'a [&'a str],
@@ -17,6 +18,7 @@ pub struct Call<'a> {
     pub trace: &'a [u8],
     pub image: Image,
     pub fails_from: u32,
+    pub most: usize,
     pub room: usize,
 }
 
@@ -36,6 +38,7 @@ pub const SAVING: Call<'static> = Call {
     trace: TRACE,
     image: Image::Numbered,
     fails_from: u32::MAX,
+    most: usize::MAX,
     room: 1000,
 };
 
@@ -57,7 +60,7 @@ pub fn made<A: Allocator + Copy>(
         Image::Numbered => numbered_image(rt.alloc())?,
         Image::Ragged => vec![in rt.alloc(); 0; 513]?,
     };
-    let disk = Disk::new(rt.alloc(), call.trace, &image, call.fails_from)?;
+    let disk = Disk::new(rt.alloc(), call.trace, &image, call.fails_from, call.most)?;
     let machine = Machine::new(rt.alloc(), call.input, call.room, &disk);
     let words = words_of(rt.alloc(), call.words)?;
     let status = program_in(&machine, heap, words.as_slice());

@@ -1,13 +1,17 @@
 //! Files in memory that fail at a chosen call.
 
+ghost use Rattle.std.specs.Prelude.{None, ⊤};
+
 use super::machine::unsupported;
+use sector_cache::BackingFile;
 use std::alloc::Global;
 use std::cell::{Cell, RefCell};
-use std::fs::{Metadata, OpenFile};
+use std::fs::{Metadata, OpenFile, OpenOptions};
 use std::io;
 use std::io::{ErrorKind, Read, Seek, SeekFrom, Write};
 
-/// The files `trace`, `image` and `saved`. Their calls are numbered from 0, and from one on all fail.
+/// The files `trace`, `image` and `saved`, and `fixed`, which can't be opened to be written. Their calls are
+/// numbered from 0, and from one on all fail. At a place at most so many bytes are read or written.
 #[derive(Drop)]
 pub struct Disk {
     trace: RefCell<Vec<u8>>,
@@ -15,6 +19,7 @@ pub struct Disk {
     saved: RefCell<Vec<u8>>,
     calls: Cell<u32>,
     fails_from: u32,
+    most: usize,
 }
 
 /// What the files hold in the end, and how many calls of them there were.
@@ -32,6 +37,7 @@ impl Disk {
         trace: &[u8],
         image: &[u8],
         fails_from: u32,
+        most: usize,
     ) -> io::Result<Disk> {
         Ok(Disk {
             trace: RefCell::new(trace.to_vec(heap)?),
@@ -39,6 +45,7 @@ impl Disk {
             saved: RefCell::new(b"kept".to_vec(heap)?),
             calls: Cell::new(0),
             fails_from,
+            most,
         })
     }
 
@@ -60,16 +67,17 @@ impl Disk {
         Ok(())
     }
 
-    /// Opens a file, to be read from its front or to be written anew.
-    pub(super) fn open(&self, name: &str, anew: bool) -> io::Result<DiskFile<'_>> {
+    /// Opens a file, to be read from its front, to be written too, or to be written anew.
+    pub(super) fn open(&self, name: &str, how: &OpenOptions) -> io::Result<DiskFile<'_>> {
         self.call()?;
         let held = match name {
             "trace" => &self.trace,
             "image" => &self.image,
             "saved" => &self.saved,
+            "fixed" if !how.asks_write() => &self.image,
             _ => return Err(io::Error::from(ErrorKind::NotFound)),
         };
-        if anew {
+        if how.asks_truncate() {
             let Ok(mut bytes) = held.try_borrow_mut() else {
                 return Err(io::Error::from(ErrorKind::ResourceBusy));
             };
@@ -121,7 +129,47 @@ impl Write for DiskFile<'_> {
     }
 }
 
-// The program reads and writes files from front to end, and does nothing else with them.
+// It tells nothing of what it holds.
+impl BackingFile for DiskFile<'_> {
+    ghost held = { λ _. None };
+
+    ghost IsSynced = { λ _. ⊤ };
+
+    fn length(&mut self) -> io::Result<u64> {
+        self.disk.call()?;
+        let Ok(bytes) = self.held.try_borrow() else {
+            return Err(io::Error::from(ErrorKind::ResourceBusy));
+        };
+        Ok(bytes.len() as u64)
+    }
+
+    fn read_from(&mut self, at: u64, into: &mut [u8]) -> io::Result<usize> {
+        self.disk.call()?;
+        let n = into.len().min(self.disk.most);
+        let Ok(bytes) = self.held.try_borrow() else {
+            return Err(io::Error::from(ErrorKind::ResourceBusy));
+        };
+        let mut rest = &bytes[(at as usize).min(bytes.len())..];
+        rest.read(&mut into[..n])
+    }
+
+    fn write_to(&mut self, at: u64, from: &[u8]) -> io::Result<usize> {
+        self.disk.call()?;
+        let n = from.len().min(self.disk.most);
+        let Ok(mut bytes) = self.held.try_borrow_mut() else {
+            return Err(io::Error::from(ErrorKind::ResourceBusy));
+        };
+        let start = (at as usize).min(bytes.len());
+        let mut rest = &mut bytes[start..];
+        rest.write(&from[..n])
+    }
+
+    fn sync(&mut self) -> io::Result<()> {
+        self.disk.call()
+    }
+}
+
+// Of files that are not served in place the program does nothing else.
 impl Seek for DiskFile<'_> {
     fn seek(&mut self, _to: SeekFrom) -> io::Result<u64> {
         Err(unsupported())

@@ -50,7 +50,7 @@ const ERRORS: [(ErrorKind, &[u8]); 2] = [
 #[test]
 fn words_that_could_not_be_read(rt: HostRuntime) -> Result<(), Fail> {
     for (kind, line) in ERRORS {
-        let disk = Disk::new(rt.alloc(), b"", b"", 0)?;
+        let disk = Disk::new(rt.alloc(), b"", b"", 0, 0)?;
         let machine = Machine::new(rt.alloc(), b"", 1000, &disk);
         assert_eq!(rt; refuse_words(&machine, &io::Error::from(kind)), 3);
         assert_eq!(rt; machine.into_output().as_slice(), line);

@@ -89,7 +89,7 @@ impl<'a> Files for Machine<'a> {
 
     fn open_file(&self, how: &OpenOptions, path: &str) -> io::Result<DiskFile<'a>> {
         let disk = self.disk;
-        disk.open(path, how.asks_write())
+        disk.open(path, how)
     }
 
     fn open_dir(&self, _path: &str) -> io::Result<&'a [u8]> {

@@ -12,7 +12,7 @@ const NO_TEXT: &[u8] = b"vreplay 1\n\xff\xfe\n";
 /// Words, the trace and the image, with the end: the words come before the image, the image before the
 /// trace, the trace before its board, and that before the file to save to, which is not touched. Both files
 /// are opened, read and read to their end by three calls each.
-const ENDS: [(&[&str], &[u8], Image, End<'static>); 13] = [
+const ENDS: [(&[&str], &[u8], Image, End<'static>); 18] = [
     (
         &["trace", "none", "--save"],
         TRACE,
@@ -85,11 +85,39 @@ const ENDS: [(&[&str], &[u8], Image, End<'static>); 13] = [
         Image::Numbered,
         (b"fault board ExtentOutside\n", 1, 6),
     ),
+    // an image in place: a file that can't be written, a length, a trace that isn't there or is refused, its board
+    (
+        &["trace", "fixed", "--in-place"],
+        TRACE,
+        Image::Numbered,
+        (b"fault input\n", 3, 1),
+    ),
+    (IN_PLACE, TRACE, Image::Ragged, (b"fault input\n", 3, 2)),
+    (
+        &["none", "image", "--in-place"],
+        TRACE,
+        Image::Numbered,
+        (b"fault input\n", 3, 3),
+    ),
+    (
+        IN_PLACE,
+        b"vreplay 1",
+        Image::Numbered,
+        (b"fault trace 1 Cut\n", 1, 5),
+    ),
+    (
+        IN_PLACE,
+        WIDE,
+        Image::Numbered,
+        (b"fault board ExtentOutside\n", 1, 5),
+    ),
     // the records stand before the line of a save that fails
     (UNOPENED, TRACE, Image::Numbered, (UNSAVED, 3, 7)),
 ];
 
 const SAVED: &[&str] = &["trace", "image", "--save", "saved"];
+
+const IN_PLACE: &[&str] = &["trace", "image", "--in-place"];
 
 /// The file to save to can't be opened.
 const UNOPENED: &[&str] = &["trace", "image", "--save", "none"];

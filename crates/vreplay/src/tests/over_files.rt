@@ -1,11 +1,13 @@
 //! Replays over real files, in a new folder for each test.
 
+use super::in_place::{LAST_RECORDS, LAST_SECTOR};
 use super::written::{WRITING, WRITTEN, written_image};
 use super::{RECORDS, TRACE, UNSAVED, numbered_image};
 use crate::fault::Fault;
 use crate::files::replay_files;
 use crate::last_line::end;
-use crate::words::Call;
+use crate::words::{Call, Keeping};
+use sector_cache::BackingFile;
 use std::fs;
 use std::process::Abort;
 use std::rt::{Env, Files};
@@ -23,9 +25,9 @@ fn new_folder(rt: &(impl Abort + AllocGlobal + Env + Files)) -> Result<String, F
     panic!(rt; "no folder can be made")
 }
 
-/// The path of a file in the folder. The empty name is a path by itself.
+/// The path of a file in the folder. The empty name is a path by itself, and so is one that begins with a slash.
 fn path_of(rt: &impl AllocGlobal, folder: &str, name: &str) -> Result<String, Fail> {
-    if name.is_empty() {
+    if name.is_empty() || name.starts_with('/') {
         return Ok(String::from_str(rt.alloc(), name)?);
     }
     Ok(format!(in rt.alloc(); "{folder}/{name}")?)
@@ -53,32 +55,38 @@ fn make_files(
     put(rt, folder, "image", image)?;
     put(rt, folder, "no_text", b"vreplay 1\ncache 1\n\xff\xfe\n")?;
     put(rt, folder, "ragged", &[0; 513])?;
+    put(rt, folder, "short", &[0; 511])?;
     put(rt, folder, "empty", b"")?;
     put(rt, folder, "saved", b"kept")?;
     put(rt, folder, "longer", &[7; 5000])
 }
 
-/// The names of the trace, the image and the file to save to.
-type Names<'a> = (&'a str, &'a str, Option<&'a str>);
+/// The names of the trace and the image, and what is to become of that.
+type Names<'a> = (&'a str, &'a str, Keeping<'a>);
 
 /// A call with these files writes this and has this status.
-fn expect_end(
-    rt: &(impl Abort + AllocGlobal + Files),
+fn expect_end<R: Abort + AllocGlobal + Files>(
+    rt: &R,
     folder: &str,
     names: Names<'_>,
     output: &[u8],
     status: u8,
-) -> Result<(), Fail> {
+) -> Result<(), Fail>
+where
+    R::File: BackingFile,
+{
     let trace = path_of(rt, folder, names.0)?;
     let image = path_of(rt, folder, names.1)?;
-    let saved = path_of(rt, folder, names.2.unwrap_or(""))?;
+    let saved = match names.2 {
+        Keeping::Saved(name) => path_of(rt, folder, name)?,
+        _ => String::new(rt.alloc()),
+    };
     let call = Call {
         trace: &trace,
         image: &image,
-        save: if names.2.is_some() {
-            Some(&saved)
-        } else {
-            None
+        keeping: match names.2 {
+            Keeping::Saved(_) => Keeping::Saved(&saved),
+            other => other,
         },
     };
     let mut written = Vec::new(rt.alloc());
@@ -103,26 +111,44 @@ fn expect_held(
     Ok(())
 }
 
+const PLAIN: Keeping<'static> = Keeping::Unchanged;
+
+const SAVED: Keeping<'static> = Keeping::Saved("saved");
+
+const IN_PLACE: Keeping<'static> = Keeping::InPlace;
+
 const INPUT: &[u8] = b"fault input\n";
 
 /// Files that save nothing, with the end: `.` is the folder, and no file is called `missing`.
-const ENDS: [(Names<'static>, &[u8], u8); 12] = [
-    (("trace", "image", None), RECORDS, 0),
-    (("trace", "empty", None), b"fault board ExtentOutside\n", 1),
-    (("trace", "ragged", Some("saved")), INPUT, 3),
-    (("trace", "missing", Some("saved")), INPUT, 3),
-    (("trace", ".", Some("saved")), INPUT, 3),
-    (("missing", "image", Some("saved")), INPUT, 3),
-    ((".", "image", Some("saved")), INPUT, 3),
-    (("", "", Some("saved")), INPUT, 3),
+const ENDS: [(Names<'static>, &[u8], u8); 19] = [
+    (("trace", "image", PLAIN), RECORDS, 0),
+    (("trace", "empty", PLAIN), b"fault board ExtentOutside\n", 1),
+    (("trace", "ragged", SAVED), INPUT, 3),
+    (("trace", "missing", SAVED), INPUT, 3),
+    (("trace", ".", SAVED), INPUT, 3),
+    (("missing", "image", SAVED), INPUT, 3),
+    ((".", "image", SAVED), INPUT, 3),
+    (("", "", SAVED), INPUT, 3),
+    (("no_text", "image", SAVED), b"fault trace 3 Word\n", 1),
+    (("trace", "image", IN_PLACE), RECORDS, 0),
     (
-        ("no_text", "image", Some("saved")),
-        b"fault trace 3 Word\n",
+        ("trace", "empty", IN_PLACE),
+        b"fault board ExtentOutside\n",
         1,
     ),
-    (("trace", "image", Some(".")), UNSAVED, 3),
-    (("trace", "image", Some("missing/saved")), UNSAVED, 3),
-    (("trace", "image", Some("")), UNSAVED, 3),
+    (("no_text", "image", IN_PLACE), b"fault trace 3 Word\n", 1),
+    (("trace", "short", IN_PLACE), INPUT, 3),
+    (("trace", "missing", IN_PLACE), INPUT, 3),
+    (("trace", ".", IN_PLACE), INPUT, 3),
+    // a device that can't be sought in, where the system has one
+    (("trace", "/dev/ptmx", IN_PLACE), INPUT, 3),
+    (("trace", "image", Keeping::Saved(".")), UNSAVED, 3),
+    (
+        ("trace", "image", Keeping::Saved("missing/saved")),
+        UNSAVED,
+        3,
+    ),
+    (("trace", "image", Keeping::Saved("")), UNSAVED, 3),
 ];
 
 #[test]
@@ -145,7 +171,13 @@ fn an_image_that_no_guest_wrote_is_saved_as_it_was(rt: HostRuntime) -> Result<()
     let image = numbered_image(rt.alloc())?;
     make_files(&rt, &folder, TRACE, &image)?;
     for name in ["made", "longer", "image"] {
-        expect_end(&rt, &folder, ("trace", "image", Some(name)), RECORDS, 0)?;
+        expect_end(
+            &rt,
+            &folder,
+            ("trace", "image", Keeping::Saved(name)),
+            RECORDS,
+            0,
+        )?;
         expect_held(&rt, &folder, name, &image)?;
     }
     Ok(fs::remove_dir_all(&rt, &folder)?)
@@ -159,10 +191,37 @@ fn a_sector_that_a_guest_wrote_is_saved(rt: HostRuntime) -> Result<(), Fail> {
     let image = numbered_image(rt.alloc())?;
     let after = written_image(rt.alloc())?;
     make_files(&rt, &folder, WRITING, &image)?;
-    expect_end(&rt, &folder, ("trace", "image", Some("made")), WRITTEN, 0)?;
+    expect_end(
+        &rt,
+        &folder,
+        ("trace", "image", Keeping::Saved("made")),
+        WRITTEN,
+        0,
+    )?;
     expect_held(&rt, &folder, "made", &after)?;
     expect_held(&rt, &folder, "image", &image)?;
-    expect_end(&rt, &folder, ("trace", "image", Some("image")), WRITTEN, 0)?;
+    expect_end(
+        &rt,
+        &folder,
+        ("trace", "image", Keeping::Saved("image")),
+        WRITTEN,
+        0,
+    )?;
+    expect_held(&rt, &folder, "image", &after)?;
+    Ok(fs::remove_dir_all(&rt, &folder)?)
+}
+
+/// The last sector of a file is read and written in place, and no other byte of it changes.
+#[test]
+fn a_file_is_served_in_place(rt: HostRuntime) -> Result<(), Fail> {
+    let folder = new_folder(&rt)?;
+    let image = numbered_image(rt.alloc())?;
+    let mut after = numbered_image(rt.alloc())?;
+    after.truncate(7 * 512);
+    after.extend_from_slice(b"ABCD")?;
+    after.extend_from_slice(&[0x17; 508])?;
+    make_files(&rt, &folder, LAST_SECTOR, &image)?;
+    expect_end(&rt, &folder, ("trace", "image", IN_PLACE), LAST_RECORDS, 0)?;
     expect_held(&rt, &folder, "image", &after)?;
     Ok(fs::remove_dir_all(&rt, &folder)?)
 }

@@ -3,38 +3,74 @@
 use super::calls::{Call as Run, SAVING, expect_end};
 use super::{TRACE, words_of};
 use crate::fault::Fault;
-use crate::words::{Call, read_words};
+use crate::words::{Call, Keeping, read_words};
 use std::test::Fail;
 
-/// Words that name the trace `t` and the image `i` in every order, each with the file to save to.
-const CALLS: [(&[&str], Option<&str>); 17] = [
-    (&["t", "i"], None),
-    (&["--", "t", "i"], None),
-    (&["t", "--", "i"], None),
-    (&["t", "i", "--"], None),
-    (&["--save", "f", "t", "i"], Some("f")),
-    (&["t", "--save", "f", "i"], Some("f")),
-    (&["t", "i", "--save", "f"], Some("f")),
-    (&["--save=f", "t", "i"], Some("f")),
-    (&["t", "--save=f", "i"], Some("f")),
-    (&["t", "i", "--save=f"], Some("f")),
-    (&["--save", "f", "--", "t", "i"], Some("f")),
-    (&["t", "--save=f", "--", "i"], Some("f")),
-    (&["t", "i", "--save=f", "--"], Some("f")),
-    (&["--save=", "t", "i"], Some("")),
-    (&["t", "i", "--save=a b=c"], Some("a b=c")),
-    (&["t", "i", "--save", "-"], Some("-")),
-    (&["t", "i", "--save=--save"], Some("--save")),
+const PLAIN: Keeping<'static> = Keeping::Unchanged;
+
+const SAVED: Keeping<'static> = Keeping::Saved("f");
+
+const IN_PLACE: Keeping<'static> = Keeping::InPlace;
+
+/// Words that name a trace and an image in every order, each with what is to become of the image.
+const CALLS: [(&[&str], &str, &str, Keeping<'static>); 27] = [
+    (&["t", "i"], "t", "i", PLAIN),
+    (&["--", "t", "i"], "t", "i", PLAIN),
+    (&["t", "--", "i"], "t", "i", PLAIN),
+    (&["t", "i", "--"], "t", "i", PLAIN),
+    (&["--save", "f", "t", "i"], "t", "i", SAVED),
+    (&["t", "--save", "f", "i"], "t", "i", SAVED),
+    (&["t", "i", "--save", "f"], "t", "i", SAVED),
+    (&["--save=f", "t", "i"], "t", "i", SAVED),
+    (&["t", "--save=f", "i"], "t", "i", SAVED),
+    (&["t", "i", "--save=f"], "t", "i", SAVED),
+    (&["--save", "f", "--", "t", "i"], "t", "i", SAVED),
+    (&["t", "--save=f", "--", "i"], "t", "i", SAVED),
+    (&["t", "i", "--save=f", "--"], "t", "i", SAVED),
+    (&["--save=", "t", "i"], "t", "i", Keeping::Saved("")),
+    (
+        &["t", "i", "--save=a b=c"],
+        "t",
+        "i",
+        Keeping::Saved("a b=c"),
+    ),
+    (&["t", "i", "--save", "-"], "t", "i", Keeping::Saved("-")),
+    (
+        &["t", "i", "--save=--save"],
+        "t",
+        "i",
+        Keeping::Saved("--save"),
+    ),
+    (
+        &["t", "i", "--save=--in-place"],
+        "t",
+        "i",
+        Keeping::Saved("--in-place"),
+    ),
+    (&["--in-place", "t", "i"], "t", "i", IN_PLACE),
+    (&["t", "--in-place", "i"], "t", "i", IN_PLACE),
+    (&["t", "i", "--in-place"], "t", "i", IN_PLACE),
+    (&["--in-place", "--", "t", "i"], "t", "i", IN_PLACE),
+    (&["t", "i", "--in-place", "--"], "t", "i", IN_PLACE),
+    (&["--", "--save", "-V"], "--save", "-V", PLAIN),
+    (&["--", "t", "--in-place"], "t", "--in-place", PLAIN),
+    (
+        &["--in-place", "--", "--in-place", "-V"],
+        "--in-place",
+        "-V",
+        IN_PLACE,
+    ),
+    (&["", "-"], "", "-", PLAIN),
 ];
 
 #[test]
 fn words_that_name_a_call(rt: HostRuntime) -> Result<(), Fail> {
-    for (words, save) in CALLS {
+    for (words, trace, image, keeping) in CALLS {
         let list = words_of(rt.alloc(), words)?;
         let call = Call {
-            trace: "t",
-            image: "i",
-            save,
+            trace,
+            image,
+            keeping,
         };
         let found = read_words(rt.alloc(), list.as_slice());
         assert_eq!(rt; found, Ok(call), "{words:?}");
@@ -42,26 +78,9 @@ fn words_that_name_a_call(rt: HostRuntime) -> Result<(), Fail> {
     Ok(())
 }
 
-/// Words that name files by any text, each with the trace and the image.
-const NAMES: [(&[&str], &str, &str); 2] = [
-    (&["--", "--save", "-V"], "--save", "-V"),
-    (&["", "-"], "", "-"),
-];
-
-#[test]
-fn names_of_files_are_any_text(rt: HostRuntime) -> Result<(), Fail> {
-    for (words, trace, image) in NAMES {
-        let list = words_of(rt.alloc(), words)?;
-        let save = None;
-        let call = Call { trace, image, save };
-        let found = read_words(rt.alloc(), list.as_slice());
-        assert_eq!(rt; found, Ok(call), "{words:?}");
-    }
-    Ok(())
-}
-
-/// Words that leave out a file, that the command refuses, and that ask for help or a version.
-const REFUSED: [&[&str]; 41] = [
+/// Words that leave out a file, that the command refuses, that ask for help or a version, and that ask to save an
+/// image that is served in place.
+const REFUSED: [&[&str]; 51] = [
     &["t"],
     &[""],
     &["--"],
@@ -103,6 +122,16 @@ const REFUSED: [&[&str]; 41] = [
     &["-hV"],
     &["-hV", "t", "i"],
     &["t", "i", "-hV"],
+    &["t", "--in-place"],
+    &["--in-place"],
+    &["t", "i", "--in-place", "--in-place"],
+    &["t", "i", "--in-place=true"],
+    &["t", "i", "--in-place="],
+    &["t", "i", "--in"],
+    &["t", "i", "-in-place"],
+    &["t", "i", "--in-place", "--save", "f"],
+    &["--save=f", "--in-place", "t", "i"],
+    &["t", "i", "x", "--in-place"],
 ];
 
 #[test]

@@ -1,10 +1,9 @@
 use Rattle.std.proofs.Common.{subst}
-use Rattle.sector_cache.specs.MemoryImage.{disk_of}
 use Rattle.trace.specs.Replay.{Replays}
-use Rattle.vreplay.proofs.replayed.replayed.Goals as goal
+use Rattle.vreplay.proofs.replayed.replayed_over.Goals as goal
 
 pub returns-in_default-Err-clause-comes_to : goal.returns-in_default-Err-clause-comes_to
 returns-in_default-Err-clause-comes_to g c = (
   c.replay.result.0,
-  subst (Replays _ disk_of _ _ _ c.args.image c.replay.result.0) c.in_default-Err.is-1 c.replay.ensures.comes_to,
+  subst (Replays _ g.I.Image.disk _ _ _ c.args.image c.replay.result.0) c.in_default-Err.is-1 c.replay.ensures.comes_to,
 )

@@ -1,0 +1,9 @@
+use Rattle.std.proofs.Common.{rules, ap}
+use Rattle.sector_cache.proofs.TestFiles.{failed_to_write, wrote}
+use Rattle.sector_cache.proofs.tests.memory_file.MemoryFileBackingFile.write_to.Goals as goal
+
+pub returns-in_err-n-clause-put : goal.returns-in_err-n-clause-put
+returns-in_err-n-clause-put c = failed_to_write _ _ _ _ _ (search rules) (ap (λ v. v.items) c.granted.ensures.bytes)
+
+pub returns-clause-put : goal.returns-clause-put
+returns-clause-put c = wrote _ _ _ _ c.reach-start.result.0 _ (λ inside. (c.reach-start.ensures.at inside).0) (search rules) (search rules)
