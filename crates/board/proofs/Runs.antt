@@ -2,15 +2,15 @@
 use Rattle.std.proofs.Common.{◌≡◌, ◌≢◌, ℕ, ◌+◌, ◌<◌, ◌≤◌, List, [], ◌∷◌, ◌++◌, length, take, Option, Some, None, Result, Ok, Err, false, get_or, refl, sym, ◌∙◌, ap, subst, append_assoc, append-nil, arith}
 use Rattle.std.specs.Prelude.{MatchOption, All, OnOk, is_err}
 use Rattle.std.specs.List.{slice_get}
-use Rattle.std.proofs.lemmas.List.{map-append, take_more, take_all}
-use Rattle.std.proofs.lemmas.List.Elements.{All-head, All-tail, All-push}
+use Rattle.std.proofs.lemmas.List.{map-append, take_more, take_all, take-take, get_or-take, length-take-le}
+use Rattle.std.proofs.lemmas.List.Elements.{All-head, All-tail, All-push, All-same, All-take}
 use Rattle.board.specs.declared.event.Event.{Event}
 use Rattle.board.specs.declared.reply.Reply.{Reply}
 use Rattle.board.specs.declared.reply.Reply.TheVariants.{NoMemory}
 use Rattle.board.specs.declared.reply.Record.{Record}
-use Rattle.board.specs.Slot.{SlotState}
-use Rattle.board.specs.World.{World, SlotStep, MissingStep, Step, Handles, Answers}
-use Rattle.board.specs.Line.{Move, IsLine, IsQuiet, HadMemory, HasInterruptWords, IsRun, events_of, records_of}
+use Rattle.board.specs.Slot.{SlotState, BoardSlot}
+use Rattle.board.specs.World.{World, SlotStep, MissingStep, Step, Handles, Answers, KeepsOthers}
+use Rattle.board.specs.Line.{Move, IsLine, IsQuiet, HadMemory, HasInterruptWords, IsRun, KeepsIdle, events_of, records_of}
 use Rattle.board.proofs.Alone.{alone, recorded_slot}
 use Rattle.board.proofs.Failures.{given_failures}
 use Rattle.board.proofs.Noted.{line_noted}
@@ -166,3 +166,24 @@ reached_next {A} old mid new events done event reply block console out before so
 pub run_whole : {A : Type 0} (old new : World) (events : List (Event A)) (done : ℕ) (before after : List (Record A)) → length events ≤ done → Reached old new (take done events) before after → IsRun old new events before after
 run_whole {A} old new events done before after all reached =
     run_of old new events before after (subst (λ (es : List (Event A)). Reached old new es before after) (take_all done events all) reached)
+
+-- one event more: slots that no event is of are kept still
+pub idle_next : {A : Type 0} (events : List (Event A)) (done : ℕ) (event : Event A) (old mid new : List BoardSlot) →
+    done < length events → event ≡ get_or events done event →
+    KeepsIdle (take done events) old mid → KeepsOthers event.slot mid new → KeepsIdle (take (done + 1) events) old new
+idle_next {A} events done event old mid new below is before step other idle = step other differs ∙ before other front
+  where
+    fits : done < length (take (done + 1) events)
+    fits = omega (arith, length-take-le (done + 1) events (omega arith))
+
+    differs : other ≢ event.slot
+    differs same =
+        let last : get_or (take (done + 1) events) done event ≡ event = get_or-take (done + 1) events done event (omega arith) ∙ sym is in
+        idle done event fits (ap (λ (e : Event A). e.slot) last ∙ sym same)
+
+    front : All (λ e. e.slot ≢ other) (take done events)
+    front = All-same (λ (e : Event A). e.slot ≢ other) _ _ (sym (take-take done (done + 1) events (omega arith))) (All-take (λ (e : Event A). e.slot ≢ other) done (take (done + 1) events) idle)
+
+-- and after the last event they were kept by all
+pub idle_whole : {A : Type 0} (events : List (Event A)) (done : ℕ) (old new : List BoardSlot) → length events ≤ done → KeepsIdle (take done events) old new → KeepsIdle events old new
+idle_whole {A} events done old new all kept = subst (λ (es : List (Event A)). KeepsIdle es old new) (take_all done events all) kept

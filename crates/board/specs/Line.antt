@@ -7,7 +7,7 @@ use Rattle.board.specs.declared.reply.Reply.TheVariants.{NoMemory}
 use Rattle.board.specs.declared.reply.Record.{Record}
 use Rattle.board.specs.declared.reply.RunStop.{RunStop}
 use Rattle.board.specs.Machine.{RunsOnItsOwn}
-use Rattle.board.specs.Slot.{SlotState}
+use Rattle.board.specs.Slot.{SlotState, BoardSlot}
 use Rattle.board.specs.World.{World, Step}
 
 -- One event that was handled: the event, its record, and what can be seen of the board after it.
@@ -101,3 +101,8 @@ pub record IsRun {A : Type 0} (old new : World) (events : List (Event A))
 abbrev pub events_done : {A : Type 0} → Result (Unit {0}) RunStop → List (Event A) → List (Event A)
 events_done (Ok _) events = events
 events_done (Err stop) events = take stop.done events
+
+-- every slot that none of these events is of is kept as it was
+abbrev pub KeepsIdle : {A : Type 0} → List (Event A) → List BoardSlot → List BoardSlot → Type 0
+KeepsIdle events old new =
+    (other : ℕ) → All (λ event. event.slot ≢ other) events → slice_get new other ≡ slice_get old other

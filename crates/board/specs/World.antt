@@ -232,3 +232,7 @@ pub record KeepsBoard {A : Type 0} (old : World) (written : Record A) (new : Wor
   pub outside : new.outside ≡ old.outside
   pub health : new.health ≡ old.health
   pub output : written.output ≡ []
+
+-- every slot but that one is kept as it was
+abbrev pub KeepsOthers : ℕ → List BoardSlot → List BoardSlot → Type 0
+KeepsOthers slot old new = (other : ℕ) → other ≢ slot → slice_get new other ≡ slice_get old other

@@ -4,10 +4,10 @@ ghost use Rattle.std.specs.Prelude.{◌≡◌, ◌≢◌, ◌↔◌, ◌≤◌, 
 ghost use Rattle.std.specs.List.{slice_get};
 ghost use Rattle.board.specs.declared.fault.BoardFault.{BoardFault};
 ghost use Rattle.board.specs.Fault.{IsAccepted, Refuses, cache_refusal};
-ghost use Rattle.board.specs.Line.{IsRun, HasInterruptWords, events_done};
+ghost use Rattle.board.specs.Line.{IsRun, HasInterruptWords, KeepsIdle, events_done};
 ghost use Rattle.board.specs.Slot.{opened, state_of};
 ghost use Rattle.board.specs.Image.{Tells};
-ghost use Rattle.board.specs.World.{Handles, Answers, MayLackMemory, disturbed_of, extents_of, met_refusal, noted, world_of};
+ghost use Rattle.board.specs.World.{Handles, Answers, KeepsOthers, MayLackMemory, disturbed_of, extents_of, met_refusal, noted, world_of};
 
 mod access;
 
@@ -120,6 +120,7 @@ impl<I: Image, A: Allocator + Copy> Board<I, A> {
         ensures bad_slot { (result ≡ Reply.BadSlot) ↔ (length self.old.slots ≤ event.now.slot) }
         ensures bad_slot_keeps { result ≡ Reply.BadSlot → self.new ≡ self.old }
         ensures bad_range_keeps { result ≡ Reply.BadRange → self.new ≡ self.old }
+        ensures others { KeepsOthers event.now.slot self.old.slots self.new.slots }
         ensures no_memory { result ≡ Reply.NoMemory →
             IsSomeAnd (slice_get self.old.slots event.now.slot)
             (λ slot. (image : List ℕ) → MayLackMemory (state_of image slot) event.now.what) }
@@ -138,6 +139,7 @@ impl<I: Image, A: Allocator + Copy> Board<I, A> {
             IsRun (world_of I.disk self.old) (world_of I.disk self.new)
             (events_done result events.now) records.old.items records.new.items }
         ensures stopped { IfErr result (λ stop. stop.done < length events.now) }
+        ensures others { KeepsIdle (events_done result events.now) self.old.slots self.new.slots }
         ensures words { All HasInterruptWords records.old.items →
             All HasInterruptWords records.new.items }
 
@@ -189,6 +191,7 @@ impl<I: Image, A: Allocator + Copy> Board<I, A> {
         ensures bad_slot { (result.reply ≡ Reply.BadSlot) ↔ (length self.old.slots ≤ slot) }
         ensures bad_slot_keeps { result.reply ≡ Reply.BadSlot → self.new ≡ self.old }
         ensures bad_range_keeps { result.reply ≡ Reply.BadRange → self.new ≡ self.old }
+        ensures others { KeepsOthers slot self.old.slots self.new.slots }
         ensures no_memory { result.reply ≡ Reply.NoMemory →
             IsSomeAnd (slice_get self.old.slots slot)
             (λ found. (image : List ℕ) → MayLackMemory (state_of image found) what.now) }

@@ -7,7 +7,7 @@ use Rattle.board.specs.Image.{Tells, bytes_of}
 use Rattle.board.specs.World.{MayLackMemory, disturbed_of, extents_of}
 use Rattle.board.proofs.Outside.{outside_kept}
 use Rattle.board.proofs.Runs.{handled_outside}
-use Rattle.board.proofs.Seats.{set_same, extents_of-set, handles, handles_missing, noted_none, noted_set, slot_within}
+use Rattle.board.proofs.Seats.{others_kept, set_same, extents_of-set, handles, handles_missing, noted_none, noted_set, slot_within}
 use Rattle.board.proofs.board.Board.handle.Goals as goal
 
 pub returns-in_default-clause-handles : goal.returns-in_default-clause-handles
@@ -72,3 +72,7 @@ pub returns-clause-no_memory : goal.returns-clause-no_memory
 returns-clause-no_memory g c lacking =
     let here : slice_get c.args.self.now.slots c.args.slot ≡ Some c.in-Some.slot.now = ap (λ b. slice_get b.slots c.args.slot) (sym c.self.view_is) ∙ there g c in
     subst (λ (o : Option BoardSlot). IsSomeAnd o (λ slot. (image : List ℕ) → MayLackMemory (state_of image slot) c.args.what.now)) (sym here) (c.serve-reply.ensures.no_memory lacking)
+
+pub returns-clause-others : goal.returns-clause-others
+returns-clause-others g c other differ =
+    others_kept c.self.inside.slots.items c.args.slot c.serve-reply.new.self other differ ∙ ap (λ b. slice_get b.slots other) c.self.view_is

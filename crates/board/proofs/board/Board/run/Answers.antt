@@ -1,6 +1,6 @@
 use Rattle.std.proofs.Common.{◌+◌, ◌≤◌, vec_len, vec_capacity, sym, ◌∙◌, arith}
 use Rattle.board.specs.World.{world_of}
-use Rattle.board.proofs.Runs.{reached_next, run_of, run_whole, where_ok, words_more, line_outside}
+use Rattle.board.proofs.Runs.{idle_next, idle_whole, reached_next, run_of, run_whole, where_ok, words_more, line_outside}
 use Rattle.board.proofs.board.Board.run.Goals as goal
 
 pub returns-then-is_err-clause-run : goal.returns-then-is_err-clause-run
@@ -30,6 +30,7 @@ loop-done-preserved g c =
           (rw (c.reserve.ensures.items, c.from.ensures) at c.put.ensures);
       told = λ tells. c.handle-handled.ensures.told (c.loop-done.invariant.told tells);
       words = λ before. words_more c.loop-done.records.items c.put.new.records.items _ (rw (c.reserve.ensures.items, c.from.ensures) at c.put.ensures) (c.loop-done.invariant.words before) c.handle-handled.ensures.block_word c.handle-handled.ensures.console_word;
+      others = idle_next c.args.events.now c.loop-done.done c.index-events-done.result _ _ _ (omega arith) c.index-events-done.is c.loop-done.invariant.others c.handle-handled.ensures.others;
       extents = c.handle-handled.ensures.extents ∙ c.loop-done.invariant.extents;
       sectors = c.handle-handled.ensures.sectors ∙ c.loop-done.invariant.sectors;
       rises = omega (arith, c.loop-done.invariant.rises, c.handle-handled.ensures.rises);
@@ -40,3 +41,6 @@ returns-clause-run g c tells = run_whole _ _ c.args.events.now c.loop-done.done 
 
 pub returns-clause-outside : goal.returns-clause-outside
 returns-clause-outside g c = λ tells. let reached = c.loop-done.invariant.reached tells in line_outside _ reached.moves _ reached.line
+
+pub returns-clause-others : goal.returns-clause-others
+returns-clause-others g c = idle_whole c.args.events.now c.loop-done.done _ _ (omega arith) c.loop-done.invariant.others
