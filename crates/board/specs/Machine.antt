@@ -13,7 +13,6 @@ use Rattle.console_device.specs.Config as console
 use Rattle.console_device.specs.Input.{fitting}
 use Rattle.board.specs.declared.event.EventKind.{EventKind}
 use Rattle.board.specs.declared.event.EventKind.TheVariants.{Read, Write, MemRead, MemWrite, Input, Resize}
-use Rattle.board.specs.declared.reply.Reply.{Reply}
 use Rattle.board.specs.declared.reply.Reply.TheVariants.{Value, Bytes, BadRange, Took}
 use Rattle.board.specs.declared.reply.Record.{Record}
 use Rattle.board.specs.Image.{Health, sectors_of}

@@ -68,7 +68,7 @@ fn board<A: Allocator + Copy>(
     board_over(heap, slots, image(alloc)?)
 }
 
-/// What a guest does, as plain data.
+/// What a guest does, or what is done to its console, as plain data.
 #[derive(Clone, Copy, Debug)]
 enum Act<'a> {
     /// It reads a register of one of its windows.
@@ -79,6 +79,10 @@ enum Act<'a> {
     Load(u64, u32),
     /// It writes bytes to its memory.
     Store(u64, &'a [u8]),
+    /// These bytes are typed to it.
+    Type(&'a [u8]),
+    /// Its console gets so many columns and rows.
+    Resize(u16, u16),
 }
 
 /// The event that this is, of a slot.
@@ -100,6 +104,10 @@ fn event<A: Allocator>(alloc: A, slot: u8, act: Act) -> Result<Event<A>, AllocEr
             addr,
             bytes: Bytes::from(bytes.to_vec(alloc)?),
         },
+        Act::Type(bytes) => EventKind::Input {
+            bytes: Bytes::from(bytes.to_vec(alloc)?),
+        },
+        Act::Resize(cols, rows) => EventKind::Resize { cols, rows },
     };
     Ok(Event { slot, what })
 }

@@ -1,6 +1,6 @@
 //! The accesses of a guest's drivers to the windows of its devices, and what the devices do then.
 
-ghost use Rattle.std.specs.Prelude.{◌≡◌, ◌≢◌, ◌≤◌, ℕ, List, nat_lt, OnOk, OnErr};
+ghost use Rattle.std.specs.Prelude.{◌≡◌, ◌≢◌, ◌≤◌, ◌%◌, ◌^◌, ℕ, List, nat_lt, OnOk, OnErr};
 ghost use Rattle.block_device.specs.Extent.{IsWithin, KeepsOutside};
 ghost use Rattle.mmio_window.specs.declared.device_kind.DeviceKind.{DeviceKind};
 ghost use Rattle.board.specs.declared.event.EventKind.{EventKind};
@@ -139,10 +139,17 @@ impl<A: Allocator + Copy> Slot<A> {
                 offset: EMERGENCY_WRITE,
                 value,
                 ..
-            } => reply_to(self.console_device.emergency((value % 256) as u8, out)),
+            } => reply_to(self.console_device.emergency(low_byte(value), out)),
             _ => Reply::Done,
         }
     }
+}
+
+// The byte of an emergency write, of whatever width (5.3.4).
+fn low_byte(value: u32) -> u8
+    ensures { result ≡ value % 2 ^ 8 }
+{
+    (value % 256) as u8
 }
 
 // What the guest is answered where there was memory for what its console put out, and where there was none.

@@ -1,8 +1,8 @@
 //! Which slots have met a refusal.
 
-use super::driver::{bring_up, request};
+use super::driver::{BLOCK, bring_up, request};
 use super::{Act, BASE, board, board_over, eight_sectors, event, events, gives, step, two_slots};
-use crate::{Board, DeviceKind, Image, Reply};
+use crate::{Board, Image, Reply};
 use refusing::RefusingHeap;
 use sector_cache::ScriptedImage;
 use std::alloc::{AllocError, Allocator, Global};
@@ -31,7 +31,7 @@ const READS: [(u8, Act, [Option<bool>; 3]); 5] = [
     (1, Act::Load(BASE, 0), NEITHER),
     (1, Act::Load(BASE + 0x1_0000, 1), NEITHER),
     (2, Act::Load(BASE, 1), NEITHER),
-    (1, Act::Get(DeviceKind::Block, 0x000), NEITHER),
+    (1, Act::Get(BLOCK, 0x000), NEITHER),
     (1, Act::Load(BASE, 1), ONLY_THE_SECOND),
 ];
 
@@ -75,8 +75,8 @@ fn a_failing_read_is_noted(rt: HostRuntime) -> Result<(), Fail> {
     let alloc = rt.alloc();
     let image = ScriptedImage::new(eight_sectors(alloc)?, [0].to_vec(alloc)?)?;
     let mut board = board_over(alloc, &two_slots(), image)?;
-    are_done(&rt, alloc, &mut board, &bring_up(0))?;
-    are_done(&rt, alloc, &mut board, &bring_up(1))?;
+    are_done(&rt, alloc, &mut board, &bring_up(0, BLOCK, 0))?;
+    are_done(&rt, alloc, &mut board, &bring_up(1, BLOCK, 0))?;
     assert_eq!(rt; noted(&board), NEITHER);
     for (slot, idx) in [(1, 1), (0, 1), (1, 2)] {
         are_done(&rt, alloc, &mut board, &request(slot, idx))?;
@@ -94,9 +94,9 @@ fn a_failing_read_is_noted(rt: HostRuntime) -> Result<(), Fail> {
 fn a_fault_of_a_ring_is_not_noted(rt: HostRuntime) -> Result<(), Fail> {
     let alloc = rt.alloc();
     let mut board = board(alloc, alloc, &two_slots())?;
-    are_done(&rt, alloc, &mut board, &bring_up(1))?;
+    are_done(&rt, alloc, &mut board, &bring_up(1, BLOCK, 0))?;
     are_done(&rt, alloc, &mut board, &request(1, 9))?;
-    let event = event(alloc, 1, Act::Get(DeviceKind::Block, 0x070))?;
+    let event = event(alloc, 1, Act::Get(BLOCK, 0x070))?;
     let mut out = Vec::new(alloc);
     assert!(rt; step(&mut board, &event, &mut out) == Reply::Value(0x4f));
     assert_eq!(rt; noted(&board), NEITHER);

@@ -1,18 +1,17 @@
 //! Each request for memory refused in turn.
 
-use super::driver::{DATA, STATUS, USED, bring_up, request};
+use super::driver::{BLOCK, CONSOLE, DATA, STATUS, USED, bring_up, no_line, request};
 use super::{Act, BASE, board, eight_sectors, events, image, run, slot, two_slots};
-use crate::{Board, BoardFault, DeviceKind, Event, Record, Reply};
+use crate::{Board, BoardFault, Event, Record, Reply};
 use refusing::RefusingHeap;
 use sector_cache::MemoryImage;
 use std::alloc::{Allocator, Global};
 use std::process::Abort;
 use std::test::Fail;
 
-const BLOCK: DeviceKind = DeviceKind::Block;
-
-/// What two slots do: each reads its memory and writes it, and writes registers.
-const BOTH: [(u8, Act); 9] = [
+/// What two slots do: each reads its memory and writes it, and writes registers; and what is done to their
+/// consoles.
+const BOTH: [(u8, Act); 12] = [
     (0, Act::Store(BASE, b"zero")),
     (1, Act::Store(BASE, b"one")),
     (0, Act::Load(BASE, 4)),
@@ -22,6 +21,10 @@ const BOTH: [(u8, Act); 9] = [
     (1, Act::Load(BASE + 0x1000, 0)),
     (0, Act::Set(BLOCK, 0x050, 0)),
     (0, Act::Load(BASE + 2, 2)),
+    (0, Act::Type(b"ls")),
+    (1, Act::Resize(100, 30)),
+    // the console's emergency write (5.3.4)
+    (1, Act::Set(CONSOLE, 0x108, 0x41)),
 ];
 
 /// A look at what became of a read of slot 1, and at slot 0 beside it.
@@ -115,7 +118,7 @@ fn lacking<A: Allocator>(rt: &impl Abort, records: &[Record<A>], ample: &[Record
     count
 }
 
-/// Runs with each request for memory refused in turn. Answers how often one stopped, and how often a read
+/// Runs with each request for memory refused in turn. Answers how often one stopped, and how often an event
 /// found no memory.
 fn counted<'h, A: Allocator + Copy>(
     rt: &impl Abort,
@@ -138,12 +141,13 @@ fn counted<'h, A: Allocator + Copy>(
     panic!(rt; "memory was never ample")
 }
 
-/// Memory is asked for six times: for records before the 1st, the 5th and the 9th event, and by the reads of
-/// some bytes, the 3rd, the 6th and the 9th event. The fifth request is the last for records.
+/// Memory is asked for seven times: for records before the 1st, the 5th and the 9th event, by the reads of some
+/// bytes, the 3rd, the 6th and the 9th event, and by the emergency write, the last. The fifth request is the last
+/// for records; where the sixth is refused, so is the seventh.
 #[test]
 fn a_refused_run_goes_on(rt: HostRuntime) -> Result<(), Fail> {
     let heap = RefusingHeap::new(rt.alloc());
-    assert_eq!(rt; counted(&rt, rt.alloc(), &heap, &BOTH)?, (5, 3));
+    assert_eq!(rt; counted(&rt, rt.alloc(), &heap, &BOTH)?, (5, 5));
     Ok(())
 }
 
@@ -154,33 +158,38 @@ fn a_refused_run_goes_on(rt: HostRuntime) -> Result<(), Fail> {
 #[test]
 fn a_refused_request_goes_on(rt: HostRuntime) -> Result<(), Fail> {
     let heap = RefusingHeap::new(rt.alloc());
-    let mut acts = bring_up(1).to_vec(rt.alloc())?;
+    let mut acts = bring_up(1, BLOCK, 0).to_vec(rt.alloc())?;
     acts.extend_from_slice(&request(1, 1))?;
     acts.extend_from_slice(&LOOKS)?;
     assert_eq!(rt; counted(&rt, rt.alloc(), &heap, &acts)?, (4, 18));
     Ok(())
 }
 
-/// What asks for no memory: no bytes are given.
-const WITHOUT_BYTES: [(u8, Act); 8] = [
+/// What asks for no memory: no bytes are given or put out.
+const WITHOUT_BYTES: [(u8, Act); 9] = [
     (0, Act::Get(BLOCK, 0x000)),
     // the queue is ready, and nothing is on offer
     (0, Act::Set(BLOCK, 0x050, 0)),
     (0, Act::Get(BLOCK, 0x044)),
-    (0, Act::Set(DeviceKind::Console, 0x108, 0x41)),
+    (0, Act::Type(b"ls")),
+    (0, Act::Resize(100, 30)),
     (0, Act::Store(BASE, b"zero")),
     (0, Act::Load(BASE + 0x1_0000, 0)),
     (0, Act::Load(BASE + 0x1_0000, 1)),
     (9, Act::Get(BLOCK, 0x000)),
 ];
 
-/// With room for the records, only the bytes of a reply ask for memory.
+/// With room for the records, only the bytes of a reply and those that are put out ask for memory: a chain of the
+/// transmit queue without readable bytes asks for none.
 #[test]
 fn an_event_without_bytes_takes_no_memory(rt: HostRuntime) -> Result<(), Fail> {
     let heap = RefusingHeap::new(rt.alloc());
     let mut board = board(rt.alloc(), &heap, &[slot(0x1_0000, 0, 4)])?;
-    let mut acts = bring_up(0).to_vec(rt.alloc())?;
+    let mut acts = bring_up(0, BLOCK, 0).to_vec(rt.alloc())?;
     acts.extend_from_slice(&WITHOUT_BYTES)?;
+    acts.extend_from_slice(&bring_up(0, CONSOLE, 1))?;
+    acts.extend_from_slice(&no_line(0))?;
+    acts.push((0, Act::Set(CONSOLE, 0x050, 1)))?;
     let events = events(&heap, &acts)?;
     let mut records = Vec::with_capacity(&heap, events.len())?;
     heap.refuse_from(1);

@@ -33,7 +33,7 @@ returns-in-ConfigWrite-eq264-default-default-clause-serves g c = λ image health
     let replied = c.reply_to-in-ConfigWrite-eq264-default-default in
     rw (← c.self.view_is, c.write.ensures.written, c.emergency.ensures.same)
     (emergency_serves _ c.args.offset c.args.width c.args.value asked.width asked.value health c.args.out.now.items c.emergency.new.out.items c.emergency.result replied.result written
-    c.emergency.ensures.ok c.emergency.ensures.err replied.ensures.done replied.ensures.no_memory)
+    (rw c.low_byte.ensures at c.emergency.ensures.ok) c.emergency.ensures.err replied.ensures.done replied.ensures.no_memory)
 
 pub returns-in_default-clause-serves : goal.returns-in_default-clause-serves
 returns-in_default-clause-serves g c = λ image health.

@@ -1,5 +1,4 @@
-use Rattle.std.proofs.Common.{sym, subst}
-use Rattle.board.specs.Image.{bytes_of, health_of}
+use Rattle.board.specs.Image.{health_of}
 use Rattle.board.proofs.Consoles.{silent, serves_takes}
 use Rattle.board.proofs.slot.Slot.write_window.Goals as goal
 
