@@ -1,10 +1,9 @@
 -- Whether bytes are digits, judged without a branch.
-use Rattle.std.proofs.Common.{◌≡◌, ℕ, ◌+◌, ◌-◌, ◌<◌, ◌≤◌, Bool, true, false, ◌&&◌, ◌||◌, leb, List, All, IsTrue, ◌↔◌, ◌⊎◌, inl, inr, length, get_or, take, refl, sym, ap, subst, ◌∙◌, arith, length-take}
+use Rattle.std.proofs.Common.{◌≡◌, ℕ, ◌+◌, ◌-◌, ◌<◌, ◌≤◌, Bool, true, false, ◌&&◌, ◌||◌, leb, List, All, IsTrue, ◌↔◌, ◌⊎◌, inl, inr, length, get_or, take, refl, subst, arith, length-take}
 use Rattle.std.proofs.Math.Seq.{take-take}
 use Rattle.std.proofs.lemmas.Bool.{leb-true, le-leb}
 use Rattle.std.proofs.lemmas.List.{get_or-take}
 use Rattle.std.proofs.lemmas.List.Elements.{All-more, All-take}
-use Rattle.trace.specs.Spelling.{digit}
 use Rattle.trace.specs.Words.{IsDigit}
 use Rattle.trace.proofs.Digits.{digit_cases, digit_high, digit_low}
 

@@ -1,5 +1,5 @@
 -- Runs whose records go out as text, one after another.
-use Rattle.std.proofs.Common.{◌≡◌, ℕ, ◌+◌, ◌<◌, ◌≤◌, List, [], ◌∷◌, ◌++◌, Option, None, Some, Result, Ok, Err, length, map, take, drop, min, refl, sym, ap, subst, ◌∙◌, append-nil, arith, drop-drop, length-drop, Bool, true, false, ◌⊎◌, inl, inr, ◌↔◌, IsTrue}
+use Rattle.std.proofs.Common.{◌≡◌, ℕ, ◌+◌, ◌≤◌, List, [], ◌++◌, Option, None, Some, Result, length, map, take, drop, refl, sym, ap, subst, ◌∙◌, append-nil, arith, drop-drop, length-drop, Bool, false, ◌⊎◌, inl, inr, ◌↔◌, IsTrue}
 use Rattle.std.proofs.Math.Seq.{take-add, take-take}
 use Rattle.std.proofs.lemmas.List.{map-append, take_all}
 use Rattle.std.specs.Io.KnownBytes.{Appends, Keeps}
@@ -8,7 +8,6 @@ use Rattle.board.specs.declared.event.Event.{Event}
 use Rattle.board.specs.declared.reply.Record.{Record}
 use Rattle.board.specs.declared.reply.RunStop.{RunStop}
 use Rattle.board.specs.declared.spec.SlotSpec.{SlotSpec}
-use Rattle.board.specs.Image.{Tells}
 use Rattle.board.specs.Line.{IsRun, events_done}
 use Rattle.board.specs.Slot.{opened}
 use Rattle.board.specs.World.{BoardState, World, world_of}

@@ -1,7 +1,6 @@
-use Rattle.std.proofs.Common.{length, ap, ◌∙◌, arith}
-use Rattle.std.specs.Option.{option_copied}
-use Rattle.trace.specs.Cuts.{fields_left, fields_of}
-use Rattle.trace.proofs.Cutting.{cut_found, cut_unfound, fields_found}
+use Rattle.std.proofs.Common.{arith}
+use Rattle.trace.specs.Cuts.{fields_of}
+use Rattle.trace.proofs.Cutting.{cut_unfound, fields_found}
 use Rattle.trace.proofs.cut.one.Goals as goal
 
 pub returns-in-Some-clause-none : goal.returns-in-Some-clause-none

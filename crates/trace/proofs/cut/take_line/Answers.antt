@@ -1,4 +1,3 @@
-use Rattle.std.proofs.Common.{arith}
 use Rattle.std.proofs.lemmas.List.{take_rest}
 use Rattle.trace.specs.Cuts.{lines_of}
 use Rattle.trace.proofs.Cutting.{cut_found, cut_unfound}

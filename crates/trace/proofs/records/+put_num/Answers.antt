@@ -1,4 +1,4 @@
-use Rattle.std.proofs.Common.{◌∷◌, [], ◌++◌, ℕ, List, ap, sym, ◌∙◌, arith}
+use Rattle.std.proofs.Common.{◌∷◌, [], ℕ, ap, sym, ◌∙◌, arith}
 use Rattle.trace.proofs.Numbers.{num_digit, num_split}
 use Rattle.trace.proofs.Passing.{sends_more, sends_same}
 use Rattle.trace.proofs.records.+put_num.Goals as goal

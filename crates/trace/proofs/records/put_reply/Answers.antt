@@ -1,5 +1,3 @@
-use Rattle.trace.specs.Records.{reply_field}
-use Rattle.trace.specs.Sends.{Sends}
 use Rattle.trace.proofs.Passing.{sends_more}
 use Rattle.trace.proofs.records.put_reply.Goals as goal
 
