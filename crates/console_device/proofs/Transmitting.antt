@@ -1,12 +1,10 @@
 -- Readable bytes of a chain on their way out.
-use Rattle.std.proofs.Common.{◌≡◌, ℕ, ◌+◌, ◌<◌, ◌≤◌, get_or, arith, Bool, if◌then◌else◌, false, true, List, [], ◌∷◌, ◌++◌, length, sum_by, drop, Option, None, refl, sym, ap, ◌∙◌, append_assoc}
-use Rattle.std.specs.List.{flat_map}
-use Rattle.std.proofs.lemmas.List.{drop_more, length-replicate, length-append}
-use Rattle.std.proofs.lemmas.List.Sums.{sum_by-cons}
-use Rattle.guest_memory.specs.Memory.{Memory, part_of}
-use Rattle.chain.specs.declared.segment.Segment.{Segment}
+use Rattle.std.proofs.Common.{◌≡◌, ℕ, ◌+◌, ◌≤◌, arith, false, List, ◌++◌, length, take, drop, Option, None, refl, sym, ap, ◌∙◌, append_assoc}
+use Rattle.std.proofs.lemmas.List.{length-replicate, length-append, length-take, length-drop, take_all}
+use Rattle.guest_memory.specs.Memory.{Memory}
+use Rattle.guest_memory.proofs.Ranges.{take-plus}
 use Rattle.chain.specs.declared.segment.Buffer.{Buffer}
-use Rattle.chain.specs.Bytes.{readable_of, writable_of, len_of, segments_of}
+use Rattle.chain.specs.Bytes.{readable_of, writable_of}
 use Rattle.chain.specs.Service.{Does}
 use Rattle.chain.proofs.Partial.{unwritten, scattered-unwritten, wrote-unwritten}
 use Rattle.console_device.specs.Device.{transmit}
@@ -26,42 +24,30 @@ transmit_does m buffers out more out_is =
       any_is = sym (wrote-unwritten w);
     }
 
--- The readable bytes of the first i buffers are out, and there is room for the others.
-pub record IsPuttingOut (m : Memory) (buffers : List Buffer) (i : ℕ) (before now : List ℕ) (capacity : ℕ) : Type 0 where
-  pub out : now ++ readable_of m (drop i buffers) ≡ before ++ readable_of m buffers
-  pub room : length now + len_of false (drop i buffers) ≤ capacity
+-- The first bytes of a list are out, and there is room for the others.
+pub record IsPuttingOut (list : List ℕ) (done : ℕ) (before now : List ℕ) (capacity : ℕ) : Type 0 where
+  pub within : done ≤ length list
+  pub out : now ≡ before ++ take done list
+  pub room : length before + length list ≤ capacity
 
--- a buffer that is passed over, and one whose bytes go out
-module _ (m : Memory) (buffers : List Buffer) (i : ℕ) (b : Buffer) (here : i < length buffers) (is : b ≡ get_or buffers i b) where
-  next : drop i buffers ≡ b ∷ drop (i + 1) buffers
-  next = drop_more buffers i b here ∙ ap (λ (x : Buffer). x ∷ drop (i + 1) buffers) (sym is)
+module _ (list : List ℕ) (done : ℕ) (before now : List ℕ) (capacity : ℕ) (h : IsPuttingOut list done before now capacity) (part : List ℕ) (is : part ≡ take (length part) (drop done list)) where
+  -- the next bytes are some of the others
+  next : done + length part ≤ length list
+  next = let e = ap (λ (l : List ℕ). length l) is ∙ length-take (length part) (drop done list) in omega (arith, e, length-drop done list, h.within)
 
-  skipped : b.writable ≡ true → segments_of false (drop i buffers) ≡ segments_of false (drop (i + 1) buffers)
-  skipped w = ap (segments_of false) next ∙ ap (λ (v : Bool). if v then segments_of false (drop (i + 1) buffers) else b.segment ∷ segments_of false (drop (i + 1) buffers)) w
+  pub room_for : length now + length part ≤ capacity
+  room_for = let e = ap (λ (l : List ℕ). length l) h.out ∙ length-append before (take done list) in omega (arith, e, length-take done list, next, h.room)
 
-  taken : b.writable ≡ false → segments_of false (drop i buffers) ≡ b.segment ∷ segments_of false (drop (i + 1) buffers)
-  taken w = ap (segments_of false) next ∙ ap (λ (v : Bool). if v then segments_of false (drop (i + 1) buffers) else b.segment ∷ segments_of false (drop (i + 1) buffers)) w
+  -- and then they are out as well
+  pub put_out_more : (more : List ℕ) (larger : ℕ) → more ≡ now ++ part → capacity ≤ larger → IsPuttingOut list (done + length part) before more larger
+  put_out_more more larger put grows = record {
+    within = next;
+    out =
+        put ∙ ap (λ l. l ++ part) h.out ∙ append_assoc before (take done list) part
+        ∙ ap (λ l. before ++ l) (ap (λ l. take done list ++ l) is ∙ sym (take-plus done (length part) list));
+    room = omega (arith, h.room);
+  }
 
-  owed : b.writable ≡ false → len_of false (drop i buffers) ≡ b.segment.len + len_of false (drop (i + 1) buffers)
-  owed w = ap (λ (ss : List Segment). sum_by (λ (s : Segment). s.len) ss) (taken w) ∙ sum_by-cons (λ (s : Segment). s.len) b.segment (segments_of false (drop (i + 1) buffers))
-
-  pub passed_over : (before now : List ℕ) (capacity : ℕ) → IsPuttingOut m buffers i before now capacity → b.writable ≡ true
-      → IsPuttingOut m buffers (i + 1) before now capacity
-  passed_over before now capacity h w = let e = skipped w in record { out = rw e at h.out; room = rw e at h.room }
-
-  pub room_for : (before now : List ℕ) (capacity : ℕ) → IsPuttingOut m buffers i before now capacity → b.writable ≡ false
-      → length now + b.segment.len ≤ capacity
-  room_for before now capacity h w = omega (arith, h.room, owed w)
-
-  pub put_out_more : (before now more : List ℕ) (capacity larger : ℕ) → IsPuttingOut m buffers i before now capacity → b.writable ≡ false
-      → more ≡ now ++ part_of m b.segment.addr b.segment.len → length (part_of m b.segment.addr b.segment.len) ≡ b.segment.len → capacity ≤ larger
-      → IsPuttingOut m buffers (i + 1) before more larger
-  put_out_more before now more capacity larger h w more_is size grows =
-      let part = part_of m b.segment.addr b.segment.len in
-      let rest = readable_of m (drop (i + 1) buffers) in
-      let whole : now ++ (part ++ rest) ≡ before ++ readable_of m buffers =
-      ap (λ (ss : List Segment). now ++ flat_map (λ s. part_of m s.addr s.len) ss) (sym (taken w)) ∙ h.out in
-      record {
-        out = rw more_is (append_assoc now part rest ∙ whole);
-        room = let e : length more ≡ length now + length part = ap length more_is ∙ length-append now part in omega (arith, e, size, grows, h.room, owed w);
-      }
+-- all are out
+pub put_out_all : (list : List ℕ) (done : ℕ) (before now : List ℕ) (capacity : ℕ) → IsPuttingOut list done before now capacity → length list ≤ done → now ≡ before ++ list
+put_out_all list done before now capacity h all = h.out ∙ ap (λ l. before ++ l) (take_all done list all)

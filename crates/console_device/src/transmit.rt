@@ -6,7 +6,7 @@ ghost use Rattle.chain.specs.Bytes.{readable_of};
 
 use crate::no_memory::NoMemory;
 use crate::stream::{Answer, Stream};
-use chain::{Chain, Segment};
+use chain::Chain;
 use guest_memory::GuestMemory;
 use std::alloc::Allocator;
 
@@ -42,16 +42,17 @@ fn put_out<M: Allocator, A: Allocator>(
     ensures err { OnErr result (out.new.items ≡ out.old.items) }
     ensures owed { OnErr result (readable_of mem.now chain.now ≢ []) }
 {
-    let Ok(()) = out.reserve(chain.readable_len() as usize) else {
+    let len = chain.readable_len();
+    let Ok(()) = out.reserve(len as usize) else {
         return Err(NoMemory);
     };
-    for buffer in chain.buffers() {
-        if !buffer.writable {
-            let Segment { addr, len } = buffer.segment;
-            let Ok(()) = out.extend_from_slice(mem.slice(addr, u64::from(len))) else {
-                unreachable!()
-            };
-        }
+    let mut done = 0;
+    while done < len {
+        let part = chain.read_part(mem, done);
+        let Ok(()) = out.extend_from_slice(part) else {
+            unreachable!()
+        };
+        done += part.len() as u64;
     }
     Ok(())
 }

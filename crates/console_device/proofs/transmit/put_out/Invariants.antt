@@ -1,6 +1,10 @@
-use Rattle.std.specs.Prelude.{vec_capacity}
+use Rattle.std.specs.Prelude.{vec_capacity, ◌-◌}
+use Rattle.chain.specs.Bytes.{readable_of}
 use Rattle.console_device.proofs.Transmitting.{IsPuttingOut}
 use Rattle.console_device.proofs.transmit.put_out.Given as goal
 
-abbrev pub invariant-loop-buffer : goal.invariant-loop-buffer
-invariant-loop-buffer g l = IsPuttingOut l.mem l.chain l.buffer-index l.fn.out.items l.out.items (vec_capacity l.out)
+abbrev pub invariant-loop-done : goal.invariant-loop-done
+invariant-loop-done g l = IsPuttingOut (readable_of l.mem l.chain) l.done l.fn.out.items l.out.items (vec_capacity l.out)
+
+abbrev pub decreases-loop-done : goal.decreases-loop-done
+decreases-loop-done g l = l.len - l.done
