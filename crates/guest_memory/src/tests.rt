@@ -7,8 +7,16 @@ ghost use Rattle.guest_memory.specs.Memory.{Inside, put};
 use crate::{GuestMemory, MemoryFault, fault_of};
 use refusing::RefusingHeap;
 use std::alloc::Allocator;
+use std::fmt::Debug;
+use std::process::Abort;
 
 const BASE: u64 = 0x8000_0000;
+
+/// Tells of which row something else was found than what is wanted. The one assertion with a message: a message
+/// is dear to prove.
+fn same<R: Debug, T: PartialEq + Debug>(rt: &impl Abort, row: &R, found: &T, wanted: &T) {
+    assert_eq!(rt; found, wanted, "{row:?}");
+}
 
 /// Writes "virt" through a lent slice. That the memory gains just these bytes is proved from the
 /// contract of `part_mut` alone.
@@ -40,17 +48,24 @@ fn the_largest_memory_is_made(rt: HostRuntime) -> Result<(), MemoryFault> {
 #[test]
 fn numbers_are_little_endian_at_any_address(rt: HostRuntime) -> Result<(), MemoryFault> {
     let mut memory = GuestMemory::new(rt.alloc(), BASE, 4096)?;
-    assert!(rt; memory.put_u16(BASE + 1, 0x0102));
-    assert!(rt; memory.put_u32(BASE + 5, 0x0304_0506));
-    assert!(rt; memory.put_u64(BASE + 11, 0x0708_090a_0b0c_0d0e));
+    let put = [
+        memory.put_u16(BASE + 1, 0x0102),
+        memory.put_u32(BASE + 5, 0x0304_0506),
+        memory.put_u64(BASE + 11, 0x0708_090a_0b0c_0d0e),
+    ];
+    assert_eq!(rt; put, [true; 3]);
     let want = [
         0x00, 0x02, 0x01, 0x00, 0x00, 0x06, 0x05, 0x04, 0x03, 0x00, 0x00, 0x0e, 0x0d, 0x0c, 0x0b,
         0x0a, 0x09, 0x08, 0x07, 0x00,
     ];
     assert!(rt; memory.part(BASE, 20) == Some(want.as_slice()));
-    assert_eq!(rt; memory.get_u16(BASE + 1), Some(0x0102));
-    assert_eq!(rt; memory.get_u32(BASE + 5), Some(0x0304_0506));
-    assert_eq!(rt; memory.get_u64(BASE + 11), Some(0x0708_090a_0b0c_0d0e));
+    let read = (
+        memory.get_u16(BASE + 1),
+        memory.get_u32(BASE + 5),
+        memory.get_u64(BASE + 11),
+    );
+    let want = (Some(0x0102), Some(0x0304_0506), Some(0x0708_090a_0b0c_0d0e));
+    assert_eq!(rt; read, want);
     Ok(())
 }
 
@@ -58,42 +73,51 @@ fn numbers_are_little_endian_at_any_address(rt: HostRuntime) -> Result<(), Memor
 fn a_number_must_lie_inside_whole(rt: HostRuntime) -> Result<(), MemoryFault> {
     let mut memory = GuestMemory::new(rt.alloc(), BASE, 4096)?;
     assert!(rt; memory.put_u16(BASE + 4094, 0xffff));
-    assert!(rt; !memory.put_u16(BASE + 4095, 0x1111));
-    assert!(rt; !memory.put_u32(BASE + 4093, 0x1111_1111));
-    assert!(rt; !memory.put_u64(BASE + 4089, 0x1111_1111_1111_1111));
-    assert!(rt; !memory.put_u16(BASE - 1, 0x1111));
-    assert_eq!(rt; memory.get_u64(BASE + 4088), Some(0xffff_0000_0000_0000));
-    assert_eq!(rt; memory.get_u64(BASE), Some(0));
-    assert_eq!(rt; memory.get_u16(BASE + 4095), None);
-    assert_eq!(rt; memory.get_u32(u64::MAX), None);
+    let put = [
+        memory.put_u16(BASE + 4095, 0x1111),
+        memory.put_u32(BASE + 4093, 0x1111_1111),
+        memory.put_u64(BASE + 4089, 0x1111_1111_1111_1111),
+        memory.put_u16(BASE - 1, 0x1111),
+    ];
+    assert_eq!(rt; put, [false; 4]);
+    let inside = [memory.get_u64(BASE + 4088), memory.get_u64(BASE)];
+    assert_eq!(rt; inside, [Some(0xffff_0000_0000_0000), Some(0)]);
+    let outside = (memory.get_u16(BASE + 4095), memory.get_u32(u64::MAX));
+    assert_eq!(rt; outside, (None, None));
     Ok(())
 }
+
+/// An address, a number of bytes, and whether they lie in a memory of 4096 bytes.
+type Range = (u64, u64, bool);
+
+const RANGES: [Range; 12] = [
+    (BASE, 4096, true),
+    (BASE, 4097, false),
+    (BASE - 1, 1, false),
+    (BASE - 1, 0, false),
+    (BASE, 0, true),
+    (BASE + 4095, 1, true),
+    (BASE + 4095, 2, false),
+    (BASE + 4096, 0, true),
+    (BASE + 4097, 0, false),
+    (u64::MAX, 0, false),
+    (u64::MAX, 2, false),
+    (BASE, u64::MAX, false),
+];
 
 #[test]
 fn ranges_at_both_ends(rt: HostRuntime) -> Result<(), MemoryFault> {
     let memory = GuestMemory::new(rt.alloc(), BASE, 4096)?;
-    for (addr, n, want) in [
-        (BASE, 4096, true),
-        (BASE, 4097, false),
-        (BASE - 1, 1, false),
-        (BASE - 1, 0, false),
-        (BASE, 0, true),
-        (BASE + 4095, 1, true),
-        (BASE + 4095, 2, false),
-        (BASE + 4096, 0, true),
-        (BASE + 4097, 0, false),
-        (u64::MAX, 0, false),
-        (u64::MAX, 2, false),
-        (BASE, u64::MAX, false),
-    ] {
-        assert_eq!(rt; memory.holds(addr, n), want, "{n} bytes at {addr:x}");
-        assert_eq!(rt;
-            memory.part(addr, n).is_some(),
-            want,
-            "{n} bytes at {addr:x}"
-        );
+    for range in &RANGES {
+        check_range(&rt, &memory, range);
     }
     Ok(())
+}
+
+fn check_range(rt: &impl Abort, memory: &GuestMemory, range: &Range) {
+    let (addr, n, lies) = *range;
+    let found = (memory.holds(addr, n), memory.part(addr, n).is_some());
+    same(rt, range, &found, &(lies, lies));
 }
 
 #[test]
@@ -119,22 +143,25 @@ fn what_is_written_through_a_lent_slice_stands(rt: HostRuntime) -> Result<(), Me
     Ok(())
 }
 
+/// The base and the length of a memory, and its fault.
+type Made = (u64, u64, Option<MemoryFault>);
+
+const MADE: [Made; 9] = [
+    (BASE, 0, Some(MemoryFault::BadSize)),
+    (BASE, 4095, Some(MemoryFault::BadSize)),
+    (BASE, 0x1800, Some(MemoryFault::BadSize)),
+    (BASE, (1 << 28) + 4096, Some(MemoryFault::BadSize)),
+    (BASE + 0x800, 0x1800, Some(MemoryFault::BadSize)),
+    (BASE + 0x800, 0x1000, Some(MemoryFault::BadBase)),
+    (0xffff_ffff_ffff_f000, 0x2000, Some(MemoryFault::BadBase)),
+    (0xffff_ffff_ffff_f000, 0x1000, None),
+    (0, 4096, None),
+];
+
 #[test]
 fn the_first_fault_counts(rt: HostRuntime) {
-    let bad_size = Some(MemoryFault::BadSize);
-    let bad_base = Some(MemoryFault::BadBase);
-    for (base, len, want) in [
-        (BASE, 0, bad_size),
-        (BASE, 4095, bad_size),
-        (BASE, 0x1800, bad_size),
-        (BASE, (1 << 28) + 4096, bad_size),
-        (BASE + 0x800, 0x1800, bad_size),
-        (BASE + 0x800, 0x1000, bad_base),
-        (0xffff_ffff_ffff_f000, 0x2000, bad_base),
-        (0xffff_ffff_ffff_f000, 0x1000, None),
-        (0, 4096, None),
-    ] {
-        assert_eq!(rt; fault_of(base, len), want, "{len} bytes at {base:x}");
+    for made in &MADE {
+        same(&rt, made, &fault_of(made.0, made.1), &made.2);
     }
 }
 

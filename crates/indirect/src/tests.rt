@@ -4,6 +4,7 @@ use crate::{Descriptor, append_packed, append_split};
 use chain::{Buffer, Chain, Fault, Segment};
 use guest_memory::GuestMemory;
 use std::alloc::Allocator;
+use std::fmt::Debug;
 use std::process::Abort;
 use std::test::Fail;
 
@@ -30,6 +31,12 @@ const PACKED_REQUEST: [u64; 6] = [
     0x8000_6000,
     0x0002_0009_0000_0001,
 ];
+
+/// Tells of which row something else was found than what is wanted. The one assertion with a message: a message
+/// is dear to prove.
+fn same<R: Debug, T: PartialEq + Debug>(rt: &impl Abort, row: &R, found: &T, wanted: &T) {
+    assert_eq!(rt; found, wanted, "{row:?}");
+}
 
 const fn buffer(addr: u64, len: u32, writable: bool) -> Buffer {
     Buffer {
@@ -90,62 +97,67 @@ fn a_descriptor_is_read_field_by_field(rt: HostRuntime) -> Result<(), Fail> {
     Ok(())
 }
 
+/// The address and the length of what is no table, and the fault of each layout.
+type BadRange = (u64, u32, Fault);
+
+const BAD_RANGES: [BadRange; 5] = [
+    (TABLE, 0, Fault::Table),
+    (TABLE, 8, Fault::Table),
+    (TABLE, 0x1010, Fault::Table),
+    (BASE + 0xfff0, 0x20, Fault::Range),
+    (BASE + 0xfff0, 0x18, Fault::Table),
+];
+
 #[test]
 fn a_bad_range_is_no_table(rt: HostRuntime) -> Result<(), Fail> {
     let mem = GuestMemory::new(rt.alloc(), BASE, 0x1_0000)?;
-    let mut chain = Chain::new();
-    for len in [0, 8, 0x1010] {
-        assert_eq!(rt;
-            append_split(&mem, TABLE, len, &mut chain),
-            Err(Fault::Table),
-            "at {len}"
-        );
-        assert_eq!(rt;
-            append_packed(&mem, TABLE, len, &mut chain),
-            Err(Fault::Table),
-            "at {len}"
-        );
+    for range in &BAD_RANGES {
+        check_bad_range(&rt, &mem, range);
     }
-    assert_eq!(rt;
-        append_split(&mem, BASE + 0xfff0, 0x20, &mut chain),
-        Err(Fault::Range)
-    );
-    assert_eq!(rt;
-        append_packed(&mem, BASE + 0xfff0, 0x20, &mut chain),
-        Err(Fault::Range)
-    );
-    assert_eq!(rt;
-        append_split(&mem, BASE + 0xfff0, 0x18, &mut chain),
-        Err(Fault::Table)
-    );
-    assert_eq!(rt; chain.buffers().len(), 0);
     Ok(())
 }
+
+fn check_bad_range(rt: &impl Abort, mem: &GuestMemory, range: &BadRange) {
+    let (addr, len, fault) = *range;
+    let mut chain = Chain::new();
+    let split = append_split(mem, addr, len, &mut chain);
+    let packed = append_packed(mem, addr, len, &mut chain);
+    same(rt, range, &(split, packed), &(Err(fault), Err(fault)));
+    same(rt, range, &chain.buffers().len(), &0);
+}
+
+/// A table of two, its fault, and how many buffers come before it.
+type BadTable = ([u64; 4], Fault, usize);
+
+const BAD_TABLES: [BadTable; 3] = [
+    // NEXT to index 2.
+    ([BASE, 0x0002_0001_0000_0004, BASE, 4], Fault::Index, 1),
+    // A circle.
+    (
+        [BASE, 0x0001_0001_0000_0004, BASE, 0x0000_0001_0000_0004],
+        Fault::Loop,
+        2,
+    ),
+    // INDIRECT in the first descriptor, and NEXT.
+    ([BASE, 0x0001_0005_0000_0010, BASE, 4], Fault::Nested, 0),
+];
 
 #[test]
 fn a_split_table_has_its_fault(rt: HostRuntime) -> Result<(), Fail> {
     let mut mem = GuestMemory::new(rt.alloc(), BASE, 0x1_0000)?;
-    // NEXT to index 2 of a table of two; a circle of two; INDIRECT in the first descriptor, and NEXT.
-    let cases: [([u64; 4], Fault, usize); 3] = [
-        ([BASE, 0x0002_0001_0000_0004, BASE, 4], Fault::Index, 1),
-        (
-            [BASE, 0x0001_0001_0000_0004, BASE, 0x0000_0001_0000_0004],
-            Fault::Loop,
-            2,
-        ),
-        ([BASE, 0x0001_0005_0000_0010, BASE, 4], Fault::Nested, 0),
-    ];
-    for (words, fault, taken) in cases {
-        put_table(&rt, &mut mem, &words);
-        let mut chain = Chain::new();
-        assert_eq!(rt;
-            append_split(&mem, TABLE, 0x20, &mut chain),
-            Err(fault),
-            "{fault}"
-        );
-        assert_eq!(rt; chain.buffers().len(), taken, "{fault}");
+    for table in &BAD_TABLES {
+        check_bad_table(&rt, &mut mem, table);
     }
     Ok(())
+}
+
+fn check_bad_table(rt: &impl Abort, mem: &mut GuestMemory, table: &BadTable) {
+    let (words, fault, taken) = table;
+    put_table(rt, mem, words);
+    let mut chain = Chain::new();
+    let met = append_split(mem, TABLE, 0x20, &mut chain);
+    same(rt, table, &met, &Err(*fault));
+    same(rt, table, &chain.buffers().len(), taken);
 }
 
 #[test]
@@ -164,31 +176,29 @@ fn a_packed_table_heeds_write_alone(rt: HostRuntime) -> Result<(), Fail> {
     Ok(())
 }
 
+/// The first entry is a buffer, and the second one's isn't inside memory.
+const ONE_GOOD: [u64; 4] = [BASE, 0x0001_0001_0000_0004, BASE + 0x1_0001, 0];
+
 #[test]
 fn a_refused_buffer_leaves_those_before_it(rt: HostRuntime) -> Result<(), Fail> {
     let mut mem = GuestMemory::new(rt.alloc(), BASE, 0x1_0000)?;
-    put_table(
-        &rt,
-        &mut mem,
-        &[BASE, 0x0001_0001_0000_0004, BASE + 0x1_0001, 0],
-    );
+    put_table(&rt, &mut mem, &ONE_GOOD);
     let mut chain = Chain::new();
-    assert_eq!(rt;
-        append_split(&mem, TABLE, 0x20, &mut chain),
-        Err(Fault::Range)
-    );
+    let split = append_split(&mem, TABLE, 0x20, &mut chain);
+    same(&rt, &"split", &split, &Err(Fault::Range));
     assert_eq!(rt; chain.buffers(), [buffer(BASE, 4, false)].as_slice());
-    assert_eq!(rt;
-        append_packed(&mem, TABLE, 0x20, &mut chain),
-        Err(Fault::Range)
-    );
-    assert_eq!(rt; chain.buffers().len(), 2);
-    for _ in 0..254 {
-        chain.push(&mem, BASE, 0, true)?;
+    let packed = append_packed(&mem, TABLE, 0x20, &mut chain);
+    same(&rt, &"packed", &packed, &Err(Fault::Range));
+    same(&rt, &"one each", &chain.buffers().len(), &2);
+    push_all(&mem, &mut chain, 254)?;
+    let full = append_split(&mem, TABLE, 0x20, &mut chain);
+    same(&rt, &"full", &full, &Err(Fault::TooMany));
+    Ok(())
+}
+
+fn push_all(mem: &GuestMemory, chain: &mut Chain, count: u16) -> Result<(), Fault> {
+    for _ in 0..count {
+        chain.push(mem, BASE, 0, true)?;
     }
-    assert_eq!(rt;
-        append_split(&mem, TABLE, 0x20, &mut chain),
-        Err(Fault::TooMany)
-    );
     Ok(())
 }

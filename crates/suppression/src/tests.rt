@@ -2,14 +2,24 @@
 
 use crate::{packed_wants, split_wants};
 use guest_memory::GuestMemory;
+use std::fmt::Debug;
+use std::process::Abort;
 use std::test::Fail;
 
 const BASE: u64 = 0x8000_0000;
 
 const AREA: u64 = BASE + 0x2000;
 
+/// Tells of which row something else was found than what is wanted. The one assertion with a message: a message
+/// is dear to prove.
+fn same<R: Debug, T: PartialEq + Debug>(rt: &impl Abort, row: &R, found: &T, wanted: &T) {
+    assert_eq!(rt; found, wanted, "{row:?}");
+}
+
 /// used_event, the number of places used from 65534 on, and whether a notification is wanted.
-const SPLIT_EVENTS: [(u16, u16, bool); 6] = [
+type SplitEvent = (u16, u16, bool);
+
+const SPLIT_EVENTS: [SplitEvent; 6] = [
     (65535, 2, true),
     (0, 2, false),
     (65533, 2, false),
@@ -22,18 +32,25 @@ const SPLIT_EVENTS: [(u16, u16, bool); 6] = [
 #[test]
 fn split_driver_names_a_place(rt: HostRuntime) -> Result<(), Fail> {
     let mut mem = GuestMemory::new(rt.alloc(), BASE, 0x1_0000)?;
-    for (used_event, count, wanted) in SPLIT_EVENTS {
-        assert!(rt; mem.put_u16(AREA + 12, used_event));
-        assert!(rt; mem.holds(AREA, 14));
-        let wants = split_wants(&mem, AREA, 4, true, 65534, count);
-        assert_eq!(rt; wants, wanted, "{count} places, used_event {used_event}");
+    for event in &SPLIT_EVENTS {
+        check_split_event(&rt, &mut mem, event);
     }
     Ok(())
 }
 
+fn check_split_event(rt: &impl Abort, mem: &mut GuestMemory, event: &SplitEvent) {
+    let (used_event, count, wanted) = *event;
+    assert!(rt; mem.put_u16(AREA + 12, used_event));
+    assert!(rt; count <= 4 && mem.holds(AREA, 14));
+    let wants = split_wants(mem, AREA, 4, true, 65534, count);
+    same(rt, event, &wants, &wanted);
+}
+
 /// The flags; whether VIRTIO_F_EVENT_IDX was negotiated; used_event; the number of places used from 7 on; and
 /// whether a notification is wanted.
-const SPLIT_FLAGS: [(u16, bool, u16, u16, bool); 20] = [
+type SplitFlags = (u16, bool, u16, u16, bool);
+
+const SPLIT_FLAGS: [SplitFlags; 20] = [
     (0, false, 7, 1, true),
     (1, false, 7, 1, false),
     (2, false, 7, 1, true),
@@ -61,23 +78,26 @@ const SPLIT_FLAGS: [(u16, bool, u16, u16, bool); 20] = [
 #[test]
 fn split_driver_sets_flags(rt: HostRuntime) -> Result<(), Fail> {
     let mut mem = GuestMemory::new(rt.alloc(), BASE, 0x1_0000)?;
-    for (flags, event_idx, used_event, count, wanted) in SPLIT_FLAGS {
-        assert!(rt; mem.put_u16(AREA, flags));
-        assert!(rt; mem.put_u16(AREA + 12, used_event));
-        assert!(rt; count <= 4 && mem.holds(AREA, 14));
-        let wants = split_wants(&mem, AREA, 4, event_idx, 7, count);
-        assert_eq!(rt;
-            wants,
-            wanted,
-            "{count} places, flags {flags:x}, used_event {used_event}"
-        );
+    for flags in &SPLIT_FLAGS {
+        check_split_flags(&rt, &mut mem, flags);
     }
     Ok(())
 }
 
+fn check_split_flags(rt: &impl Abort, mem: &mut GuestMemory, row: &SplitFlags) {
+    let (flags, event_idx, used_event, count, wanted) = *row;
+    assert!(rt; mem.put_u16(AREA, flags));
+    assert!(rt; mem.put_u16(AREA + 12, used_event));
+    assert!(rt; count <= 4 && mem.holds(AREA, 14));
+    let wants = split_wants(mem, AREA, 4, event_idx, 7, count);
+    same(rt, row, &wants, &wanted);
+}
+
 /// In a ring of 3, whose places are 0 to 5: offset and wrap counter, flags, whether VIRTIO_F_EVENT_IDX was
 /// negotiated, the first place, the number of places passed, and whether a notification is wanted.
-const PACKED: [(u16, u16, bool, u16, u16, bool); 34] = [
+type Packed = (u16, u16, bool, u16, u16, bool);
+
+const PACKED: [Packed; 34] = [
     // Places 1, 2 and 3 are passed. Offset 0 names place 3 with a wrap counter of 0, and place 0 with 1.
     (0x0000, 0, false, 1, 3, true),
     (0x0000, 1, false, 1, 3, false),
@@ -121,16 +141,17 @@ const PACKED: [(u16, u16, bool, u16, u16, bool); 34] = [
 #[test]
 fn packed_driver_asks(rt: HostRuntime) -> Result<(), Fail> {
     let mut mem = GuestMemory::new(rt.alloc(), BASE, 0x1_0000)?;
-    for (event, flags, event_idx, from, passed, wanted) in PACKED {
-        assert!(rt; mem.put_u16(AREA, event));
-        assert!(rt; mem.put_u16(AREA + 2, flags));
-        assert!(rt; from < 6 && passed < 6 && mem.holds(AREA, 4));
-        let wants = packed_wants(&mem, AREA, 3, event_idx, from, passed);
-        assert_eq!(rt;
-            wants,
-            wanted,
-            "{passed} places from {from}, event {event:x}, flags {flags:x}"
-        );
+    for row in &PACKED {
+        check_packed(&rt, &mut mem, row);
     }
     Ok(())
+}
+
+fn check_packed(rt: &impl Abort, mem: &mut GuestMemory, row: &Packed) {
+    let (event, flags, event_idx, from, passed, wanted) = *row;
+    assert!(rt; mem.put_u16(AREA, event));
+    assert!(rt; mem.put_u16(AREA + 2, flags));
+    assert!(rt; from < 6 && passed < 6 && mem.holds(AREA, 4));
+    let wants = packed_wants(mem, AREA, 3, event_idx, from, passed);
+    same(rt, row, &wants, &wanted);
 }
