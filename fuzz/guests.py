@@ -26,9 +26,14 @@ OK, IOERR = 0, 1
 IDENTITY_TEXT = b"vreplay-block".ljust(20, b"\0")
 PENDING_LIMIT = 4096
 
-ODD_NUMBERS = [0, 1, 2, 3, 4, 15, 16, 17, 255, 256, 257, 0x7FFF, 0x8000, 0xFFFF, 0x10000, 0x7FFFFFFF, 0x80000000, 0xFFFFFFFF]
-REGISTERS = [0x000, 0x004, 0x008, 0x00C, 0x010, 0x014, 0x020, 0x024, 0x030, 0x034, 0x038, 0x044, 0x050, 0x060, 0x064, 0x070,
-             0x080, 0x084, 0x090, 0x094, 0x0A0, 0x0A4, 0x0AC, 0x0B0, 0x0BC, 0x0FC, 0x100, 0x104, 0x108, 0x10C, 0x114, 0x130]
+# What a hostile guest picks from.
+ODD_TYPES = [0, 0, 0, 1, 1, 4, 8, 11, 13, 1 << 31]
+ODD_STATUSES = [0, 1, 3, 4, 8, 0xB, 0xF, 0x40, 0x80, 0xFF, 0xFFFFFFFF]
+ODD_NUMBERS = [0, 1, 2, 3, 4, 15, 16, 17, 255, 256, 257, 0x7FFF, 0x8000, 0xFFFF, 0x10000, 0x7FFFFFFF,
+               0x80000000, 0xFFFFFFFF]
+REGISTERS = [0x000, 0x004, 0x008, 0x00C, 0x010, 0x014, 0x020, 0x024, 0x030, 0x034, 0x038, 0x044, 0x050, 0x060, 0x064,
+             0x070, 0x080, 0x084, 0x090, 0x094, 0x0A0, 0x0A4, 0x0AC, 0x0B0, 0x0BC, 0x0FC, 0x100, 0x104, 0x108, 0x10C,
+             0x114, 0x130]
 
 
 class Guest:
@@ -63,13 +68,15 @@ class Driver:
 
     def __init__(self, guest, window, offered, places):
         dice, self.guest, self.window = guest.dice, guest, window
-        self.low = (offered.block if window == "b" else offered.console) & dice.choice([0, INDIRECT_DESC, EVENT_IDX, 0xFFFFFFFF])
+        low = offered.block if window == "b" else offered.console
+        self.low = low & dice.choice([0, INDIRECT_DESC, EVENT_IDX, 0xFFFFFFFF])
         is_packed = bool(offered.high & RING_PACKED) and dice.random() < 0.5
-        self.high = VERSION_1 | (RING_PACKED if is_packed else 0) | (offered.high & dice.choice([0, 0, NOTIFICATION_DATA]))
-        kind = PackedQueue if is_packed else SplitQueue
-        self.queues = [
-            kind(guest, window, number, dice.choice(kind.SIZES), guest.slot.base + place, bool(self.low & INDIRECT_DESC))
-            for number, place in enumerate(places)]
+        self.high = VERSION_1 | (offered.high & dice.choice([0, 0, NOTIFICATION_DATA]))
+        if is_packed:
+            self.high |= RING_PACKED
+        kind, indirect = PackedQueue if is_packed else SplitQueue, bool(self.low & INDIRECT_DESC)
+        self.queues = [kind(guest, window, number, dice.choice(kind.SIZES), guest.slot.base + place, indirect)
+                       for number, place in enumerate(places)]
 
     def bring_up(self):
         guest, window = self.guest, self.window
@@ -113,14 +120,15 @@ class BlockDriver(Driver):
     def request(self, what):
         """One request, where the virtqueue and the room for buffers have place for it."""
         guest, queue, sectors = self.guest, self.queues[0], self.guest.slot.count
-        length = SECTOR * guest.dice.choice([0, 1, 1, 1, 2, 3]) if what in (READ, WRITE) else guest.dice.choice([20, 30])
+        moves_sectors = what in (READ, WRITE)
+        length = SECTOR * guest.dice.choice([0, 1, 1, 1, 2, 3]) if moves_sectors else guest.dice.choice([20, 30])
         self.last = sector = self.last if guest.dice.random() < 0.6 else guest.dice.randrange(sectors + 1)
         if queue.room_left() < length + 200:
             return
         header, data, status = queue.buffer(16), queue.pieces(length), queue.buffer(1)
         if queue.left < len(data) + 2:
             return
-        is_outside = what in (READ, WRITE) and SECTOR * (sectors - sector) < length
+        is_outside = moves_sectors and SECTOR * (sectors - sector) < length
         is_refused = is_outside or what == WRITE and guest.slot.read_only
         guest.put(header, what.to_bytes(4, "little") + bytes(4) + sector.to_bytes(8, "little"))
         guest.put(status, b"\xff")
@@ -249,7 +257,8 @@ class Mischief:
 
     def number(self):
         """A number at which something may go wrong."""
-        return self.dice.choice(ODD_NUMBERS + [self.address(), self.dice.randrange(1 << 32), self.dice.randrange(1 << 64)])
+        dice = self.dice
+        return dice.choice(ODD_NUMBERS + [self.address(), dice.randrange(1 << 32), dice.randrange(1 << 64)])
 
     def address(self):
         """An address, most times in the guest's memory, often in the areas of a virtqueue."""
@@ -260,24 +269,28 @@ class Mischief:
 
     def odd_request(self):
         """A request of any type at any sector, over any buffers."""
-        queue = self.queue()
+        guest, dice, queue = self.guest, self.dice, self.queue()
         queue.give_buffers_back()
-        header, kind, sector = queue.buffer(16), self.dice.choice([0, 0, 0, 1, 1, 4, 8, 11, 13, 1 << 31]), self.dice.choice(
-            [0, 0, 1, self.guest.slot.count, self.guest.slot.count + 1, (1 << 64) - 1, 1 << 55, 1 << 32])
-        self.guest.put(header, kind.to_bytes(4, "little") + bytes(4) + sector.to_bytes(8, "little"))
-        buffers = [(self.odd_buffer(queue), self.dice.choice([0, 1, 16, 20, 511, 512, 512, 513, 1024, self.number() % (1 << 32)]),
-                    self.dice.random() < 0.6) for _ in range(self.dice.randrange(4))]
-        status = [(queue.buffer(1), 1, True)] if self.dice.random() < 0.8 else []
-        buffers = [(header, self.dice.choice([16, 16, 16, 16, 15, 17]), self.dice.random() < 0.05)] + buffers + status
+        sector = dice.choice([0, 0, 1, guest.slot.count, guest.slot.count + 1, 1 << 32, 1 << 55, (1 << 64) - 1])
+        header = queue.buffer(16)
+        guest.put(header, dice.choice(ODD_TYPES).to_bytes(8, "little") + sector.to_bytes(8, "little"))
+        buffers = [(header, dice.choice([16, 16, 16, 16, 15, 17]), dice.random() < 0.05)]
+        buffers += [self.odd_buffer(queue) for _ in range(dice.randrange(4))]
+        if dice.random() < 0.8:
+            buffers.append((queue.buffer(1), 1, True))
         if queue.left >= len(buffers):
             queue.offer(buffers)
         queue.publish()
-        self.guest.write(queue.window, 0x050, queue.number)
+        guest.write(queue.window, 0x050, queue.number)
         queue.look_at_used()
-        self.guest.read(queue.window, 0x070)
+        guest.read(queue.window, 0x070)
 
     def odd_buffer(self, queue):
-        return queue.buffer(512) if self.dice.random() < 0.5 else self.address()
+        """A buffer, as (address, length, whether the device may write it)."""
+        dice = self.dice
+        address = queue.buffer(512) if dice.random() < 0.5 else self.address()
+        length = dice.choice([0, 1, 16, 20, 511, 512, 512, 513, 1024, self.number() % (1 << 32)])
+        return address, length, dice.random() < 0.6
 
     def scribble(self):
         """Bytes over a virtqueue's areas."""
@@ -296,10 +309,11 @@ class Mischief:
         self.guest.write(self.window(), offset, self.number(), self.dice.choice([4, 4, 4, 2, 1]))
 
     def odd_read(self):
-        self.guest.read(self.window(), self.dice.choice(REGISTERS + [self.dice.randrange(0x1000)]), self.dice.choice([4, 4, 2, 1]))
+        offset = self.dice.choice(REGISTERS + [self.dice.randrange(0x1000)])
+        self.guest.read(self.window(), offset, self.dice.choice([4, 4, 2, 1]))
 
     def status(self):
-        self.guest.write(self.window(), 0x070, self.dice.choice([0, 1, 3, 4, 8, 0xB, 0xF, 0x40, 0x80, 0xFF, 0xFFFFFFFF]))
+        self.guest.write(self.window(), 0x070, self.dice.choice(ODD_STATUSES))
 
     def notify(self):
         self.guest.write(self.window(), 0x050, self.dice.choice([0, 0, 1, 1, 2, 0xFFFF, 0x10000, 0x80010000]))
@@ -314,7 +328,8 @@ class Mischief:
         self.guest.write(window, 0x044, 0)
         self.guest.write(window, 0x038, self.dice.choice([1, 2, 4, queue.size, self.number()]))
         for offset in (0x080, 0x090, 0x0A0):
-            self.guest.write(window, offset, self.dice.choice([queue.at, queue.at + 0x100, queue.at + 0x200, self.number()]))
+            area = self.dice.choice([queue.at, queue.at + 0x100, queue.at + 0x200, self.number()])
+            self.guest.write(window, offset, area)
         self.guest.write(window, 0x044, 1)
         self.guest.write(window, 0x050, queue.number)
 

@@ -71,10 +71,10 @@ class Queue:
         dice, slot = self.guest.dice, self.guest.slot
         which = dice.randrange(4)
         fields[which] = dice.choice([
-            [0, (slot.base - 1) % (1 << 64), slot.base + slot.length - dice.randrange(3), self.at, self.driver_area, self.device_area,
-             (1 << 64) - 1, slot.base + dice.randrange(slot.length)],
+            [0, (slot.base - 1) % (1 << 64), (1 << 64) - 1, slot.base + slot.length - dice.randrange(3),
+             slot.base + dice.randrange(slot.length), self.at, self.driver_area, self.device_area],
             [0, 1, 15, 16, 17, 32, 511, 513, 4096, 4112, 0x7FFFFFFF, 0xFFFFFFFF],
-            [fields[2] ^ (1 << dice.randrange(16)), dice.randrange(1 << 16), fields[2] ^ NEXT, fields[2] ^ WRITE, fields[2] ^ INDIRECT],
+            [fields[2] ^ flag for flag in (1 << dice.randrange(16), dice.randrange(1 << 16), NEXT, WRITE, INDIRECT)],
             [0, 1, self.size - 1, self.size, 0xFFFF, dice.randrange(1 << 16)],
         ][which]) % (1 << (64, 32, 16, 16)[which])
 
@@ -101,9 +101,9 @@ class SplitQueue(Queue):
         buffers, flags = self.in_table(buffers)
         head = self.size - self.left
         for number, buffer in enumerate(buffers):
-            last = number + 1 == len(buffers)
-            place = head + number
-            self.put_descriptor(self.at + DESCRIPTOR * place, buffer, flags if last else flags | NEXT, 0 if last else place + 1)
+            place, last = head + number, number + 1 == len(buffers)
+            flags_here, link = (flags, 0) if last else (flags | NEXT, place + 1)
+            self.put_descriptor(self.at + DESCRIPTOR * place, buffer, flags_here, link)
         self.left -= len(buffers)
         self.put_number(self.driver_area + 4 + 2 * (self.idx % self.size), head)
         self.idx = (self.idx + 1) % (1 << 16)
@@ -143,7 +143,8 @@ class PackedQueue(Queue):
         name = self.guest.dice.randrange(1 << 16)
         for number, buffer in enumerate(buffers):
             link = NEXT if number + 1 < len(buffers) else 0
-            self.put_descriptor(self.at + DESCRIPTOR * self.position, buffer, flags | link | (AVAIL if self.wrap else USED), name)
+            flags_here = flags | link | (AVAIL if self.wrap else USED)
+            self.put_descriptor(self.at + DESCRIPTOR * self.position, buffer, flags_here, name)
             self.position += 1
             if self.position == self.size:
                 self.position, self.wrap = 0, not self.wrap

@@ -46,10 +46,12 @@ class Scene:
 
     def trace_alone(self, guest):
         """The trace of a board with this guest alone, as its slot 0."""
-        return self.text(self.cache, [guest], [self.event(guest, number, 0) for number in range(len(self.guests[guest].events))])
+        count = len(self.guests[guest].events)
+        return self.text(self.cache, [guest], [self.event(guest, number, 0) for number in range(count)])
 
     def text(self, cache, guests, events):
-        return "\n".join(["vreplay 1", f"cache {cache:x}"] + [slot_line(self.guests[guest].slot) for guest in guests] + events) + "\n"
+        slots = [slot_line(self.guests[guest].slot) for guest in guests]
+        return "\n".join(["vreplay 1", f"cache {cache:x}"] + slots + events) + "\n"
 
     def event(self, guest, number, slot):
         word, fields = self.guests[guest].events[number]
