@@ -1,6 +1,6 @@
 -- What an embedder writes to a guest's memory between events, as the step of that event.
 use Rattle.std.proofs.Common.{◌≡◌, inl, ℕ, Bool, true, false, ◌||◌, nat_lt, arith, List, [], length, map, Some, refl, sym, ◌∙◌, ap}
-use Rattle.std.specs.Prelude.{AllPairs, slice_set}
+use Rattle.std.specs.Prelude.{AllPairs, IsSomeAnd, slice_set}
 use Rattle.std.specs.Bool.{OnTrue}
 use Rattle.std.specs.List.{slice_get}
 use Rattle.std.proofs.Math.Seq.{map-set_same}
@@ -45,3 +45,10 @@ bytes_put A slots disk h slot new addr bytes true apart here test is =
       given = inl (record { alike = record { alike = rw (← test, is) refl; image = refl }; answered = λ no. absurd (cc); failures = refl });
       appended = refl;
     }) refl refl)
+
+-- and they stand in that slot's memory, and every other slot stays
+pub bytes_stand : (slots : List BoardSlot) (h : ℕ) (slot new : BoardSlot) (addr : ℕ) (bytes : List ℕ) (done : Bool) →
+    slice_get slots h ≡ Some slot → OnTrue done (new ≡ record slot { memory = put slot.memory addr bytes }) →
+    OnTrue done (IsSomeAnd (slice_get slots h) (λ found. slice_set slots h new ≡ slice_set slots h (record found { memory = put found.memory addr bytes })))
+bytes_stand slots h slot new addr bytes false here is = _
+bytes_stand slots h slot new addr bytes true here is = rw here (ap (λ (s : BoardSlot). slice_set slots h s) is)

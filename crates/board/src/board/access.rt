@@ -2,11 +2,11 @@
 //!
 //! Nothing here takes memory, so nothing here can be refused for want of it.
 
-ghost use Rattle.std.specs.Prelude.{◌≡◌, ◌↔◌, ◌<◌, [], IsTrue, IsSome, IfSome, IsSomeAnd, length};
+ghost use Rattle.std.specs.Prelude.{◌≡◌, ◌↔◌, ◌<◌, [], IsTrue, IsSome, IfSome, IsSomeAnd, length, slice_set};
 ghost use Rattle.std.specs.Bool.{OnTrue, OnFalse};
 ghost use Rattle.std.specs.List.{slice_get};
 ghost use Rattle.std.specs.Option.{option_map};
-ghost use Rattle.guest_memory.specs.Memory.{Inside, part_of};
+ghost use Rattle.guest_memory.specs.Memory.{Inside, part_of, put};
 ghost use Rattle.board.specs.declared.event.EventKind.{EventKind};
 ghost use Rattle.board.specs.declared.reply.Reply.{Reply};
 ghost use Rattle.board.specs.Image.{Tells};
@@ -82,6 +82,9 @@ impl<I: Image, A: Allocator> Board<I, A> {
             (world_of I.disk self.new)) }
         ensures inside { IsTrue result ↔ IsSomeAnd (slice_get self.old.slots slot)
             (λ found. Inside found.memory addr (length from.now)) }
+        ensures put { OnTrue result (IsSomeAnd (slice_get self.old.slots slot)
+            (λ found. self.new.slots ≡ slice_set self.old.slots slot
+            (record found { memory = put found.memory addr from.now }))) }
         ensures kept { OnFalse result (self.new ≡ self.old) }
         ensures image { self.new.image ≡ self.old.image }
         ensures disturbed { disturbed_of self.new.slots ≡ disturbed_of self.old.slots }

@@ -3,7 +3,7 @@ use Rattle.std.specs.List.{slice_get}
 use Rattle.std.proofs.lemmas.Option.{slice_get_read}
 use Rattle.guest_memory.proofs.Ranges.{is_inside-tells}
 use Rattle.board.specs.World.{disturbed_of}
-use Rattle.board.proofs.Access.{bytes_put, disturbed_kept}
+use Rattle.board.proofs.Access.{bytes_put, bytes_stand, disturbed_kept}
 use Rattle.board.proofs.Seats.{extents_of-set}
 use Rattle.board.proofs.board.Board.write_memory.Goals as goal
 
@@ -31,3 +31,8 @@ pub returns-clause-disturbed : goal.returns-clause-disturbed
 returns-clause-disturbed g c =
     disturbed_kept c.self.inside.slots.items c.args.slot c.in-Some.slot.now c.put_bytes.new.self (there g c) c.put_bytes.ensures.disturbed
     ∙ ap (λ b. disturbed_of b.slots) c.self.view_is
+
+pub returns-clause-put : goal.returns-clause-put
+returns-clause-put g c =
+    rw (← c.self.view_is)
+    (bytes_stand c.self.inside.slots.items c.args.slot c.in-Some.slot.now c.put_bytes.new.self c.args.addr c.args.from.now c.put_bytes.result (there g c) c.put_bytes.ensures.done)
