@@ -119,3 +119,83 @@ fn the_image_itself_is_saved_to(rt: HostRuntime) -> Result<(), Fail> {
     assert_eq!(rt; done.held.saved.as_slice(), b"kept".as_slice());
     Ok(())
 }
+
+/// A driver sets a split queue of four up and reads sector 0 into its memory: a header of 16 zero bytes, room for
+/// 512 bytes, and the status.
+const READING: &[u8] = b"vreplay 1\n\
+cache 8\n\
+slot 80000000 10000 0 8 rw 50 19\n\
+w 0 b 070 4 00000000\n\
+w 0 b 070 4 00000001\n\
+w 0 b 070 4 00000003\n\
+w 0 b 024 4 00000000\n\
+w 0 b 020 4 00000000\n\
+w 0 b 024 4 00000001\n\
+w 0 b 020 4 00000001\n\
+w 0 b 070 4 0000000b\n\
+w 0 b 030 4 00000000\n\
+w 0 b 038 4 00000004\n\
+w 0 b 080 4 80001000\n\
+w 0 b 084 4 00000000\n\
+w 0 b 090 4 80002000\n\
+w 0 b 094 4 00000000\n\
+w 0 b 0a0 4 80003000\n\
+w 0 b 0a4 4 00000000\n\
+w 0 b 044 4 00000001\n\
+w 0 b 070 4 0000000f\n\
+mw 0 80001000 00400080000000001000000001000100\n\
+mw 0 80001010 00500080000000000002000003000200\n\
+mw 0 80001020 00600080000000000100000002000000\n\
+mw 0 80002000 000001000000\n\
+mw 0 80006000 ff\n\
+w 0 b 050 4 00000000\n\
+mr 0 80003000 c\n\
+mr 0 80006000 1\n\
+mr 0 80005000 4\n\
+r 0 b 060 4\n";
+
+/// Its records: what was set up and filled in, the notification, the used ring with 513 bytes written, the status, the
+/// first bytes of the sector, and the interrupt.
+const READ: &[u8] = b"0 done - 0 0\n\
+0 done - 0 0\n\
+0 done - 0 0\n\
+0 done - 0 0\n\
+0 done - 0 0\n\
+0 done - 0 0\n\
+0 done - 0 0\n\
+0 done - 0 0\n\
+0 done - 0 0\n\
+0 done - 0 0\n\
+0 done - 0 0\n\
+0 done - 0 0\n\
+0 done - 0 0\n\
+0 done - 0 0\n\
+0 done - 0 0\n\
+0 done - 0 0\n\
+0 done - 0 0\n\
+0 done - 0 0\n\
+0 done - 0 0\n\
+0 done - 0 0\n\
+0 done - 0 0\n\
+0 done - 0 0\n\
+0 done - 0 0\n\
+0 done - 1 0\n\
+0 b:000001000000000001020000 - 1 0\n\
+0 b:00 - 1 0\n\
+0 b:10101010 - 1 0\n\
+0 v:00000001 - 1 0\n";
+
+/// What a guest reads leaves the image as it was, and so it is saved.
+#[test]
+fn an_image_that_was_read_is_saved(rt: HostRuntime) -> Result<(), Fail> {
+    let call = Call {
+        trace: READING,
+        ..SAVING
+    };
+    let done = made(&rt, rt.alloc(), call)?;
+    assert_eq!(rt; done.output.as_slice(), READ);
+    assert_eq!(rt; done.status, 0);
+    let before = numbered_image(rt.alloc())?;
+    assert_eq!(rt; done.held.saved.as_slice(), before.as_slice());
+    Ok(())
+}
