@@ -10,6 +10,7 @@ use chain::{Buffer, Chain, Fault, Segment};
 use guest_memory::GuestMemory;
 use sector_cache::{Image, ScriptedImage, SectorCache};
 use std::alloc::{Allocator, Global};
+use std::fmt::Debug;
 use std::process::Abort;
 use std::test::Fail;
 
@@ -46,6 +47,12 @@ const fn writable(addr: u64, len: u32) -> Buffer {
         segment: Segment { addr, len },
         writable: true,
     }
+}
+
+/// Tells of which row something else was found than what is wanted. The one assertion with a message: a message is
+/// dear to prove.
+fn same<R: Debug, T: PartialEq + Debug>(rt: &impl Abort, row: &R, found: &T, wanted: &T) {
+    assert_eq!(rt; found, wanted, "{row:?}");
 }
 
 /// What is answered where a status was written.
@@ -109,6 +116,11 @@ impl Guest {
         self.mem.part(STATUS, 1).map(|bytes| bytes[0])
     }
 
+    /// How often the image was called.
+    fn calls(&self) -> u64 {
+        self.cache.image().calls()
+    }
+
     /// Serves one chain of these buffers.
     fn serve(
         &mut self,
@@ -124,9 +136,10 @@ impl Guest {
     }
 }
 
-/// Requests of a type and a sector with so many writable bytes before the status: the status and the used
-/// length.
-const REQUESTS: [(u32, u64, u32, u8, u32); 21] = [
+/// A request of a type and a sector with so many writable bytes before the status: the status and the used length.
+type Request = (u32, u64, u32, u8, u32);
+
+const REQUESTS: [Request; 21] = [
     (0, 0, 512, 0, 0x201),
     (0, 7, 512, 0, 0x201),
     (0, 6, 1024, 0, 0x401),
@@ -153,68 +166,95 @@ const REQUESTS: [(u32, u64, u32, u8, u32); 21] = [
 #[test]
 fn a_request_is_judged_by_its_type_sector_and_room(rt: HostRuntime) -> Result<(), Fail> {
     let mut guest = Guest::new(rt.alloc(), &[])?;
-    for (kind, sector, room, status, len) in REQUESTS {
-        guest.put_request(kind, sector);
-        let buffers = [
-            readable(HEADER, 16),
-            writable(DATA, room),
-            writable(STATUS, 1),
-        ];
-        assert_eq!(rt;
-            guest.serve(&rt, WHOLE, &buffers),
-            Ok(answer_of(len, false)),
-            "type {kind} at {sector} with {room} bytes"
-        );
-        assert_eq!(rt;
-            guest.status(),
-            Some(status),
-            "type {kind} at {sector} with {room} bytes"
-        );
+    for request in &REQUESTS {
+        check_request(&rt, &mut guest, request);
     }
     Ok(())
 }
+
+fn check_request(rt: &impl Abort, guest: &mut Guest, request: &Request) {
+    let (kind, sector, room, status, len) = *request;
+    guest.put_request(kind, sector);
+    let buffers = [
+        readable(HEADER, 16),
+        writable(DATA, room),
+        writable(STATUS, 1),
+    ];
+    let answer = guest.serve(rt, WHOLE, &buffers);
+    let found = (answer, guest.status());
+    same(
+        rt,
+        request,
+        &found,
+        &(Ok(answer_of(len, false)), Some(status)),
+    );
+}
+
+/// An OUT to a device, with so many readable bytes of header and of data and writable ones for the status.
+type Refused = (BlockDevice, u32, u32, u32);
+
+const REFUSED: [Refused; 6] = [
+    (WHOLE, 15, 512, 1),
+    (WHOLE, 16, 511, 1),
+    (WHOLE, 16, 4608, 1),
+    (READER, 16, 0, 1),
+    (READER, 16, 512, 1),
+    // There is no place for the status.
+    (WHOLE, 16, 512, 0),
+];
 
 #[test]
 fn what_is_refused_calls_no_image(rt: HostRuntime) -> Result<(), Fail> {
     let mut guest = Guest::new(rt.alloc(), &[])?;
     guest.put_request(1, 0);
-    for (device, header, data, room) in [
-        (WHOLE, 15, 512, 1),
-        (WHOLE, 16, 511, 1),
-        (WHOLE, 16, 4608, 1),
-        (READER, 16, 0, 1),
-        (READER, 16, 512, 1),
-        // There is no place for the status.
-        (WHOLE, 16, 512, 0),
-    ] {
-        let buffers = [
-            readable(HEADER, header),
-            readable(DATA, data),
-            writable(STATUS, room),
-        ];
-        let served = guest.serve(&rt, device, &buffers);
-        assert!(rt; served.is_ok());
-        assert_eq!(rt; guest.cache.image().calls(), 0, "{header} and {data} bytes");
+    for refused in &REFUSED {
+        check_refused(&rt, &mut guest, refused);
     }
     Ok(())
 }
+
+fn check_refused(rt: &impl Abort, guest: &mut Guest, refused: &Refused) {
+    let (device, header, data, room) = *refused;
+    let buffers = [
+        readable(HEADER, header),
+        readable(DATA, data),
+        writable(STATUS, room),
+    ];
+    let served = guest.serve(rt, device, &buffers).is_ok();
+    same(rt, refused, &(served, guest.calls()), &(true, 0));
+}
+
+/// Whether a write of two sectors is answered as failed, the status, and how often the image was called by then.
+type Tried = (bool, u8, u64);
+
+/// The image's first call fails. The second request writes two sectors and flushes.
+const TRIED: [Tried; 2] = [(true, 1, 1), (false, 0, 4)];
 
 #[test]
 fn a_failed_request_ends_at_once_and_the_next_is_tried(rt: HostRuntime) -> Result<(), Fail> {
     let mut guest = Guest::new(rt.alloc(), &[0])?;
     guest.put_request(1, 0);
+    for tried in &TRIED {
+        check_tried(&rt, &mut guest, tried);
+    }
+    Ok(())
+}
+
+fn check_tried(rt: &impl Abort, guest: &mut Guest, tried: &Tried) {
+    let (failed, status, calls) = *tried;
     let out = [
         readable(HEADER, 16),
         readable(DATA, 1024),
         writable(STATUS, 1),
     ];
-    // The second writes two sectors and flushes.
-    for (failed, status, calls) in [(true, 1, 1), (false, 0, 4)] {
-        assert_eq!(rt; guest.serve(&rt, WHOLE, &out), Ok(answer_of(1, failed)));
-        assert_eq!(rt; guest.status(), Some(status));
-        assert_eq!(rt; guest.cache.image().calls(), calls);
-    }
-    Ok(())
+    let answer = guest.serve(rt, WHOLE, &out);
+    let found = (answer, guest.status(), guest.calls());
+    same(
+        rt,
+        tried,
+        &found,
+        &(Ok(answer_of(1, failed)), Some(status), calls),
+    );
 }
 
 #[test]

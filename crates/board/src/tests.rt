@@ -14,9 +14,17 @@ use crate::{
 };
 use sector_cache::MemoryImage;
 use std::alloc::{AllocError, Allocator, Global};
+use std::fmt::Debug;
+use std::process::Abort;
 use std::test::Fail;
 
 const BASE: u64 = 0x8000_0000;
+
+/// Tells of which row something else was found than what is wanted. The one assertion with a message: a message is
+/// dear to prove.
+fn same<R: Debug, T: PartialEq + Debug>(rt: &impl Abort, row: &R, found: &T, wanted: &T) {
+    assert_eq!(rt; found, wanted, "{row:?}");
+}
 
 /// A slot of `len` bytes of memory from `BASE` on, and `count` sectors from sector `start` on.
 fn slot(len: u64, start: u64, count: u64) -> SlotSpec {
@@ -150,4 +158,17 @@ fn gives<A: Allocator>(reply: &Reply<A>, bytes: &[u8]) -> bool {
         Reply::Bytes(found) => found.as_slice() == bytes,
         _ => false,
     }
+}
+
+/// Whether one event of a slot gives these bytes.
+fn loads<I: Image, A: Allocator + Copy>(
+    alloc: A,
+    board: &mut Board<I, A>,
+    slot: u8,
+    act: Act,
+    bytes: &[u8],
+) -> Result<bool, AllocError> {
+    let event = event(alloc, slot, act)?;
+    let mut none = Vec::new(alloc);
+    Ok(gives(&step(board, &event, &mut none), bytes))
 }

@@ -1,16 +1,19 @@
 //! What goes to the output, behind what stands there.
 
 use super::driver::{BLOCK, CONSOLE, USED, bring_up, two_lines};
-use super::{Act, BASE, board, event, events, gives, run, step, two_slots};
-use crate::{Board, Image, Reply};
+use super::{Act, BASE, board, event, events, loads, run, same, step, two_slots};
+use crate::{Board, Reply};
 use refusing::RefusingHeap;
-use std::alloc::{AllocError, Allocator};
+use sector_cache::MemoryImage;
+use std::alloc::{AllocError, Allocator, Global};
 use std::process::Abort;
 use std::test::Fail;
 
-/// Some of what is done, over both windows, memory and console, and of a slot that isn't there; and what stands in
-/// the output then, where something stood before.
-const ACTS: [(u8, Act, &[u8]); 11] = [
+/// What is done to a slot, and what stands in the output then, where something stood before.
+type PutOut<'a> = (u8, Act<'a>, &'a [u8]);
+
+/// Some of what is done, over both windows, memory and console, and of a slot that isn't there.
+const PUT_OUT: [PutOut; 11] = [
     (0, Act::Get(BLOCK, 0x000), b"before"),
     // no queue is ready
     (0, Act::Set(CONSOLE, 0x050, 1), b"before"),
@@ -29,58 +32,100 @@ const ACTS: [(u8, Act, &[u8]); 11] = [
 #[test]
 fn what_is_put_out_stands_behind(rt: HostRuntime) -> Result<(), Fail> {
     let mut board = board(rt.alloc(), rt.alloc(), &two_slots())?;
-    for (slot, act, want) in ACTS {
-        let mut out = b"before".to_vec(rt.alloc())?;
-        let event = event(rt.alloc(), slot, act)?;
-        let _ = step(&mut board, &event, &mut out);
-        assert!(rt; out.as_slice() == want, "slot {slot}, {act:?}");
+    for put_out in &PUT_OUT {
+        check_put_out(&rt, rt.alloc(), &mut board, put_out)?;
     }
     Ok(())
 }
 
-/// How many chains the used ring tells of.
-fn are_used<I: Image, A: Allocator + Copy>(
-    alloc: A,
-    board: &mut Board<I, A>,
-    idx: &[u8],
-) -> Result<bool, AllocError> {
-    let event = event(alloc, 0, Act::Load(USED + 2, 2))?;
-    let mut none = Vec::new(alloc);
-    Ok(gives(&step(board, &event, &mut none), idx))
-}
-
-/// Brings the transmit queue of slot 0 up, with two chains on offer.
-fn offer<I: Image, A: Allocator + Copy>(
+fn check_put_out(
     rt: &impl Abort,
-    alloc: A,
-    board: &mut Board<I, A>,
+    alloc: Global,
+    board: &mut Board<MemoryImage>,
+    put_out: &PutOut,
 ) -> Result<(), AllocError> {
-    let mut acts = bring_up(0, CONSOLE, 1).to_vec(alloc)?;
-    acts.extend_from_slice(&two_lines(0))?;
-    let mut records = Vec::new(alloc);
-    let events = events(alloc, acts.as_slice())?;
-    assert_eq!(rt; run(board, &events, &mut records), Ok(()));
+    let (slot, act, wanted) = *put_out;
+    let event = event(alloc, slot, act)?;
+    let mut out = b"before".to_vec(alloc)?;
+    let _ = step(board, &event, &mut out);
+    same(rt, put_out, &(out.as_slice() == wanted), &true);
     Ok(())
 }
 
+/// Brings the transmit queue of slot 0 up, with two chains on offer. Whether all was done.
+fn offer<A: Allocator + Copy>(
+    alloc: A,
+    board: &mut Board<MemoryImage, A>,
+) -> Result<bool, AllocError> {
+    let up = run_all(alloc, board, &bring_up(0, CONSOLE, 1))?;
+    let offered = run_all(alloc, board, &two_lines(0))?;
+    Ok(up && offered)
+}
+
+fn run_all<A: Allocator + Copy>(
+    alloc: A,
+    board: &mut Board<MemoryImage, A>,
+    acts: &[(u8, Act)],
+) -> Result<bool, AllocError> {
+    let events = events(alloc, acts)?;
+    let mut records = Vec::new(alloc);
+    Ok(run(board, &events, &mut records).is_ok())
+}
+
+/// The request for memory that is refused, if one is, in a notification of slot 0's transmit queue; whether it finds
+/// no memory; what it puts out; and how many chains the used ring tells of then.
+type Notified<'a> = (u64, bool, &'a [u8], &'a [u8]);
+
 /// The room for the second of two chains is refused: the first one is out and used. The next notification goes on
 /// with the second.
+const NOTIFIED: [Notified; 2] = [(2, true, b"A", &[1, 0]), (0, false, &[b'B'; 4096], &[2, 0])];
+
 #[test]
 fn a_refused_chain_stays_on_offer(rt: HostRuntime) -> Result<(), Fail> {
     let heap = RefusingHeap::new(rt.alloc());
     let mut board = board(rt.alloc(), &heap, &two_slots())?;
-    offer(&rt, &heap, &mut board)?;
-    let notify = event(&heap, 0, Act::Set(CONSOLE, 0x050, 1))?;
-    let mut out = Vec::new(&heap);
-    heap.refuse_from(2);
-    assert!(rt; step(&mut board, &notify, &mut out) == Reply::NoMemory);
+    let offered = offer(&heap, &mut board)?;
+    assert_eq!(rt; offered, true);
+    for notified in &NOTIFIED {
+        check_notified(&rt, &heap, &mut board, notified)?;
+    }
+    Ok(())
+}
+
+fn check_notified<'h>(
+    rt: &impl Abort,
+    heap: &'h RefusingHeap<Global>,
+    board: &mut Board<MemoryImage, &'h RefusingHeap<Global>>,
+    notified: &Notified,
+) -> Result<(), AllocError> {
+    let (nth, lacks, put_out, used) = *notified;
+    let notify = event(heap, 0, Act::Set(CONSOLE, 0x050, 1))?;
+    let mut out = Vec::new(heap);
+    heap.refuse_from(nth);
+    let reply = step(board, &notify, &mut out);
     heap.refuse_from(0);
-    assert!(rt; out.as_slice() == b"A".as_slice());
-    assert!(rt; are_used(&heap, &mut board, &[1, 0])?);
-    assert_eq!(rt; board.disturbed(0), Some(true));
-    let mut rest = Vec::new(&heap);
-    assert!(rt; step(&mut board, &notify, &mut rest) == Reply::Done);
-    assert!(rt; rest.as_slice() == [b'B'; 4096].as_slice());
-    assert!(rt; are_used(&heap, &mut board, &[2, 0])?);
+    let found = (
+        reply == Reply::NoMemory,
+        reply == Reply::Done,
+        out.as_slice() == put_out,
+    );
+    same(rt, &nth, &found, &(lacks, !lacks, true));
+    check_used(rt, heap, board, used)
+}
+
+/// Slot 0 has met a refusal, and its used ring tells of so many chains.
+fn check_used<A: Allocator + Copy>(
+    rt: &impl Abort,
+    alloc: A,
+    board: &mut Board<MemoryImage, A>,
+    used: &[u8],
+) -> Result<(), AllocError> {
+    let are_used = loads(alloc, board, 0, Act::Load(USED + 2, 2), used)?;
+    same(
+        rt,
+        &used,
+        &(are_used, board.disturbed(0)),
+        &(true, Some(true)),
+    );
     Ok(())
 }

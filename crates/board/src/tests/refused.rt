@@ -1,11 +1,13 @@
 //! Each request for memory refused in turn.
 
 use super::driver::{BLOCK, CONSOLE, DATA, STATUS, USED, bring_up, no_line, request};
-use super::{Act, BASE, board, eight_sectors, events, image, run, slot, two_slots};
+use super::{
+    Act, BASE, board, eight_sectors, event, events, image, run, same, slot, step, two_slots,
+};
 use crate::{Board, BoardFault, Event, Record, Reply};
 use refusing::RefusingHeap;
 use sector_cache::MemoryImage;
-use std::alloc::{Allocator, Global};
+use std::alloc::{AllocError, Allocator, Global};
 use std::process::Abort;
 use std::test::Fail;
 
@@ -38,24 +40,38 @@ const LOOKS: [(u8, Act); 4] = [
 #[test]
 fn a_refused_board_hands_the_image_back(rt: HostRuntime) -> Result<(), Fail> {
     let heap = RefusingHeap::new(rt.alloc());
-    let bytes = eight_sectors(rt.alloc())?;
     for n in 1..100 {
-        let image = image(rt.alloc())?;
-        heap.refuse_from(n);
-        match Board::new(&heap, &two_slots(), image, 8) {
-            Ok(_) => {
-                assert!(rt; !heap.has_refused());
-                assert!(rt; n > 3, "the slots and two memories take memory");
-                return Ok(());
-            }
-            Err(refused) => {
-                assert!(rt; heap.has_refused());
-                assert_eq!(rt; refused.why, BoardFault::NoMemory);
-                assert!(rt; refused.image.bytes() == bytes.as_slice());
-            }
+        if check_made(&rt, rt.alloc(), &heap, n)? {
+            return Ok(());
         }
     }
     panic!(rt; "memory was never ample")
+}
+
+/// A board is made while the nth request for memory is refused: it isn't made where there was such a request, and
+/// the slots and two memories take three. Whether it was made.
+fn check_made(
+    rt: &impl Abort,
+    alloc: Global,
+    heap: &RefusingHeap<Global>,
+    n: u64,
+) -> Result<bool, Fail> {
+    let bytes = eight_sectors(alloc)?;
+    let image = image(alloc)?;
+    heap.refuse_from(n);
+    let refusal = match Board::new(heap, &two_slots(), image, 8) {
+        Ok(_) => None,
+        Err(refused) => Some((refused.why, refused.image.bytes() == bytes.as_slice())),
+    };
+    let wanted = if heap.has_refused() {
+        Some((BoardFault::NoMemory, true))
+    } else {
+        None
+    };
+    same(rt, &n, &refusal, &wanted);
+    let is_made = refusal.is_none();
+    same(rt, &n, &(is_made && n <= 3), &false);
+    Ok(is_made)
 }
 
 /// Whether what is noted of a slot is that some record of it is NoMemory.
@@ -76,8 +92,30 @@ struct Tried<'h, A: Allocator> {
     has_refused: bool,
 }
 
-/// A run of two slots over these events, with the nth request for memory refused. It stops before an event
-/// whose record finds no room, and goes on from there with ample memory.
+/// Runs events with the nth request for memory refused. Where it stops before an event whose record finds no room,
+/// it goes on from there with ample memory. Whether it stopped, and whether a request was refused.
+fn run_on<'h, A: Allocator + Copy>(
+    rt: &impl Abort,
+    heap: &'h RefusingHeap<A>,
+    board: &mut Board<MemoryImage, &'h RefusingHeap<A>>,
+    events: &[Event<&'h RefusingHeap<A>>],
+    records: &mut Vec<Record<&'h RefusingHeap<A>>, &'h RefusingHeap<A>>,
+    n: u64,
+) -> (bool, bool) {
+    heap.refuse_from(n);
+    let stopped = run(board, events, records);
+    let has_refused = heap.has_refused();
+    heap.refuse_from(0);
+    let has_stopped = stopped.is_err();
+    if let Err(stop) = stopped {
+        let done = records.len();
+        let rest = run(board, &events[stop.done..], records).is_ok();
+        same(rt, &n, &(done, rest), &(stop.done, true));
+    }
+    (has_stopped, has_refused)
+}
+
+/// A run of two slots over these events, with the nth request for memory refused.
 fn run_refusing<'h, A: Allocator + Copy>(
     rt: &impl Abort,
     alloc: Global,
@@ -87,16 +125,9 @@ fn run_refusing<'h, A: Allocator + Copy>(
 ) -> Result<Tried<'h, A>, Fail> {
     let mut board = board(alloc, heap, &two_slots())?;
     let mut records = Vec::new(heap);
-    heap.refuse_from(n);
-    let stopped = run(&mut board, events, &mut records);
-    let has_refused = heap.has_refused();
-    heap.refuse_from(0);
-    let has_stopped = stopped.is_err();
-    if let Err(stop) = stopped {
-        assert_eq!(rt; records.len(), stop.done);
-        assert_eq!(rt; run(&mut board, &events[stop.done..], &mut records), Ok(()));
-    }
-    assert!(rt; is_noted(&board, &records, 0) && is_noted(&board, &records, 1));
+    let (has_stopped, has_refused) = run_on(rt, heap, &mut board, events, &mut records, n);
+    let noted = (is_noted(&board, &records, 0), is_noted(&board, &records, 1));
+    same(rt, &n, &noted, &(true, true));
     Ok(Tried {
         records,
         has_stopped,
@@ -104,38 +135,55 @@ fn run_refusing<'h, A: Allocator + Copy>(
     })
 }
 
-/// How many of the records say that there was no memory. Every other one is that of ample memory.
+/// How many of the records say that there was no memory.
 fn lacking<A: Allocator>(rt: &impl Abort, records: &[Record<A>], ample: &[Record<A>]) -> u32 {
-    assert_eq!(rt; records.len(), ample.len());
+    same(rt, &"records", &records.len(), &ample.len());
     let mut count = 0u32;
-    for (entry, want) in records.iter().zip(ample) {
-        if entry.reply == Reply::NoMemory {
-            count = count.saturating_add(1);
-        } else {
-            assert!(rt; entry == want);
-        }
+    for (entry, wanted) in records.iter().zip(ample) {
+        count = count.saturating_add(u32::from(lacks(rt, entry, wanted)));
     }
     count
 }
 
-/// Runs with each request for memory refused in turn. Answers how often one stopped, and how often an event
-/// found no memory.
+/// Whether a record says that there was no memory. Every other one is that of ample memory.
+fn lacks<A: Allocator>(rt: &impl Abort, entry: &Record<A>, wanted: &Record<A>) -> bool {
+    let lacks = entry.reply == Reply::NoMemory;
+    same(rt, &entry.slot, &(lacks || entry == wanted), &true);
+    lacks
+}
+
+/// How often a run stopped, and how often an event found no memory.
+type Counts = (u32, u32);
+
+/// Counts one run on. Whether a request for memory was refused in it.
+fn count_on<'h, A: Allocator + Copy>(
+    rt: &impl Abort,
+    alloc: Global,
+    heap: &'h RefusingHeap<A>,
+    events: &[Event<&'h RefusingHeap<A>>],
+    ample: &[Record<&'h RefusingHeap<A>>],
+    n: u64,
+    counts: &mut Counts,
+) -> Result<bool, Fail> {
+    let tried = run_refusing(rt, alloc, heap, events, n)?;
+    counts.0 = counts.0.saturating_add(u32::from(tried.has_stopped));
+    counts.1 = counts.1.saturating_add(lacking(rt, &tried.records, ample));
+    Ok(tried.has_refused)
+}
+
+/// Runs with each request for memory refused in turn.
 fn counted<'h, A: Allocator + Copy>(
     rt: &impl Abort,
     alloc: Global,
     heap: &'h RefusingHeap<A>,
     acts: &[(u8, Act)],
-) -> Result<(u32, u32), Fail> {
+) -> Result<Counts, Fail> {
     let events = events(heap, acts)?;
     let ample = run_refusing(rt, alloc, heap, &events, 0)?.records;
-    let mut stops = 0u32;
-    let mut found_none = 0u32;
+    let mut counts = (0, 0);
     for n in 1..100 {
-        let tried = run_refusing(rt, alloc, heap, &events, n)?;
-        stops = stops.saturating_add(u32::from(tried.has_stopped));
-        found_none = found_none.saturating_add(lacking(rt, &tried.records, &ample));
-        if !tried.has_refused {
-            return Ok((stops, found_none));
+        if !count_on(rt, alloc, heap, &events, &ample, n, &mut counts)? {
+            return Ok(counts);
         }
     }
     panic!(rt; "memory was never ample")
@@ -185,17 +233,39 @@ const WITHOUT_BYTES: [(u8, Act); 9] = [
 fn an_event_without_bytes_takes_no_memory(rt: HostRuntime) -> Result<(), Fail> {
     let heap = RefusingHeap::new(rt.alloc());
     let mut board = board(rt.alloc(), &heap, &[slot(0x1_0000, 0, 4)])?;
-    let mut acts = bring_up(0, BLOCK, 0).to_vec(rt.alloc())?;
-    acts.extend_from_slice(&WITHOUT_BYTES)?;
-    acts.extend_from_slice(&bring_up(0, CONSOLE, 1))?;
-    acts.extend_from_slice(&no_line(0))?;
-    acts.push((0, Act::Set(CONSOLE, 0x050, 1)))?;
-    let events = events(&heap, &acts)?;
-    let mut records = Vec::with_capacity(&heap, events.len())?;
-    heap.refuse_from(1);
-    assert_eq!(rt; run(&mut board, &events, &mut records), Ok(()));
-    assert!(rt; !heap.has_refused());
-    let ready = records.get(17).map(|entry| entry.reply == Reply::Value(1));
-    assert_eq!(rt; ready, Some(true), "the queue is ready");
+    let (block, console) = (bring_up(0, BLOCK, 0), bring_up(0, CONSOLE, 1));
+    let (line, notify) = (no_line(0), [(0, Act::Set(CONSOLE, 0x050, 1))]);
+    for acts in &[&block[..], &WITHOUT_BYTES, &console, &line, &notify] {
+        check_without_memory(&rt, &heap, &mut board, acts)?;
+    }
+    let ready = is_ready(&heap, &mut board)?;
+    assert_eq!(rt; ready, true);
     Ok(())
+}
+
+/// Runs events with room for their records and no other memory.
+fn check_without_memory<'h>(
+    rt: &impl Abort,
+    heap: &'h RefusingHeap<Global>,
+    board: &mut Board<MemoryImage, &'h RefusingHeap<Global>>,
+    acts: &[(u8, Act)],
+) -> Result<(), AllocError> {
+    let events = events(heap, acts)?;
+    let mut records = Vec::with_capacity(heap, events.len())?;
+    heap.refuse_from(1);
+    let ran = run(board, &events, &mut records).is_ok();
+    let has_refused = heap.has_refused();
+    heap.refuse_from(0);
+    same(rt, &acts, &(ran, has_refused), &(true, false));
+    Ok(())
+}
+
+/// Whether the block device's queue is ready.
+fn is_ready<A: Allocator + Copy>(
+    alloc: A,
+    board: &mut Board<MemoryImage, A>,
+) -> Result<bool, AllocError> {
+    let event = event(alloc, 0, Act::Get(BLOCK, 0x044))?;
+    let mut out = Vec::new(alloc);
+    Ok(step(board, &event, &mut out) == Reply::Value(1))
 }
