@@ -1,7 +1,10 @@
 //! The buffers of an indirect table, put behind those that a chain has.
 
-ghost use Rattle.std.specs.Prelude.{OnOk, IfErr};
+ghost use Rattle.std.specs.Prelude.{◌≡◌, true, false, IfOk, OnOk, IfErr, OnErr};
+ghost use Rattle.guest_memory.specs.Memory.{Inside};
 ghost use Rattle.chain.specs.Buffers.{Good};
+ghost use Rattle.chain.specs.declared.fault.Fault.TheVariants.{Nested};
+ghost use Rattle.indirect.specs.Descriptors.{split_descriptor};
 ghost use Rattle.indirect.specs.Tables.{SplitTableResolves, SplitTableFails, PackedTableResolves, PackedTableFails};
 
 use crate::descriptor::{Descriptor, read_packed_buffer};
@@ -32,10 +35,10 @@ pub fn append_split<A: Allocator>(
             return Err(Fault::Index);
         }
         let at = addr + u64::from(index * DESCRIPTOR_LEN);
-        let descriptor = Descriptor::read_split(mem, at);
-        if descriptor.indirect {
-            return Err(Fault::Nested);
-        }
+        let descriptor = match read_plain(mem, at) {
+            Ok(descriptor) => descriptor,
+            Err(fault) => return Err(fault),
+        };
         let segment = descriptor.buffer.segment;
         match chain.push(mem, segment.addr, segment.len, descriptor.buffer.writable) {
             Ok(()) => {}
@@ -47,6 +50,22 @@ pub fn append_split<A: Allocator>(
         }
     }
     Err(Fault::Loop)
+}
+
+/// The descriptor of a split table that stands at `addr`. One that refers to a table of its own is refused
+/// (2.7.5.3.1).
+fn read_plain<A: Allocator>(mem: &GuestMemory<A>, addr: u64) -> Result<Descriptor, Fault>
+    requires { Inside mem.now addr 16 }
+    ensures ok { IfOk result (λ descriptor. descriptor ≡ split_descriptor mem.now addr) }
+    ensures plain { IfOk result (λ descriptor. descriptor.indirect ≡ false) }
+    ensures fault { IfErr result (λ fault. fault ≡ Nested) }
+    ensures nested { OnErr result ((split_descriptor mem.now addr).indirect ≡ true) }
+{
+    let descriptor = Descriptor::read_split(mem, addr);
+    if descriptor.indirect {
+        return Err(Fault::Nested);
+    }
+    Ok(descriptor)
 }
 
 /// Puts the buffers of all descriptors of the packed table of `len` bytes at `addr` into the chain, in
