@@ -1,0 +1,382 @@
+-- What the board answers, as a step of the session.
+use Rattle.std.proofs.Common.{◌≡◌, ◌≢◌, inl, inr, ℕ, zero, suc, ◌+◌, ◌<◌, ◌≤◌, ◌||◌, Bool, true, false, ◌↔◌, List, [], ◌∷◌, ◌++◌, length, map, Option, Some, None, refl, sym, ◌∙◌, ap, subst, append-nil, arith}
+use Rattle.std.specs.Prelude.{nat_lt, if◌then◌else◌, slice_set, MatchOption, IsSomeAnd, unwrap_or}
+use Rattle.std.specs.List.{slice_get}
+use Rattle.std.proofs.lemmas.List.{set-get_or, length-map, length-set, get_or-set_same}
+use Rattle.std.proofs.lemmas.Option.{get_or_from_slice_get, slice_get-map, slice_get_within, slice_get_past, slice_get_cases, unwrap_or-slice_get, same_Some}
+use Rattle.std.proofs.lemmas.Bool.Decides.{nat_tests}
+use Rattle.guest_memory.specs.Memory.{Inside, part_of, put}
+use Rattle.guest_memory.proofs.Ranges.{is_inside-tells}
+use Rattle.sector_cache.specs.Disk.{Disk}
+use Rattle.mmio_window.specs.declared.device_kind.DeviceKind.{DeviceKind}
+use Rattle.block_device.specs.declared.extent.Extent.{Extent}
+use Rattle.board.specs.declared.event.Event.{Event}
+use Rattle.board.specs.declared.event.EventKind.{EventKind}
+use Rattle.board.specs.declared.event.EventKind.TheVariants.{Read, Write, MemRead, MemWrite, Input, Resize}
+use Rattle.board.specs.declared.reply.Reply.{Reply}
+use Rattle.board.specs.declared.reply.Reply.TheVariants.{Done, Bytes, BadSlot, BadRange, NoMemory}
+use Rattle.board.specs.declared.reply.Record.{Record}
+use Rattle.board.specs.Extent.{outside_of, outside_from}
+use Rattle.board.specs.Image.{Health, bytes_of}
+use Rattle.board.specs.Machine.{holds, record_of}
+use Rattle.board.specs.Outcome.{Outcome, replies}
+use Rattle.board.specs.Slot.{SlotState, BoardSlot, state_of}
+use Rattle.board.specs.Task.{Task, Nothing, ServeBlock, ServeReceive, ServeTransmit, PutOut, Finishes}
+use Rattle.board.specs.World.{World, Answers, IsCutShort, KeepsOthers, MayGive, MayLackMemory, MissingStep, SlotStep, bad_slot, disturbed_of, extents_of, lacks_memory, noted}
+use Rattle.board.proofs.Seats.{extents_of-set, others_kept}
+use Rattle.embed.specs.declared.refusal.Refusal.TheVariants as refusal
+use Rattle.embed.specs.Answering.{Suits, refusing_reply}
+use Rattle.embed.specs.Session.{IsStep, KeepsOtherOutputs, SessionState, world_of}
+
+-- ---- which replies an event may get
+
+is_done : {A : Type 0} (window : DeviceKind) (offset width value : ℕ) (outcome : Outcome A) → outcome.reply ≡ Done → Suits (Write window offset width value) outcome.reply
+is_done window offset width value outcome is = rw is tt
+
+is_without_memory : {A : Type 0} (window : DeviceKind) (offset width value : ℕ) (outcome : Outcome A) → outcome.reply ≡ NoMemory → Suits (Write window offset width value) outcome.reply
+is_without_memory window offset width value outcome is = rw is tt
+
+finished_suits : {A : Type 0} (window : DeviceKind) (offset width value : ℕ) (task : Task) (state : SlotState) (before after : Health) (outcome : Outcome A) → Finishes task state before after outcome → Suits (Write window offset width value) outcome.reply
+finished_suits {A} window offset width value Nothing state before after outcome f = is_done window offset width value outcome (ap (λ (o : Outcome A). o.reply) f.alike)
+finished_suits {A} window offset width value ServeBlock state before after outcome f = is_done window offset width value outcome (ap (λ (o : Outcome A). o.reply) f.is)
+finished_suits {A} window offset width value ServeReceive state before after outcome f = is_done window offset width value outcome (ap (λ (o : Outcome A). o.reply) f.is)
+finished_suits {A} window offset width value ServeTransmit state before after outcome f = is_done window offset width value outcome (ap (λ (o : Outcome A). o.reply) f.is)
+finished_suits {A} window offset width value (PutOut byte) state before after outcome f = is_done window offset width value outcome (ap (λ (o : Outcome A). o.reply) f.alike)
+
+cut_suits : {A : Type 0} (window : DeviceKind) (offset width value : ℕ) (task : Task) (state : SlotState) (before after : Health) (outcome : Outcome A) → IsCutShort task state before after outcome → Suits (Write window offset width value) outcome.reply
+cut_suits window offset width value Nothing state before after outcome f = absurd f
+cut_suits {A} window offset width value ServeBlock state before after outcome f = is_done window offset width value outcome (ap (λ (o : Outcome A). o.reply) f.service.is)
+cut_suits window offset width value ServeReceive state before after outcome f = absurd f
+cut_suits {A} window offset width value ServeTransmit state before after outcome f = is_without_memory window offset width value outcome (ap (λ (o : Outcome A). o.reply) f.is)
+cut_suits {A} window offset width value (PutOut byte) state before after outcome f = is_without_memory window offset width value outcome (ap (λ (o : Outcome A). o.reply) f.alike)
+
+read_suits : (A : Type 0) (state : SlotState) (addr len : ℕ) (bytes : List ℕ) (inside : Bool) → Suits {A = A} (MemRead addr len) (if inside then replies {A = A} state (Bytes bytes) else replies state BadRange).reply
+read_suits A state addr len bytes true = tt
+read_suits A state addr len bytes false = tt
+
+write_suits : (A : Type 0) (state after : SlotState) (addr : ℕ) (bytes : List ℕ) (inside : Bool) → Suits {A = A} (MemWrite addr bytes) (if inside then replies {A = A} after Done else replies state BadRange).reply
+write_suits A state after addr bytes true = tt
+write_suits A state after addr bytes false = tt
+
+given_suits : {A : Type 0} (state : SlotState) (what : EventKind A) (old new : Health) (outcome : Outcome A) → MayGive state what old new outcome → Suits what outcome.reply
+given_suits state (Read window offset width) old new outcome (inl served) = rw served.alike.alike tt
+given_suits state (Write window offset width value) old new outcome (inl served) = finished_suits window offset width value _ _ old new outcome served.alike
+given_suits {A} state (MemRead addr len) old new outcome (inl served) = rw served.alike.alike (read_suits A state addr len _ _)
+given_suits {A} state (MemWrite addr bytes) old new outcome (inl served) = rw served.alike.alike (write_suits A state _ addr bytes _)
+given_suits {A} state (Input bytes) old new outcome (inl served) = rw (ap (λ (o : Outcome A). o.reply) served.alike.is) tt
+given_suits state (Resize cols rows) old new outcome (inl served) = rw served.alike.alike tt
+given_suits state (Read window offset width) old new outcome (inr never) = absurd never
+given_suits state (Write window offset width value) old new outcome (inr cut) = cut_suits window offset width value _ _ old new outcome cut
+given_suits {A} state (MemRead addr len) old new outcome (inr unread) = rw unread.unchanged tt
+given_suits {A} state (MemWrite addr bytes) old new outcome (inr never) = absurd never
+given_suits state (Input bytes) old new outcome (inr never) = absurd never
+given_suits state (Resize cols rows) old new outcome (inr never) = absurd never
+
+suits_bad_slot : {A : Type 0} (what : EventKind A) → Suits what BadSlot
+suits_bad_slot what = tt
+
+suits_at : {A : Type 0} (old : World) (event : Event A) (written : Record A) (new : World) (o : Option SlotState) → MatchOption o (MissingStep old event.slot written new) (λ s. SlotStep old event.slot s event.what written new) → Suits event.what written.reply
+suits_at {A} old event written new None step = rw (ap (λ (r : Record A). r.reply) step.recorded) (suits_bad_slot event.what)
+suits_at {A} old event written new (Some s) step = rw (ap (λ (r : Record A). r.reply) step.recorded) (given_suits s event.what old.health new.health step.outcome step.given)
+
+-- an event gets one of its replies
+pub suits : {A : Type 0} {old : World} {event : Event A} {reply : Reply A} {before after : List ℕ} {new : World} → Answers old event reply before after new → Suits event.what reply
+suits {A} {old} {event} {reply} {before} {after} {new} answers = rw (← answers.replied) (suits_at old event answers.written new (slice_get old.slots event.slot) answers.step)
+
+-- ---- what is refused for its range puts nothing out
+
+read_is_silent : (A : Type 0) (state : SlotState) (bytes : List ℕ) (inside : Bool) → (if inside then replies {A = A} state (Bytes bytes) else replies state BadRange).output ≡ []
+read_is_silent A state bytes true = refl
+read_is_silent A state bytes false = refl
+
+write_is_silent : (A : Type 0) (state after : SlotState) (inside : Bool) → (if inside then replies {A = A} after Done else replies state BadRange).output ≡ []
+write_is_silent A state after true = refl
+write_is_silent A state after false = refl
+
+not_of_window : {A : Type 0} (window : DeviceKind) (offset width value : ℕ) (reply : Reply A) → Suits (Write window offset width value) reply → reply ≡ BadRange → ⊥
+not_of_window {A} window offset width value reply suits is = subst (λ (r : Reply A). Suits (Write window offset width value) r) is suits
+
+given_silent : {A : Type 0} (state : SlotState) (what : EventKind A) (old new : Health) (outcome : Outcome A) → MayGive state what old new outcome → outcome.reply ≡ BadRange → outcome.output ≡ []
+given_silent {A} state (Read window offset width) old new outcome (inl served) is = ap (λ (o : Outcome A). o.output) served.alike.alike
+given_silent {A} state (MemRead addr len) old new outcome (inl served) is = ap (λ (o : Outcome A). o.output) served.alike.alike ∙ read_is_silent A state _ _
+given_silent {A} state (MemWrite addr bytes) old new outcome (inl served) is = ap (λ (o : Outcome A). o.output) served.alike.alike ∙ write_is_silent A state _ _
+given_silent {A} state (Input bytes) old new outcome (inl served) is = ap (λ (o : Outcome A). o.output) served.alike.is
+given_silent {A} state (Resize cols rows) old new outcome (inl served) is = ap (λ (o : Outcome A). o.output) served.alike.alike
+given_silent state (Read window offset width) old new outcome (inr never) is = absurd never
+given_silent {A} state (MemRead addr len) old new outcome (inr unread) is = ap (λ (o : Outcome A). o.output) unread.unchanged
+given_silent state (MemWrite addr bytes) old new outcome (inr never) is = absurd never
+given_silent state (Input bytes) old new outcome (inr never) is = absurd never
+given_silent state (Resize cols rows) old new outcome (inr never) is = absurd never
+given_silent state (Write window offset width value) old new outcome given is =
+    absurd (not_of_window window offset width value outcome.reply (given_suits state (Write window offset width value) old new outcome given) is)
+
+silent_at : {A : Type 0} (old : World) (event : Event A) (written : Record A) (new : World) (o : Option SlotState) → MatchOption o (MissingStep old event.slot written new) (λ s. SlotStep old event.slot s event.what written new) → written.reply ≡ BadRange → written.output ≡ []
+silent_at {A} old event written new None step is = ap (λ (r : Record A). r.output) step.recorded
+silent_at {A} old event written new (Some s) step is =
+    ap (λ (r : Record A). r.output) step.recorded
+    ∙ given_silent s event.what old.health new.health step.outcome step.given (sym (ap (λ (r : Record A). r.reply) step.recorded) ∙ is)
+
+-- so the output stays
+pub silent : {A : Type 0} {old : World} {event : Event A} {reply : Reply A} {before after : List ℕ} {new : World} → Answers old event reply before after new → reply ≡ BadRange → after ≡ before
+silent {A} {old} {event} {reply} {before} {after} {new} answers is =
+    answers.appended
+    ∙ (ap (λ (bytes : List ℕ). before ++ bytes) (silent_at old event answers.written new (slice_get old.slots event.slot) answers.step (answers.replied ∙ is))
+    ∙ append-nil before)
+
+-- ---- an event that changes nothing
+
+shown_at : (slots : List BoardSlot) (bytes : List ℕ) (h : ℕ) (slot : BoardSlot) → slice_get slots h ≡ Some slot → slice_get (map (state_of bytes) slots) h ≡ Some (state_of bytes slot)
+shown_at slots bytes h slot here = rw (slice_get-map (state_of bytes) slots h, here) refl
+
+none_shown : (slots : List BoardSlot) (bytes : List ℕ) (h : ℕ) → length slots ≤ h → slice_get (map (state_of bytes) slots) h ≡ None
+none_shown slots bytes h past = slice_get_past (map (state_of bytes) slots) h (rw length-map past)
+
+put_back : (states : List SlotState) (h : ℕ) (state : SlotState) → slice_get states h ≡ Some state → states ≡ slice_set states h state
+put_back states h state here = sym (rw (← get_or_from_slice_get states h state state here) (set-get_or states h state))
+
+-- an event of no slot
+missing_answers : {A : Type 0} (s : SessionState) (event : Event A) (output : List ℕ) → length s.slots ≤ event.slot → Answers {A = A} (world_of s) event BadSlot output output (world_of s)
+missing_answers s event output past = record {
+  written = bad_slot event.slot;
+  step = rw (none_shown s.slots s.image event.slot past) (record { recorded = refl; same = refl });
+  replied = refl;
+  appended = sym (append-nil output);
+}
+
+pub missing : {A : Type 0} (s : SessionState) (event : Event A) → length s.slots ≤ event.slot → IsStep s event BadSlot s
+missing {A} s event past = record {
+  answers = missing_answers s event _ past;
+  others = λ other differ. refl;
+  outputs = λ other differ. refl;
+  extents = refl;
+  size = refl;
+  noted_is = refl;
+  bad_slot = (λ is. past, λ is. refl);
+  bad_slot_keeps = λ is. refl;
+  bad_range_keeps = λ is. refl;
+  no_memory = λ is. absurd (cc);
+}
+
+unchanged_answers : {A : Type 0} (s : SessionState) (event : Event A) (reply : Reply A) (output : List ℕ) (slot : BoardSlot) →
+    slice_get s.slots event.slot ≡ Some slot → lacks_memory reply ≡ false →
+    MayGive (state_of s.image slot) event.what (world_of s).health (world_of s).health (replies (state_of s.image slot) reply) →
+    Answers (world_of s) event reply output output (world_of s)
+unchanged_answers s event reply output slot here lacks given = record {
+  written = record_of event.slot (replies (state_of s.image slot) reply);
+  step = rw (shown_at s.slots s.image event.slot slot here) (record {
+    outcome = replies (state_of s.image slot) reply;
+    given = given;
+    recorded = refl;
+    slots = put_back _ event.slot (state_of s.image slot) (shown_at s.slots s.image event.slot slot here);
+    disturbed = rw lacks refl;
+    outside = refl;
+  });
+  replied = refl;
+  appended = sym (append-nil output);
+}
+
+-- an event of a slot
+pub unchanged : {A : Type 0} (s : SessionState) (event : Event A) (reply : Reply A) (slot : BoardSlot) →
+    slice_get s.slots event.slot ≡ Some slot → lacks_memory reply ≡ false → reply ≢ BadSlot → reply ≢ NoMemory →
+    MayGive (state_of s.image slot) event.what (world_of s).health (world_of s).health (replies (state_of s.image slot) reply) →
+    IsStep s event reply s
+unchanged {A} s event reply slot here lacks there found given = record {
+  answers = unchanged_answers s event reply _ slot here lacks given;
+  others = λ other differ. refl;
+  outputs = λ other differ. refl;
+  extents = refl;
+  size = refl;
+  noted_is = rw lacks refl;
+  bad_slot = (λ is. absurd (there is), λ past. let fits = slice_get_within s.slots event.slot slot here in absurd (omega arith));
+  bad_slot_keeps = λ is. refl;
+  bad_range_keeps = λ is. refl;
+  no_memory = λ is. absurd (found is);
+}
+
+-- ---- an event that the board answered
+
+or_false : (b : Bool) → (b || false) ≡ b
+or_false true = refl
+or_false false = refl
+
+at_image : {A : Type 0} (o : Option BoardSlot) (image : List ℕ) (what : EventKind A) → IsSomeAnd o (λ slot. (bytes : List ℕ) → MayLackMemory (state_of bytes slot) what) → IsSomeAnd o (λ slot. MayLackMemory (state_of image slot) what)
+at_image None image what never = absurd never
+at_image (Some slot) image what lacks = lacks image
+
+length-outside : (extents : List Extent) (i : ℕ) (bytes : List ℕ) → length (outside_from extents i bytes) ≡ length bytes
+length-outside extents i [] = refl
+length-outside extents i (byte ∷ bytes) = ap suc (length-outside extents (i + 1) bytes)
+
+-- where the bytes outside some extents are those outside others, both images are equally long
+same_size : (extents extents' : List Extent) (bytes bytes' : List ℕ) → outside_of extents' bytes' ≡ outside_of extents bytes → length bytes' ≡ length bytes
+same_size extents extents' bytes bytes' same =
+    sym (length-outside extents' 0 bytes') ∙ (ap length same ∙ length-outside extents 0 bytes)
+
+-- a board of equal extents has as many slots
+pub as_many : (slots slots' : List BoardSlot) → extents_of slots' ≡ extents_of slots → length slots' ≡ length slots
+as_many slots slots' same =
+    sym (length-map slots' (λ (s : BoardSlot). s.extent)) ∙ (ap length same ∙ length-map slots (λ (s : BoardSlot). s.extent))
+
+-- a session over a board with these slots and this image
+abbrev pub shown : List BoardSlot → Disk → List (List ℕ) → SessionState
+shown slots disk outputs = record { slots = slots; image = bytes_of disk; mark = disk.mark; outputs = outputs }
+
+-- a session with these slots and this image, and what its consoles put out
+abbrev session : List BoardSlot → List ℕ → Bool → List (List ℕ) → SessionState
+session slots image mark outputs = record { slots = slots; image = image; mark = mark; outputs = outputs }
+
+others_output : (outputs : List (List ℕ)) (h : ℕ) (new : List ℕ) → KeepsOtherOutputs h outputs (slice_set outputs h new)
+others_output [] h new other differ = refl
+others_output (o ∷ outputs) zero new zero differ = absurd (differ refl)
+others_output (o ∷ outputs) zero new (suc other) differ = refl
+others_output (o ∷ outputs) (suc h) new zero differ = refl
+others_output (o ∷ outputs) (suc h) new (suc other) differ = others_output outputs h new other (λ same. differ (ap suc same))
+
+set_there : (outputs : List (List ℕ)) (h : ℕ) (new : List ℕ) → h < length outputs → unwrap_or (slice_get (slice_set outputs h new) h) [] ≡ new
+set_there outputs h new fits =
+    let fits' : h < length (slice_set outputs h new) = omega (arith, length-set outputs h new) in
+    rw (unwrap_or-slice_get (slice_set outputs h new) h []) (get_or-set_same outputs h new [] fits)
+
+stays_there : (outputs : List (List ℕ)) (h : ℕ) (old : List ℕ) → slice_get outputs h ≡ Some old → slice_set outputs h old ≡ outputs
+stays_there outputs h old here = rw (← get_or_from_slice_get outputs h old old here) (set-get_or outputs h old)
+
+-- its output stands behind what was there
+pub stepped : {A : Type 0} (slots slots' : List BoardSlot) (image image' : List ℕ) (mark mark' : Bool) (outputs : List (List ℕ)) (event : Event A) (reply : Reply A) (before after : List ℕ) →
+    slice_get outputs event.slot ≡ Some before →
+    length outputs ≡ length slots →
+    Answers (world_of (session slots image mark outputs)) event reply before after (world_of (session slots' image' mark' outputs)) →
+    KeepsOthers event.slot slots slots' →
+    extents_of slots' ≡ extents_of slots →
+    outside_of (extents_of slots') image' ≡ outside_of (extents_of slots) image →
+    disturbed_of slots' ≡ noted event.slot (lacks_memory reply || false) (disturbed_of slots) →
+    (reply ≡ BadSlot) ↔ (length slots ≤ event.slot) →
+    (reply ≡ BadRange → session slots' image' mark' outputs ≡ session slots image mark outputs) →
+    (reply ≡ NoMemory → IsSomeAnd (slice_get slots event.slot) (λ slot. (bytes : List ℕ) → MayLackMemory (state_of bytes slot) event.what)) →
+    IsStep (session slots image mark outputs) event reply (session slots' image' mark' (slice_set outputs event.slot after))
+stepped {A} slots slots' image image' mark mark' outputs event reply before after here fit answers others extents outside note missing range memory =
+    let fits : event.slot < length outputs = slice_get_within outputs event.slot before here in
+    record {
+      answers = rw (set_there outputs event.slot after fits, here) answers;
+      others = others;
+      outputs = others_output outputs event.slot after;
+      extents = extents;
+      size = same_size (extents_of slots) (extents_of slots') image image' outside;
+      noted_is = note ∙ ap (λ b. noted event.slot b (disturbed_of slots)) (or_false (lacks_memory reply));
+      bad_slot = missing;
+      bad_slot_keeps = λ is. let past : length slots ≤ event.slot = missing.0 is in absurd (omega arith);
+      bad_range_keeps = λ is. let quiet : after ≡ before = silent answers is in
+          rw (quiet, stays_there outputs event.slot before here) (range is);
+      no_memory = λ is. at_image (slice_get slots event.slot) image event.what (memory is);
+    }
+
+-- ---- a range of a guest's memory
+
+not_true : (b : Bool) → (b ≡ true → ⊥) → b ≡ false
+not_true true never = absurd (never refl)
+not_true false never = refl
+
+held : (found : BoardSlot) (addr n : ℕ) → Inside found.memory addr n → holds found.memory addr n ≡ true
+held found addr n inside = (is_inside-tells found.memory addr n).1 inside
+
+not_held : (found : BoardSlot) (addr n : ℕ) → (Inside found.memory addr n → ⊥) → holds found.memory addr n ≡ false
+not_held found addr n outside = not_true (holds found.memory addr n) (λ is. outside ((is_inside-tells found.memory addr n).0 is))
+
+read_at : (A : Type 0) (s : SessionState) (slot addr n : ℕ) (new : List ℕ) (o : Option BoardSlot) → slice_get s.slots slot ≡ o →
+    IsSomeAnd o (λ found. Inside found.memory addr n) → IsSomeAnd o (λ found. new ≡ part_of found.memory addr n) →
+    IsStep {A = A} s (record { slot = slot; what = MemRead addr n }) (Bytes new) s
+read_at A s slot addr n new None here inside is = absurd inside
+read_at A s slot addr n new (Some found) here inside is =
+    unchanged s (record { slot = slot; what = MemRead addr n }) (Bytes new) found here refl (λ is. absurd (cc)) (λ is. absurd (cc))
+    (inl (record {
+      alike = record {
+        alike = rw (held found addr n inside) (ap (λ (bytes : List ℕ). replies {A = A} (state_of s.image found) (Bytes bytes)) is);
+        image = refl;
+      };
+      answered = λ is. absurd (cc);
+      failures = refl;
+    }))
+
+-- what was read of it is the answer to that read
+pub was_read : (A : Type 0) (s : SessionState) (slot addr n : ℕ) (new : List ℕ) →
+    IsSomeAnd (slice_get s.slots slot) (λ found. Inside found.memory addr n) → IsSomeAnd (slice_get s.slots slot) (λ found. new ≡ part_of found.memory addr n) →
+    IsStep {A = A} s (record { slot = slot; what = MemRead addr n }) (Bytes new) s
+was_read A s slot addr n new inside is = read_at A s slot addr n new (slice_get s.slots slot) refl inside is
+
+refused_at : {A : Type 0} (s : SessionState) (event : Event A) (o : Option BoardSlot) → slice_get s.slots event.slot ≡ o →
+    ((found : BoardSlot) → o ≡ Some found → MayGive (state_of s.image found) event.what (world_of s).health (world_of s).health (replies (state_of s.image found) BadRange)) →
+    IsStep s event (refusing_reply (if nat_lt event.slot (length s.slots) then refusal.BadRange else refusal.BadSlot)) s
+refused_at s event None here given =
+    let past : length s.slots ≤ event.slot = grind (arith, slice_get_cases s.slots event.slot) in
+    let test : nat_lt event.slot (length s.slots) ≡ false = grind (arith, nat_tests) in
+    rw test (missing s event past)
+refused_at s event (Some found) here given =
+    let fits : event.slot < length s.slots = slice_get_within s.slots event.slot found here in
+    let test : nat_lt event.slot (length s.slots) ≡ true = grind (arith, nat_tests) in
+    rw test (unchanged s event BadRange found here refl (λ is. absurd (cc)) (λ is. absurd (cc)) (given found refl))
+
+outside_of_slot : (o : Option BoardSlot) (addr n : ℕ) → (IsSomeAnd o (λ found. Inside found.memory addr n) → ⊥) → (found : BoardSlot) → o ≡ Some found → holds found.memory addr n ≡ false
+outside_of_slot None addr n outside found is = absurd (cc)
+outside_of_slot (Some slot) addr n outside found is = not_held found addr n (λ inside. outside (rw (same_Some slot found is) inside))
+
+-- what isn't inside it is refused, to a read
+pub not_read : (A : Type 0) (s : SessionState) (slot addr n : ℕ) →
+    (IsSomeAnd (slice_get s.slots slot) (λ found. Inside found.memory addr n) → ⊥) →
+    IsStep {A = A} s (record { slot = slot; what = MemRead addr n }) (refusing_reply (if nat_lt slot (length s.slots) then refusal.BadRange else refusal.BadSlot)) s
+not_read A s slot addr n outside =
+    refused_at s (record { slot = slot; what = MemRead addr n }) (slice_get s.slots slot) refl
+    (λ found is. inl (record {
+      alike = record { alike = rw (outside_of_slot (slice_get s.slots slot) addr n outside found is) refl; image = refl };
+      answered = λ is. absurd (cc);
+      failures = refl;
+    }))
+
+-- and to a write
+pub not_written : (A : Type 0) (s : SessionState) (slot addr : ℕ) (bytes : List ℕ) →
+    (IsSomeAnd (slice_get s.slots slot) (λ found. Inside found.memory addr (length bytes)) → ⊥) →
+    IsStep {A = A} s (record { slot = slot; what = MemWrite addr bytes }) (refusing_reply (if nat_lt slot (length s.slots) then refusal.BadRange else refusal.BadSlot)) s
+not_written A s slot addr bytes outside =
+    refused_at s (record { slot = slot; what = MemWrite addr bytes }) (slice_get s.slots slot) refl
+    (λ found is. inl (record {
+      alike = record { alike = rw (outside_of_slot (slice_get s.slots slot) addr (length bytes) outside found is) refl; image = refl };
+      answered = λ is. absurd (cc);
+      failures = refl;
+    }))
+
+-- a step that put nothing out keeps whatever stands in the output
+behind : {A : Type 0} {old : World} {event : Event A} {reply : Reply A} {new : World} (output : List ℕ) → Answers old event reply [] [] new → Answers old event reply output output new
+behind {A} {old} {event} {reply} {new} output answers = record {
+  written = answers.written;
+  step = answers.step;
+  replied = answers.replied;
+  appended = rw (← answers.appended) (sym (append-nil output));
+}
+
+wrote_at : (A : Type 0) (slots slots' : List BoardSlot) (image image' : List ℕ) (mark mark' : Bool) (outputs : List (List ℕ)) (slot addr : ℕ) (bytes : List ℕ) (o : Option BoardSlot) → slice_get slots slot ≡ o →
+    Answers {A = A} (world_of (session slots image mark outputs)) (record { slot = slot; what = MemWrite addr bytes }) Done [] [] (world_of (session slots' image' mark' outputs)) →
+    IsSomeAnd o (λ found. slots' ≡ slice_set slots slot (record found { memory = put found.memory addr bytes })) →
+    image' ≡ image → disturbed_of slots' ≡ disturbed_of slots →
+    IsStep {A = A} (session slots image mark outputs) (record { slot = slot; what = MemWrite addr bytes }) Done (session slots' image' mark' outputs)
+wrote_at A slots slots' image image' mark mark' outputs slot addr bytes None here answers stands same note = absurd stands
+wrote_at A slots slots' image image' mark mark' outputs slot addr bytes (Some found) here answers stands same note =
+    let fits : slot < length slots = slice_get_within slots slot found here in
+    record {
+      answers = behind _ answers;
+      others = λ other differ. rw stands (others_kept slots slot _ other differ);
+      outputs = λ other differ. refl;
+      extents = rw stands (extents_of-set slots slot found _ here refl);
+      size = ap length same;
+      noted_is = note;
+      bad_slot = (λ is. absurd (cc), λ past. absurd (omega arith));
+      bad_slot_keeps = λ is. absurd (cc);
+      bad_range_keeps = λ is. absurd (cc);
+      no_memory = λ is. absurd (cc);
+    }
+
+-- what was written to it is the step of that write
+pub was_written : (A : Type 0) (slots slots' : List BoardSlot) (image image' : List ℕ) (mark mark' : Bool) (outputs : List (List ℕ)) (slot addr : ℕ) (bytes : List ℕ) →
+    Answers {A = A} (world_of (session slots image mark outputs)) (record { slot = slot; what = MemWrite addr bytes }) Done [] [] (world_of (session slots' image' mark' outputs)) →
+    IsSomeAnd (slice_get slots slot) (λ found. slots' ≡ slice_set slots slot (record found { memory = put found.memory addr bytes })) →
+    image' ≡ image → disturbed_of slots' ≡ disturbed_of slots →
+    IsStep {A = A} (session slots image mark outputs) (record { slot = slot; what = MemWrite addr bytes }) Done (session slots' image' mark' outputs)
+was_written A slots slots' image image' mark mark' outputs slot addr bytes answers stands same note =
+    wrote_at A slots slots' image image' mark mark' outputs slot addr bytes (slice_get slots slot) refl answers stands same note

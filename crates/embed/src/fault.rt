@@ -1,0 +1,18 @@
+//! Why there is no session.
+
+use board::BoardFault;
+use thiserror::Error;
+
+/// A session that was refused.
+#[derive(Clone, Copy, Debug, Error, PartialEq, Eq)]
+pub enum SessionFault {
+    /// The image isn't whole sectors of 512 bytes.
+    #[error("the image isn't whole sectors of 512 bytes")]
+    BadImage,
+    /// The board was refused, for another reason than want of memory.
+    #[error("{0}")]
+    Board(BoardFault),
+    /// There was no memory for the session.
+    #[error("no memory for the session")]
+    NoMemory,
+}

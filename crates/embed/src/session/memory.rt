@@ -1,0 +1,62 @@
+//! A guest's memory between its accesses. Nothing here takes memory.
+
+ghost use Rattle.std.specs.Prelude.{◌≡◌, ◌<◌, ◌↔◌, length, nat_lt, if◌then◌else◌, OnErr, IsSome, IfSome, IsSomeAnd};
+ghost use Rattle.std.specs.List.{slice_get};
+ghost use Rattle.board.specs.declared.event.EventKind.{EventKind};
+ghost use Rattle.embed.specs.declared.refusal.Refusal.{Refusal};
+ghost use Rattle.embed.specs.Answering.{bytes_reply, done_reply};
+ghost use Rattle.embed.specs.Session.{IsStep};
+
+use crate::refusal::Refusal;
+use crate::session::Session;
+use board::GuestMemory;
+use std::alloc::Allocator;
+
+impl<A: Allocator> Session<A> {
+    /// Copies bytes out of the slot's memory, from address `addr` on: the step of that read. After a
+    /// refusal `into` is as it was.
+    pub fn read_memory(&self, slot: u8, addr: u64, into: &mut [u8]) -> Result<(), Refusal>
+        ensures step { IsStep {A = A} self.now
+            (record { slot = slot; what = EventKind.MemRead addr (length into.old) })
+            (bytes_reply result into.new) self.now }
+        ensures kept { OnErr result (into.new ≡ into.old) }
+    {
+        if self.board.read_memory(slot, addr, into) {
+            return Ok(());
+        }
+        Err(self.out_of_range(slot))
+    }
+
+    /// Copies bytes into the slot's memory, from address `addr` on: the step of that write.
+    pub fn write_memory(&mut self, slot: u8, addr: u64, from: &[u8]) -> Result<(), Refusal>
+        ensures step { IsStep {A = A} self.old
+            (record { slot = slot; what = EventKind.MemWrite addr from.now })
+            (done_reply result) self.new }
+    {
+        if self.board.write_memory(slot, addr, from) {
+            return Ok(());
+        }
+        Err(self.out_of_range(slot))
+    }
+
+    /// The slot's memory, as it stands.
+    pub fn memory(&self, slot: u8) -> Option<&GuestMemory<A>>
+        ensures there { IsSome result ↔ (slot < length self.now.slots) }
+        ensures value { IfSome result (λ memory.
+            IsSomeAnd (slice_get self.now.slots slot) (λ found. memory.now ≡ found.memory)) }
+    {
+        self.board.memory(slot)
+    }
+
+    // Why a range isn't inside the slot's memory.
+    fn out_of_range(&self, slot: u8) -> Refusal
+        ensures { result ≡ (if nat_lt slot (length self.now.slots) then Refusal.BadRange
+            else Refusal.BadSlot) }
+    {
+        if usize::from(slot) < self.board.slots() {
+            Refusal::BadRange
+        } else {
+            Refusal::BadSlot
+        }
+    }
+}

@@ -1,0 +1,92 @@
+//! What a guest does to its devices' registers, and the words that stand for its interrupt lines.
+
+ghost use Rattle.std.specs.Prelude.{◌≡◌, length};
+ghost use Rattle.std.specs.List.{slice_get};
+ghost use Rattle.std.specs.Option.{option_map};
+ghost use Rattle.board.specs.declared.event.EventKind.{EventKind};
+ghost use Rattle.board.specs.Slot.{interrupt_words};
+ghost use Rattle.board.specs.World.{disturbed_of};
+ghost use Rattle.embed.specs.Answering.{done_reply, value_reply};
+ghost use Rattle.embed.specs.Session.{IsStep};
+
+use crate::refusal::Refusal;
+use crate::session::Session;
+use board::{DeviceKind, Event, EventKind, Reply};
+use std::alloc::Allocator;
+
+impl<A: Allocator + Copy> Session<A> {
+    /// A guest's read of `width` bytes, 1, 2 or 4, at an offset of a window: what its register gets,
+    /// extended by zeros. It is refused for a bad slot alone.
+    pub fn read(
+        &mut self,
+        slot: u8,
+        window: DeviceKind,
+        offset: u16,
+        width: u8,
+    ) -> Result<u32, Refusal>
+        ensures step { IsStep {A = A} self.old
+            (record { slot = slot; what = EventKind.Read window offset width })
+            (value_reply result) self.new }
+    {
+        let what = EventKind::Read {
+            window,
+            offset,
+            width,
+        };
+        match self.step(&Event { slot, what }) {
+            Reply::Value(value) => Ok(value),
+            reply => Err(Refusal::of(&reply)),
+        }
+    }
+
+    /// A guest's write. What it notifies is served to its end. Where a console finds no memory for what it
+    /// puts out the chain stays on offer for the next notification.
+    pub fn write(
+        &mut self,
+        slot: u8,
+        window: DeviceKind,
+        offset: u16,
+        width: u8,
+        value: u32,
+    ) -> Result<(), Refusal>
+        ensures step { IsStep {A = A} self.old
+            (record { slot = slot; what = EventKind.Write window offset width value })
+            (done_reply result) self.new }
+    {
+        let what = EventKind::Write {
+            window,
+            offset,
+            width,
+            value,
+        };
+        match self.step(&Event { slot, what }) {
+            Reply::Done => Ok(()),
+            reply => Err(Refusal::of(&reply)),
+        }
+    }
+}
+
+impl<A: Allocator> Session<A> {
+    /// InterruptStatus of the slot's block window and of its console window, in this order (4.2.2).
+    /// A window's interrupt line is raised while its word isn't 0.
+    pub fn interrupts(&self, slot: u8) -> Option<(u8, u8)>
+        ensures { result ≡ option_map interrupt_words (slice_get self.now.slots slot) }
+    {
+        self.board.interrupts(slot)
+    }
+
+    /// Whether an event of the slot was ever refused for want of memory. Of a slot that isn't disturbed the
+    /// promise holds in full that its guest sees what it would see alone.
+    pub fn disturbed(&self, slot: u8) -> Option<bool>
+        ensures { result ≡ slice_get (disturbed_of self.now.slots) slot }
+    {
+        self.board.disturbed(slot)
+    }
+
+    /// How many slots there are, from 1 to 16. They are numbered from 0.
+    pub fn slots(&self) -> usize
+        ensures { result ≡ length self.now.slots }
+    {
+        self.board.slots()
+    }
+}
