@@ -1,5 +1,5 @@
-// A heap for tests that refuses memory on demand. A test hands `&heap` to the code under test, sets the first request to be
-// refused, and asks afterwards whether it came. Requests that are not refused go to an inner allocator, and so does each block
+// A heap for tests that refuses memory on demand. A test hands `&heap` to the code under test, sets which request is to be
+// refused, alone or with all later ones, and asks afterwards whether it came. Requests that are not refused go to an inner allocator, and so does each block
 // that is given back. A request is an `allocate`; since `grow` and `shrink` are the trait's own, each of those is one too.
 #![tactic(auto)]
 
@@ -12,7 +12,7 @@ mod refusal;
 
 use refusal::Refusal;
 
-/// A heap that refuses memory from a chosen request on. A `&` to it is an allocator that can be copied.
+/// A heap that refuses a chosen request for memory, alone or with each later one. A `&` to it is an allocator that can be copied.
 #[derive(Drop)]
 pub struct RefusingHeap<A: Allocator = Global> {
     /// The allocator that owns the memory.
@@ -21,27 +21,32 @@ pub struct RefusingHeap<A: Allocator = Global> {
 }
 
 impl<A: Allocator> RefusingHeap<A> {
-    /// A heap that refuses nothing until `refuse_from` is called.
+    /// A heap that refuses nothing until `refuse_from` or `refuse_only` is called.
     pub fn new(inner: A) -> RefusingHeap<A>
         ensures passes_on { result.inner ≡ inner }
     {
         RefusingHeap {
             inner,
-            refusal: Cell::new(Refusal::new(0)),
+            refusal: Cell::new(Refusal::new(0, 0)),
         }
     }
 
     /// Refuses the nth request from now and each later one, or none where `n` is 0. The count of requests begins anew.
     pub fn refuse_from(&self, n: u64) {
-        self.refusal.set(Refusal::new(n));
+        self.refusal.set(Refusal::new(n, u64::MAX));
     }
 
-    /// Whether a request was refused since `refuse_from` was last called.
+    /// Refuses the nth request from now and no other, or none where `n` is 0. The count of requests begins anew.
+    pub fn refuse_only(&self, n: u64) {
+        self.refusal.set(Refusal::new(n, n));
+    }
+
+    /// Whether a request was refused since `refuse_from` or `refuse_only` was last called.
     pub fn has_refused(&self) -> bool {
         self.refusal.get().has_come()
     }
 
-    /// How many requests came since `refuse_from` was last called, or since `new`; refused ones count.
+    /// How many requests came since `refuse_from` or `refuse_only` was last called, or since `new`; refused ones count.
     pub fn requests(&self) -> u64 {
         self.refusal.get().requests
     }
@@ -51,7 +56,7 @@ impl<A: Allocator> RefusingHeap<A> {
 fn refuses_next(refusal: &Cell<Refusal>) -> bool {
     let now = refusal.get().with_request();
     refusal.set(now);
-    now.has_come()
+    now.refuses()
 }
 
 unsafe impl<A: Allocator> Allocator for RefusingHeap<A> {

@@ -38,6 +38,19 @@ fn refuses_the_third_growth_and_each_later_one(rt: HostRuntime) -> Result<(), Fa
 }
 
 #[test]
+fn refuses_the_third_request_alone(rt: HostRuntime) {
+    let heap = RefusingHeap::new(rt.alloc());
+    heap.refuse_only(3);
+    for n in 1..6u64 {
+        let is_refused = Box::new(&heap, 7u8).is_err();
+        assert_eq!(rt;
+            (is_refused, heap.has_refused(), heap.requests()),
+            (n == 3, n >= 3, n)
+        );
+    }
+}
+
+#[test]
 fn refuses_none(rt: HostRuntime) -> Result<(), Fail> {
     let heap = RefusingHeap::new(rt.alloc());
     let mut bytes = Vec::new(&heap);
