@@ -5,6 +5,7 @@ ghost use Rattle.trace.specs.Words.{ArePairs, IsBytesField, IsDigit, Says, Bytes
 ghost use Rattle.trace.specs.Refusals.{RefusesBytes};
 
 use crate::fault::FaultKind;
+use crate::pairs::read_pairs;
 use board::Bytes;
 use std::alloc::Allocator;
 
@@ -52,8 +53,9 @@ pub(crate) fn bytes_of<A: Allocator>(alloc: A, field: &[u8]) -> Result<Bytes<A>,
     if !are_pairs(field) {
         return Err(FaultKind::Bytes);
     }
-    match hex::decode(alloc, field) {
-        Ok(bytes) => Ok(Bytes::from(bytes)),
-        Err(_) => Err(FaultKind::NoMemory),
-    }
+    let Ok(mut bytes) = vec![in alloc; 0; field.len() / 2] else {
+        return Err(FaultKind::NoMemory);
+    };
+    read_pairs(field, bytes.as_mut_slice());
+    Ok(Bytes::from(bytes))
 }

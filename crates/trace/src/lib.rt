@@ -23,6 +23,7 @@ mod last_line;
 mod laws;
 mod no_memory;
 mod number;
+mod pairs;
 mod print;
 mod push;
 mod range;
