@@ -28,26 +28,27 @@ pub(crate) fn read_pairs(digits: &[u8], bytes: &mut [u8])
     ensures spelled { encode_lower bytes.new ≡ digits.now }
     ensures fits { All (λ b. b < 2 ^ 8) bytes.new }
 {
+    let (pairs, _) = digits.as_chunks::<2>();
     for i in 0..bytes.len() {
-        bytes[i] = byte_of(digits[2 * i], digits[2 * i + 1]);
+        bytes[i] = byte_of(u16::from_le_bytes(pairs[i]));
     }
 }
 
-// The byte of two digits.
-fn byte_of(high: u8, low: u8) -> u8
-    requires high { IsDigit high }
-    requires low { IsDigit low }
-    ensures high { digit (result / 16) ≡ high }
-    ensures low { digit (result % 16) ≡ low }
+// The byte of two digits, of which the first is the lower half of the pair.
+fn byte_of(pair: u16) -> u8
+    requires high { IsDigit (pair % 256) }
+    requires low { IsDigit (pair / 256) }
+    ensures high { digit (result / 16) ≡ pair % 256 }
+    ensures low { digit (result % 16) ≡ pair / 256 }
 {
-    value_of_digit(high) * 16 + value_of_digit(low)
+    (value_of_digit(pair % 256) * 16 + value_of_digit(pair / 256)) as u8
 }
 
-// The value of a byte that is a digit.
-fn value_of_digit(c: u8) -> u8
+// The value of a byte that is a digit: `0` is 48, and `a` is 87 above its value.
+fn value_of_digit(c: u16) -> u16
     requires { IsDigit c }
     ensures small { result < 16 }
     ensures is { digit result ≡ c }
 {
-    if c <= b'9' { c - b'0' } else { c - b'a' + 10 }
+    if c <= 57 { c - 48 } else { c - 87 }
 }
