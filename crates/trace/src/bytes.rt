@@ -21,6 +21,7 @@ fn are_digits(field: &[u8]) -> bool
 }
 
 /// Whether the byte is a lower case digit. It has no branch, so that many bytes are judged at once.
+#[tactic(auto, using(crate::proofs::Judging::digit_test))]
 fn is_digit(c: u8) -> bool
     ensures { IsTrue result ↔ IsDigit c }
 {
