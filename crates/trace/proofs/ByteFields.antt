@@ -1,47 +1,16 @@
 -- Bytes spelled by digits: which fields spell some.
-use Rattle.std.proofs.Common.{◌≡◌, ◌≢◌, ℕ, suc, ◌+◌, ◌*◌, ◌/◌, ◌%◌, ◌^◌, ◌<◌, List, [], ◌∷◌, ◌++◌, All, length, get_or, take, drop, take-append-drop, append_assoc, append-nil, Ok, Option, Some, None, true, refl, sym, ap, subst, ◌∙◌, arith, inl, inr}
+use Rattle.std.proofs.Common.{◌≡◌, ◌≢◌, ℕ, suc, ◌/◌, ◌%◌, ◌^◌, ◌<◌, List, [], ◌∷◌, ◌++◌, All, length, get_or, take, drop, take_at, take-append-drop, append_assoc, append-nil, refl, sym, ap, subst, ◌∙◌, arith, inl, inr}
 use Rattle.std.proofs.lemmas.List.{get_or_past}
 use Rattle.std.proofs.lemmas.Bool.{cases_lt}
-use Rattle.std.proofs.lemmas.List.Elements.{All-head, All-tail, All-cons, All-nil, recursion_from_All}
-use Rattle.std.specs.Option.{is_some, IfSome}
-use Rattle.hex.specs.Hex.{decode_of, encode_lower, encode_with, lower_digits, IsBytes}
-use Rattle.hex.proofs.HexLemmas.{decode_of-encode_lower, length-encode_with}
+use Rattle.std.proofs.lemmas.List.Elements.{All-cons, All-nil, recursion_from_All}
+use Rattle.hex.specs.Hex.{encode_lower, encode_with, lower_digits, IsBytes}
+use Rattle.hex.proofs.HexLemmas.{length-encode_with}
 use Rattle.trace.specs.Spelling.{digit, bytes}
 use Rattle.trace.proofs.Signs.{Above, above_tested, above_digits}
 use Rattle.trace.specs.Words.{ArePairs, IsDigit, IsBytesField, Says, Bytes}
 
 abbrev pub AreBytes : List ℕ → Type 0
 AreBytes = All (λ b. b < 2 ^ 8)
-
--- bytes whose digits a field is
-record Decoded (field : List ℕ) : Type 0 where
-  bs : List ℕ
-  fits : AreBytes bs
-  is : field ≡ encode_lower bs
-
--- an even number of digits spells bytes
-decoded : (field : List ℕ) → All IsDigit field → length field % 2 ≡ 0 → Decoded field
-unfolding digit encode_with
-decoded [] h even = record { bs = []; fits = All-nil (λ b. b < 2 ^ 8); is = refl }
-decoded (a ∷ []) h even = absurd (omega arith)
-decoded (a ∷ b ∷ rest) h even =
-    let x = All-head IsDigit a (b ∷ rest) h in
-    let tail = All-tail IsDigit a (b ∷ rest) h in
-    let y = All-head IsDigit b rest tail in
-    let more = decoded rest (All-tail IsDigit b rest tail) (omega arith) in
-    let sx = x.small in
-    let sy = y.small in
-    let byte : ℕ = x.value * 16 + y.value in
-    let high : byte / 16 ≡ x.value = omega arith in
-    let low : byte % 16 ≡ y.value = omega arith in
-    let ea : a ≡ digit (byte / 16) = x.is ∙ ap digit (sym high) in
-    let eb : b ≡ digit (byte % 16) = y.is ∙ ap digit (sym low) in
-    let em = more.is in
-    record {
-      bs = byte ∷ more.bs;
-      fits = All-cons (λ n. n < 2 ^ 8) byte more.bs (omega arith) more.fits;
-      is = cc;
-    }
 
 pub is_bytes : (bs : List ℕ) → AreBytes bs → IsBytes bs
 is_bytes bs h k = elim (cases_lt k (length bs)) [ inl lt ↦ h k 0 lt | inr le ↦ rw (get_or_past bs k 0 le) (omega arith) ]
@@ -59,16 +28,12 @@ digits_encoded (b ∷ bs) h =
     All-cons IsDigit (digit (b / 16)) (digit (b % 16) ∷ encode_lower bs) (record { value = b / 16; small = omega arith; is = refl })
     (All-cons IsDigit (digit (b % 16)) (encode_lower bs) (record { value = b % 16; small = omega arith; is = refl }) (digits_encoded bs (λ k. h (suc k))))
 
--- what decoding such a field gave
-pub decoded_is : (field bs : List ℕ) → ArePairs field → decode_of field ≡ Ok bs → IsBytesField field bs
-decoded_is field bs h e =
-    let d = decoded field h.digits h.even in
-    let whole = d.is in
+-- what was read of such a field, where it stands in front of other bytes
+pub bytes_read : (field bs front rest : List ℕ) (n : ℕ) → ArePairs field → n ≡ length front → bs ≡ take n (front ++ rest) → encode_lower front ≡ field → AreBytes front → IsBytesField field bs
+bytes_read field bs front rest n h len is spelled fits =
     let pos = h.some in
-    let back : decode_of field ≡ Ok d.bs = ap decode_of d.is ∙ decode_of-encode_lower d.bs (is_bytes d.bs d.fits) in
-    let same : d.bs ≡ bs = cc in
-    let enough : 0 < length (encode_lower d.bs) = omega (arith, ap length whole) in
-    record { fits = rw (← same) d.fits; spelled = rw (← same) (whole ∙ sym (bytes_above d.bs enough)) }
+    let enough : 0 < length (encode_lower front) = omega (arith, ap length spelled) in
+    rw (is ∙ take_at front rest n (sym len)) (record { fits = fits; spelled = sym spelled ∙ sym (bytes_above front enough) })
 
 pairs_encoded : (b : ℕ) (bs : List ℕ) → AreBytes (b ∷ bs) → ArePairs (encode_lower (b ∷ bs))
 pairs_encoded b bs h =
@@ -88,11 +53,6 @@ no_bytes field minus bad h = no_bytes_is h.0 field minus bad h.1
 pub minus_is : (field : List ℕ) → field ≡ 45 ∷ [] → IsBytesField field []
 unfolding bytes
 minus_is field e = record { fits = All-nil (λ b. b < 2 ^ 8); spelled = e }
-
--- a byte whose value was found is a digit
-pub digit_found : (o : Option ℕ) (c : ℕ) → is_some o ≡ true → IfSome o (λ d. (d < 16) × (digit d ≡ c)) → IsDigit c
-digit_found None c is h = absurd cc
-digit_found (Some d) c is h = record { value = d; small = h.0; is = sym h.1 }
 
 -- no byte of a spelling is a sign that cuts a text
 pub bytes_digits : (bs : List ℕ) → AreBytes bs → Above 32 (bytes bs)

@@ -3,6 +3,7 @@ pub mod Numbers
 pub mod Cutting
 pub mod Signs
 pub mod ByteFields
+pub mod PairSteps
 pub mod Judging
 pub mod Entries
 pub mod Clean

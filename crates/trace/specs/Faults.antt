@@ -1,4 +1,4 @@
--- Why a text is no trace's: the first line with a fault, and the first check that it fails.
+-- Why a text isn't a trace: the first line with a fault, and the first check that it fails.
 use Rattle.std.specs.Prelude.{◌≡◌, ◌≢◌, ◌==◌, ℕ, MatchBool, ◌-◌, ◌<◌, ◌≤◌, ◌⊎◌, ⊤, List, [], ◌∷◌, length, drop, slice_index_or}
 use Rattle.trace.specs.declared.fault.FaultKind.{FaultKind}
 use Rattle.trace.specs.declared.fault.FaultKind.TheVariants as kind

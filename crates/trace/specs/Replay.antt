@@ -29,7 +29,7 @@ pub record IsTraceOf {A : Type 0} (input : List ℕ) (trace : Content A) : Type 
   pub printable : IsPrintable trace
   pub only : (other : Content A) → InRange other → IsPrintable other → input ≡ text other → other ≡ trace
 
--- The input has this fault, and is no trace's text; where memory was wanting, no line before it has a
+-- The input has this fault, and no trace has that text; where memory was wanting, no line before it has a
 -- fault.
 pub record IsTraceFault (A : Type 0) (input : List ℕ) (fault : TraceFault) : Type 0 where
   pub named : fault.kind ≢ kind.NoMemory → IsFault input fault.line fault.kind

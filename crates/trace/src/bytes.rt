@@ -5,6 +5,7 @@ ghost use Rattle.trace.specs.Words.{ArePairs, IsBytesField, IsDigit, Says, Bytes
 ghost use Rattle.trace.specs.Refusals.{RefusesBytes};
 
 use crate::fault::FaultKind;
+use crate::pairs::read_pairs;
 use board::Bytes;
 use std::alloc::Allocator;
 
@@ -20,6 +21,7 @@ fn are_digits(field: &[u8]) -> bool
 }
 
 /// Whether the byte is a lower case digit. It has no branch, so that many bytes are judged at once.
+#[tactic(auto, using(crate::proofs::Judging::digit_test))]
 fn is_digit(c: u8) -> bool
     ensures { IsTrue result ↔ IsDigit c }
 {
@@ -52,8 +54,9 @@ pub(crate) fn bytes_of<A: Allocator>(alloc: A, field: &[u8]) -> Result<Bytes<A>,
     if !are_pairs(field) {
         return Err(FaultKind::Bytes);
     }
-    match hex::decode(alloc, field) {
-        Ok(bytes) => Ok(Bytes::from(bytes)),
-        Err(_) => Err(FaultKind::NoMemory),
-    }
+    let Ok(mut bytes) = vec![in alloc; 0; field.len() / 2] else {
+        return Err(FaultKind::NoMemory);
+    };
+    read_pairs(field, bytes.as_mut_slice());
+    Ok(Bytes::from(bytes))
 }

@@ -15,13 +15,10 @@ pub(crate) fn value_of(c: u8) -> Option<u8>
     }
 }
 
-/// The digits by their values.
-const DIGITS: &[u8; 16] = b"0123456789abcdef";
-
 /// The lower case digit of a value below 16.
 pub(crate) fn digit_of(d: u8) -> u8
     requires { d < 16 }
     ensures { result ≡ digit d }
 {
-    DIGITS[d as usize]
+    if d < 10 { b'0' + d } else { b'a' + (d - 10) }
 }

@@ -1,4 +1,4 @@
-//! Why a text is no trace.
+//! Why a text isn't a trace.
 
 use thiserror::Error;
 

@@ -4,10 +4,11 @@
 //! one text. `read` has the way from a text to its trace: `cut` takes lines and fields off, `word` says
 //! what a line is, `entry` and `fields` read one line, and `number`, `choice`, `value` and `bytes` one
 //! field. `print` has the way back, with `push` for one field and `range` for the bounds of its numbers, and
-//! `round_trip` goes both ways. `fault` has what is answered for a text that is no trace's, and `laws` says that
-//! a text has one meaning or one fault. `records` puts the records of a run, `buffer` stands before the
-//! writer, `input` gathers what a reader gives and `write` writes whole texts, `run` replays a trace from its
-//! text to that of its records, and `last_line` tells how a program ends after it.
+//! `round_trip` goes both ways. `digit` is one digit, and `pairs` the two that spell a byte, there and back.
+//! `fault` has what is answered for a text that isn't a trace, and `laws` says that a text has one meaning or one
+//! fault. `records` puts the records of a run, `buffer` stands before the writer, `input` gathers what a reader
+//! gives and `write` writes whole texts, `replaying` goes from the text of a trace to that of its records, and
+//! `last_line` tells how a program ends after it.
 #![tactic(auto)]
 
 mod buffer;
@@ -23,14 +24,15 @@ mod last_line;
 mod laws;
 mod no_memory;
 mod number;
+mod pairs;
 mod print;
 mod push;
 mod range;
 mod read;
 mod records;
 mod replay_fault;
+mod replaying;
 mod round_trip;
-mod run;
 mod trace;
 mod value;
 mod word;
@@ -45,8 +47,8 @@ pub use print::{is_printable, print_trace};
 pub use read::read_trace;
 pub use records::print_records;
 pub use replay_fault::ReplayFault;
+pub use replaying::replay;
 pub use round_trip::read_back;
-pub use run::replay;
 pub use trace::Trace;
 pub use write::write_whole;
 

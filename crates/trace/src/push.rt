@@ -7,6 +7,7 @@ ghost use Rattle.hex.specs.Hex.{encode_lower};
 ghost use Rattle.trace.specs.Spelling.{num, fixed, bytes as bytes_field};
 
 use crate::digit::digit_of;
+use crate::pairs::spell;
 use std::alloc::{AllocError, Allocator};
 
 /// Appends a number without leading zeros.
@@ -65,6 +66,6 @@ fn push_block<A: Allocator>(out: &mut Vec<u8, A>, bytes: &[u8]) -> Result<(), Al
 {
     let mut digits = [0; 2 * BLOCK];
     let text = &mut digits[..2 * bytes.len()];
-    let _ = hex::encode_to_slice(bytes, text);
+    spell(bytes, text);
     out.extend_from_slice(text)
 }

@@ -65,7 +65,7 @@ pub fn read_trace<A: Allocator + Copy>(alloc: A, text: &[u8]) -> Result<Trace<A>
     ensures only { IfOk result
         (λ t. (u : Content A) → InRange u → IsPrintable u → text.now ≡ text_of u → u ≡ content t) }
 
-    // Where no memory was wanting, the fault is that of the text, which is no trace's.
+    // Where no memory was wanting, the fault is that of the text, and no trace has that text.
     ensures fault { IfErr result
         (λ e. e.kind ≢ FaultKind.NoMemory → IsFault text.now e.line e.kind) }
     ensures none { IfErr result

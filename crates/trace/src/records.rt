@@ -11,6 +11,7 @@ ghost use Rattle.trace.specs.Text.{ended};
 use crate::buffer::{Buffer, Nowhere};
 use crate::digit::digit_of;
 use crate::no_memory::NoMemory;
+use crate::pairs::spell;
 use board::{Record, Reply};
 use std::alloc::Allocator;
 use std::io::Write;
@@ -172,6 +173,6 @@ fn put_block<W: Write, B: Allocator>(buffer: &mut Buffer<B>, out: &mut W, bytes:
 {
     let mut digits = [0; 2 * BLOCK];
     let text = &mut digits[..2 * bytes.len()];
-    let _ = hex::encode_to_slice(bytes, text);
+    spell(bytes, text);
     buffer.put(out, text);
 }

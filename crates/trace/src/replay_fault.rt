@@ -10,7 +10,7 @@ pub enum ReplayFault {
     /// The reader failed. Nothing was written.
     #[error("the trace can't be read")]
     Read,
-    /// The input is no trace, or there was no memory for it. Nothing was written.
+    /// The input isn't a trace, or there was no memory for it. Nothing was written.
     #[error("the trace: {0}")]
     Trace(TraceFault),
     /// The trace's board can't be made. Nothing was written.

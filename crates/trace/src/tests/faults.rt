@@ -1,4 +1,4 @@
-//! Texts that are no trace's: the first line with a fault, and the first check that it fails.
+//! Texts that aren't traces: the first line with a fault, and the first check that it fails.
 
 use super::{FRONT, expect_trace, fault_at, fault_of};
 use crate::FaultKind::{self, Bytes, Choice, Cut, Fields, Header, Number, Order, Word};

@@ -85,7 +85,7 @@ fn a_reader_that_fails(rt: HostRuntime) -> Result<(), Fail> {
     Ok(())
 }
 
-/// Takes its bytes two by two, each time after an interruption, until it is full.
+/// Takes its bytes one by one, each time after an interruption, until it is full.
 #[derive(Drop)]
 pub struct SmallWriter {
     pub held: Vec<u8>,
@@ -110,7 +110,7 @@ impl Write for SmallWriter {
         if !self.is_ready {
             return Err(io::Error::from(ErrorKind::Interrupted));
         }
-        let n = buf.len().min(self.room).min(2);
+        let n = buf.len().min(self.room).min(1);
         self.held.extend_from_slice(&buf[..n])?;
         self.room -= n;
         Ok(n)
@@ -217,36 +217,86 @@ fn each_request_refused_in_turn(rt: HostRuntime) -> Result<(), Fail> {
     panic!(rt; "memory was never ample")
 }
 
-/// A record longer than the buffer before the writer goes out in pieces, also where the writer takes two bytes
-/// at a time. Where it fails, a front of the record went out.
-#[test]
-fn a_record_longer_than_the_buffer(rt: HostRuntime) -> Result<(), Fail> {
+/// A trace with one record, which is longer than the buffer before the writer.
+const LONG: &[u8] = b"vreplay 1\ncache 1\nslot 0 20000 0 1 rw 1 1\nmr 0 100 12000\n";
+
+/// The text of that record.
+fn long_record(rt: &(impl Abort + AllocGlobal)) -> Result<Vec<u8>, Fail> {
     let mut whole = b"0 b:".to_vec(rt.alloc())?;
     for _ in 0..0x12000 {
         whole.extend_from_slice(b"00")?;
     }
     whole.extend_from_slice(b" - 0 0\n")?;
+    Ok(whole)
+}
+
+/// A record longer than the buffer before the writer goes out in pieces, also where the writer takes a byte at a
+/// time. Where it fails, a front of the record went out.
+#[test]
+fn a_record_longer_than_the_buffer(rt: HostRuntime) -> Result<(), Fail> {
+    let whole = long_record(&rt)?;
     for room in [0, 5, 65535, 65536, 65537, 131072, whole.len()] {
         let mut writer = SmallWriter::new(rt.alloc(), room);
-        let mut text: &[u8] = b"vreplay 1\ncache 1\nslot 0 20000 0 1 rw 1 1\nmr 0 100 12000\n";
+        let mut text = LONG;
         let outcome = replayed(&rt, rt.alloc(), &mut text, &mut writer)?;
         assert!(rt; whole.starts_with(&writer.held));
-        assert_eq!(rt; writer.held.len(), room);
-        assert_eq!(rt; outcome.is_ok(), room == whole.len());
+        assert_eq!(rt;
+            (writer.held.len(), outcome.is_ok()),
+            (room, room == whole.len())
+        );
     }
     Ok(())
 }
 
-/// Lines that end at each place around the end of a full buffer, and more events than are run at a time: the
-/// first lines are three bytes shorter than the others.
+/// Takes all that it is given at each of so many calls, and then fails.
+#[derive(Drop)]
+struct TiredWriter {
+    held: Vec<u8>,
+    calls: u32,
+}
+
+impl Write for TiredWriter {
+    fn write(&mut self, buf: &[u8]) -> io::Result<usize> {
+        if self.calls == 0 {
+            return Err(io::Error::from(ErrorKind::Other));
+        }
+        self.calls -= 1;
+        self.held.extend_from_slice(buf)?;
+        Ok(buf.len())
+    }
+
+    fn flush(&mut self) -> io::Result<()> {
+        Ok(())
+    }
+}
+
+/// The record takes three calls of the writer. Where one of them fails, what went out before it stands.
+#[test]
+fn each_call_under_a_long_record(rt: HostRuntime) -> Result<(), Fail> {
+    let whole = long_record(&rt)?;
+    for calls in 0..5 {
+        let held = Vec::new(rt.alloc());
+        let mut writer = TiredWriter { held, calls };
+        let mut text = LONG;
+        let outcome = replayed(&rt, rt.alloc(), &mut text, &mut writer)?;
+        assert!(rt; whole.starts_with(&writer.held));
+        let is_whole = writer.held.len() == whole.len();
+        assert_eq!(rt; (outcome.is_ok(), is_whole), (calls > 2, calls > 2));
+    }
+    Ok(())
+}
+
+/// Lines that end at each place around the end of a full buffer and around the end of what is read at a time, and
+/// more events than are run at a time: the first lines are a byte longer than the others in the trace, and two
+/// bytes shorter in the records.
 #[test]
 fn lines_that_end_anywhere(rt: HostRuntime) -> Result<(), Fail> {
-    for shorter in 0..19 {
+    for others in 0..19 {
         let mut text = b"vreplay 1\ncache 1\nslot 0 1000 0 1 rw 1 1\n".to_vec(rt.alloc())?;
         let mut whole = Vec::new(rt.alloc());
-        for _ in 0..shorter {
-            text.extend_from_slice(b"r 1 b 000 4\n")?;
-            whole.extend_from_slice(b"1 badslot - 0 0\n")?;
+        for _ in 0..others {
+            text.extend_from_slice(b"r 10 b 000 4\n")?;
+            whole.extend_from_slice(b"10 badslot - 0 0\n")?;
         }
         for _ in 0..7000 {
             text.extend_from_slice(b"r 0 b 000 4\n")?;
@@ -256,7 +306,7 @@ fn lines_that_end_anywhere(rt: HostRuntime) -> Result<(), Fail> {
         let mut rest = text.as_slice();
         let outcome = replayed(&rt, rt.alloc(), &mut rest, &mut written)?;
         assert_eq!(rt; outcome, Ok(()));
-        assert!(rt; written == whole, "after {shorter} shorter lines");
+        assert!(rt; written == whole, "after {others} other lines");
     }
     Ok(())
 }

@@ -1,7 +1,7 @@
 use Rattle.std.proofs.Common.{length, refl, sym, arith}
 use Rattle.std.proofs.lemmas.Bool.{eqb-true}
 use Rattle.trace.proofs.Pieces.{left_after, run_on, run_stopped, run_whole, sends_no_run, within_after}
-use Rattle.trace.proofs.run.run_events.Goals as goal
+use Rattle.trace.proofs.replaying.run_events.Goals as goal
 
 pub loop-rest-init : goal.loop-rest-init
 loop-rest-init g c = record { within = omega arith; left = refl; none = c.new-records.ensures.items; sent = sends_no_run g.I.Image.disk c.args.board.now _ _ }

@@ -30,7 +30,7 @@ const NO_ROOM: TraceFault = TraceFault {
 const TEXT_ROOM: usize = 65536;
 
 /// How many events are run before the text of their records is sent.
-const PIECE: usize = 256;
+const PIECE: usize = 16;
 
 /// Reads a trace to the reader's end, makes its board over the image, runs its events, and writes the
 /// text of their records, whole. The image is handed back as it then stands.

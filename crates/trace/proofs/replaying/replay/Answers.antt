@@ -3,7 +3,7 @@ use Rattle.std.proofs.KnownBytes.{Keeps-refl}
 use Rattle.board.specs.World.{BoardState}
 use Rattle.trace.specs.Text.{content}
 use Rattle.trace.proofs.RunLemmas.{played}
-use Rattle.trace.proofs.run.replay.Goals as goal
+use Rattle.trace.proofs.replaying.replay.Goals as goal
 
 pub returns-in-Ok-new-clause-comes_to : goal.returns-in-Ok-new-clause-comes_to
 returns-in-Ok-new-clause-comes_to g c =

@@ -1,5 +1,5 @@
 use Rattle.trace.proofs.Inputs.{refused_input}
-use Rattle.trace.proofs.run.read_input.Goals as goal
+use Rattle.trace.proofs.replaying.read_input.Goals as goal
 
 pub returns-clause-err : goal.returns-clause-err
 returns-clause-err g c =

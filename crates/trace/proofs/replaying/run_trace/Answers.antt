@@ -3,8 +3,8 @@ use Rattle.board.specs.declared.reply.RunStop.{RunStop}
 use Rattle.std.proofs.KnownBytes.{Keeps-refl}
 use Rattle.board.specs.Line.{events_done}
 use Rattle.trace.proofs.Pieces.{all_out, flushed_whole, front_out, none_out, sends_flushed}
-use Rattle.trace.proofs.run.run_trace.Goals as goal
-use Rattle.trace.proofs.run.run_trace.Goals.{then-is_broken, else-is_broken+in-Ok-ran, else-is_broken+in-Err}
+use Rattle.trace.proofs.replaying.run_trace.Goals as goal
+use Rattle.trace.proofs.replaying.run_trace.Goals.{then-is_broken, else-is_broken+in-Ok-ran, else-is_broken+in-Err}
 
 pub returns-in_default : goal.returns-in_default
 returns-in_default g c = none_out g.I.Image.disk c.args.trace.now.slots.items c.args.board c.into_image.result c.args.trace.now.events.items _ _ c.requires c.into_image.ensures (Keeps-refl _)

@@ -1,7 +1,7 @@
 use Rattle.std.proofs.Common.{◌≡◌, ◌≤◌, [], length, take, drop}
 use Rattle.trace.specs.Pieces.{SendsRun}
 use Rattle.trace.specs.Sends.{waiting}
-use Rattle.trace.proofs.run.run_events.Given as goal
+use Rattle.trace.proofs.replaying.run_events.Given as goal
 
 -- the first events are run and the text of their records sent
 abbrev pub invariant-loop-rest : goal.invariant-loop-rest
