@@ -1,5 +1,5 @@
-# The two commands of the README, the measurements, and tries from outside.
-.PHONY: run test bench fuzz broken
+# The two commands of the README, the measurements, tries from outside, and the hosts of the static library.
+.PHONY: run test bench fuzz broken embed stress
 
 TRACE ?= examples/two-guests.trace
 IMAGE ?=
@@ -31,3 +31,11 @@ fuzz:
 # Hands broken traces to the built program.
 broken:
 	@fuzz/broken
+
+# Builds the static library and a host of it in C and in Rust, runs both, and compares what they print.
+embed:
+	@examples/embed/run
+
+# Calls the library ten million times at random from C, under a heap that refuses, and beside vreplay.
+stress:
+	@examples/embed/stress-run

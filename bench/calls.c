@@ -1,0 +1,116 @@
+/*
+ * Times the calls of the static library: the processor time of one, the best of many rounds. bench/calls builds it.
+ */
+#include <stdio.h>
+#include <stdlib.h>
+#include <string.h>
+#include <time.h>
+
+#include "kalyubos.h"
+
+enum { ROUNDS = 40, READS = 1000000, REQUESTS = 20000, COPIES = 20000, LEN = 4096 };
+static const uint64_t MEMORY = 0x80000000, TABLE = 0x80001000, AVAIL = 0x80002000, HEADER = 0x80004000,
+                      DATA = 0x80010000;
+
+static struct kalyubos board;
+static uint8_t image[128 * 512], buffer[LEN], other[LEN];
+static uint16_t idx;
+
+static void must(uint32_t answer)
+{
+    if (answer != KALYUBOS_DONE) {
+        fprintf(stderr, "refused with %u\n", (unsigned)answer);
+        exit(1);
+    }
+}
+
+static void set(uint16_t offset, uint32_t value)
+{
+    must(kalyubos_write(&board, 0, KALYUBOS_BLOCK, offset, 4, value));
+}
+
+static void descriptor(int place, uint64_t addr, uint32_t len, uint16_t flags, uint16_t next)
+{
+    struct { uint64_t addr; uint32_t len; uint16_t flags, next; } it = { addr, len, flags, next };
+    must(kalyubos_write_memory(&board, 0, TABLE + 16 * (uint64_t)place, (const uint8_t *)&it, sizeof it));
+}
+
+/* A driver with a queue of four, whose every chain is one IN of the first 4 KiB. */
+static void bring_up(void)
+{
+    const uint32_t steps[][2] = { { 0x70, 0 }, { 0x70, 1 }, { 0x70, 3 }, { 0x24, 1 }, { 0x20, 1 }, { 0x70, 11 },
+                                  { 0x38, 4 }, { 0x80, 0x80001000 }, { 0x90, 0x80002000 }, { 0xa0, 0x80003000 },
+                                  { 0x44, 1 }, { 0x70, 15 } };
+    for (size_t i = 0; i < sizeof steps / sizeof *steps; i++)
+        set((uint16_t)steps[i][0], steps[i][1]);
+    descriptor(0, HEADER, 16, 1, 1);
+    descriptor(1, DATA, LEN, 3, 2);
+    descriptor(2, HEADER + 16, 1, 2, 0);
+}
+
+static void read_register(void)
+{
+    uint32_t value;
+    must(kalyubos_read(&board, 0, KALYUBOS_BLOCK, 0x004, 4, &value));
+}
+
+/* Offers the chain, notifies, reads the request's status and the window's word, and acknowledges. */
+static void request(void)
+{
+    uint8_t status;
+    uint32_t word;
+    idx++;
+    must(kalyubos_write_memory(&board, 0, AVAIL + 2, (const uint8_t *)&idx, 2));
+    set(0x50, 0);
+    must(kalyubos_read_memory(&board, 0, HEADER + 16, &status, 1));
+    must(kalyubos_read(&board, 0, KALYUBOS_BLOCK, 0x60, 4, &word));
+    set(0x64, word);
+    if (status != 0 || word != 1)
+        must(KALYUBOS_BAD_SLOT);
+}
+
+static void copy_out(void)
+{
+    must(kalyubos_read_memory(&board, 0, DATA, buffer, LEN));
+}
+
+/* The like of it without a board. The compiler can't see what the copy is for. */
+static void *(*volatile copy)(void *, const void *, size_t) = memcpy;
+
+static void copy_alone(void)
+{
+    copy(buffer, other, LEN);
+}
+
+static double now(void)
+{
+    struct timespec t;
+    clock_gettime(CLOCK_PROCESS_CPUTIME_ID, &t);
+    return (double)t.tv_sec * 1e9 + (double)t.tv_nsec;
+}
+
+static void time_of(const char *what, void (*work)(void), int count)
+{
+    double best = 1e18;
+    for (int round = 0; round < ROUNDS; round++) {
+        double start = now();
+        for (int i = 0; i < count; i++)
+            work();
+        double one = (now() - start) / count;
+        best = one < best ? one : best;
+    }
+    printf("%-52s %8.1f ns\n", what, best);
+}
+
+int main(void)
+{
+    struct kalyubos_slot slot = { MEMORY, 0x100000, 0, 128, 80, 25, false };
+    must(kalyubos_create(&board, &slot, 1, image, sizeof image, 8));
+    bring_up();
+    time_of("a register read", read_register, READS);
+    time_of("an IN of 4 KiB, with notify, status, acknowledge", request, REQUESTS);
+    time_of("a memory read of 4 KiB", copy_out, COPIES);
+    time_of("a copy of 4 KiB", copy_alone, COPIES);
+    must(kalyubos_destroy(&board));
+    return 0;
+}

@@ -1,0 +1,144 @@
+/*
+ * kalyubos.h: up to sixteen guests, each with a block device and a console over virtio-mmio, behind a CPU loop of
+ * your own. docs/EMBEDDING.md says what the devices do and how an exit of a guest becomes a call.
+ *
+ * Link libboard_ffi.a, and give it a heap: the three functions at the end of this file.
+ *
+ * What each call promises is proved, for a caller that keeps these duties:
+ *  - A handle is zeroed before its first call, and is then changed by calls alone. It is never copied: a copy
+ *    would be a second owner of one board.
+ *  - One call at a time for a handle. Different handles may be in different threads at once, if the heap may.
+ *    Not from a signal handler.
+ *  - No pointer is null, also where its length is 0. A buffer is as long as its length says, and none of a
+ *    call's buffers and out parameters overlaps another, or the handle.
+ *  - A `bool` is 0 or 1. Some 64 KiB of stack are free.
+ *
+ * Nothing of the caller's is kept: a call copies what it needs. Each answers a number, and after any but
+ * KALYUBOS_DONE its out parameters are as they were.
+ */
+#ifndef KALYUBOS_H
+#define KALYUBOS_H
+
+#include <stdbool.h>
+#include <stddef.h>
+#include <stdint.h>
+
+#ifdef __cplusplus
+extern "C" {
+#endif
+
+/* What a call answers. */
+enum {
+    KALYUBOS_DONE = 0,
+    KALYUBOS_NO_BOARD = 1,          /* the handle is empty */
+    KALYUBOS_HAS_BOARD = 2,         /* the handle holds a board already, and goes on holding it */
+    KALYUBOS_BAD_SLOT = 3,          /* the board has no such slot; nothing changed */
+    KALYUBOS_BAD_RANGE = 4,         /* not all of the range lies in the memory or the image; nothing changed */
+    KALYUBOS_NO_MEMORY = 5,         /* the heap refused */
+    KALYUBOS_BAD_WINDOW = 6,        /* no window has this number; nothing changed */
+    KALYUBOS_BAD_IMAGE = 7,         /* the image isn't whole sectors of 512 bytes */
+    KALYUBOS_NO_SLOTS = 8,          /* a board needs a slot */
+    KALYUBOS_TOO_MANY_SLOTS = 9,    /* a board has sixteen slots at most */
+    KALYUBOS_BAD_MEMORY_SIZE = 10,  /* a memory's size is no multiple of 4096 from 4096 to 2^28 */
+    KALYUBOS_BAD_MEMORY_BASE = 11,  /* a memory's base is no multiple of 4096, or the memory passes 2^64 */
+    KALYUBOS_EXTENT_OUTSIDE = 12,   /* an extent passes the image's end */
+    KALYUBOS_EXTENTS_OVERLAP = 13,  /* two extents share a sector */
+    KALYUBOS_BAD_CACHE = 14         /* a cache keeps 1 to 65536 sectors */
+};
+
+/* A slot's windows, each of 4096 bytes. */
+enum {
+    KALYUBOS_BLOCK = 0,
+    KALYUBOS_CONSOLE = 1
+};
+
+/* A board, or none where it is zeroed. */
+struct kalyubos {
+    void *at;
+};
+
+/* One guest. */
+struct kalyubos_slot {
+    uint64_t base;   /* the first address of its memory */
+    uint64_t len;    /* the size of its memory, in bytes */
+    uint64_t start;  /* the first sector of the image that its disk shows */
+    uint64_t count;  /* how many sectors it shows */
+    uint16_t cols;   /* the columns of its console */
+    uint16_t rows;   /* and its rows */
+    bool read_only;  /* whether its disk refuses writes */
+};
+
+/*
+ * Makes a board of `slots_len` slots over a copy of the image, with a cache of at most `cache` sectors before it,
+ * and puts it into an empty handle. A refusal leaves the handle as it was and takes no memory: of those from
+ * BAD_IMAGE on it is the first of the list, slot by slot for the memory and extent of each.
+ */
+uint32_t kalyubos_create(struct kalyubos *board, const struct kalyubos_slot *slots, size_t slots_len,
+                         const uint8_t *image, size_t image_len, uint32_t cache);
+
+/* Ends the board, frees its memory and leaves the handle empty. Take the image's bytes out before. */
+uint32_t kalyubos_destroy(struct kalyubos *board);
+
+/*
+ * A guest's read of `width` bytes (1, 2 or 4) at an offset of a window: `value` is what its register gets, extended
+ * by zeros. Every offset and width has an answer.
+ */
+uint32_t kalyubos_read(struct kalyubos *board, uint8_t slot, uint8_t window, uint16_t offset, uint8_t width,
+                       uint32_t *value);
+
+/*
+ * A guest's write. What it notifies is served before the call returns. NO_MEMORY: the console found no memory
+ * for what a chain puts out; the chains before it are served, and the next notification goes on with it.
+ */
+uint32_t kalyubos_write(struct kalyubos *board, uint8_t slot, uint8_t window, uint16_t offset, uint8_t width,
+                        uint32_t value);
+
+/* Copies bytes out of the slot's memory, and into it, from address `addr` on. Neither takes memory. */
+uint32_t kalyubos_read_memory(struct kalyubos *board, uint8_t slot, uint64_t addr, uint8_t *into, size_t into_len);
+uint32_t kalyubos_write_memory(struct kalyubos *board, uint8_t slot, uint64_t addr, const uint8_t *from,
+                               size_t from_len);
+
+/*
+ * Types bytes to the slot's console; `took` is how many it took, the first ones: it keeps 4096 until its guest
+ * reads them. NO_MEMORY: nothing was typed.
+ */
+uint32_t kalyubos_input(struct kalyubos *board, uint8_t slot, const uint8_t *bytes, size_t bytes_len, size_t *took);
+
+/* Gives the slot's console another size, of which its driver is told. */
+uint32_t kalyubos_resize(struct kalyubos *board, uint8_t slot, uint16_t cols, uint16_t rows);
+
+/*
+ * Moves out the first bytes of what the slot's console put out, as many as find room; `taken` is how many they
+ * are. The others stay for the next call.
+ */
+uint32_t kalyubos_take_output(struct kalyubos *board, uint8_t slot, uint8_t *into, size_t into_len, size_t *taken);
+
+/* InterruptStatus of both windows of a slot. A window's line is high while its word isn't 0. */
+uint32_t kalyubos_interrupts(struct kalyubos *board, uint8_t slot, uint8_t *block, uint8_t *console);
+
+/* Whether an event of the slot ever met a want of memory. While not, its guest sees what it would see alone. */
+uint32_t kalyubos_disturbed(struct kalyubos *board, uint8_t slot, bool *disturbed);
+
+/* The image's length in bytes, and a copy of bytes of it from byte `start` on, as they stand. */
+uint32_t kalyubos_image_len(struct kalyubos *board, size_t *len);
+uint32_t kalyubos_read_image(struct kalyubos *board, size_t start, uint8_t *into, size_t into_len);
+
+/*
+ * The heap, which the host defines; examples/embed/heap.c has it over malloc. All three are of one heap.
+ * A block is aligned to `align`, a power of two up to 16. `found` is false where there is no memory, and `at` is
+ * then any address; a block that couldn't be resized stands as it was. Of a
+ * block that is resized the first `kept` bytes stay. A block of size 0 is a block as any other.
+ */
+struct kalyubos_block {
+    bool found;
+    void *at;
+};
+struct kalyubos_block rattle_alloc(size_t size, size_t align);
+struct kalyubos_block rattle_realloc(void *at, size_t kept, size_t size, size_t align);
+void rattle_dealloc(void *at);
+
+#ifdef __cplusplus
+}
+#endif
+
+#endif

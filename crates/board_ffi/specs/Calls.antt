@@ -1,0 +1,68 @@
+-- What a call does to the board behind its handle.
+use Rattle.std.specs.Prelude.{◌≡◌, ℕ, ◌==◌, if◌then◌else◌, ◌<◌, ◌≤◌, ◌+◌, ◌++◌, Bool, List, Option, Some, None, MatchOption, IsSomeAnd, length, min, take, drop, slice_set}
+use Rattle.std.specs.List.{slice_get}
+use Rattle.std.specs.Option.{option_map}
+use Rattle.std.specs.Global.{Global}
+use Rattle.mmio_window.specs.declared.device_kind.DeviceKind.{DeviceKind}
+use Rattle.mmio_window.specs.declared.device_kind.DeviceKind.TheVariants.{Block, Console}
+use Rattle.board.specs.declared.event.EventKind.{EventKind}
+use Rattle.board.specs.declared.reply.Reply.{Reply}
+use Rattle.board.specs.Slot.{interrupt_words}
+use Rattle.board.specs.World.{disturbed_of}
+use Rattle.embed.specs.Session.{SessionState, IsStep, output_of}
+use Rattle.board_ffi.specs.Handle.{Held}
+
+-- A call on a handle: where it holds no board it answers 1 and goes on holding none; a board does this, and is
+-- still there.
+abbrev pub Calls : Held → Held → ℕ → (SessionState → SessionState → Type 0) → Type 0
+Calls before after code step =
+    MatchOption before ((code ≡ 1) × (after ≡ None)) (λ old. IsSomeAnd after (step old))
+
+-- the board takes the step of this event of a slot, and this is the reply
+abbrev pub Takes : ℕ → EventKind Global → Reply Global → SessionState → SessionState → Type 0
+Takes slot what reply old new = IsStep old (record { slot = slot; what = what }) reply new
+
+-- the window of each number
+abbrev pub window_of : ℕ → Option DeviceKind
+window_of number = if number == 0 then Some Block else (if number == 1 then Some Console else None)
+
+-- The first bytes of what a slot's console put out are moved out, as many as find room, and the others stay.
+pub record MovesOutput (slot : ℕ) (into_old into_new : List ℕ) (taken : ℕ) (old new : SessionState) : Type 0 where
+  pub there : slot < length old.slots
+  pub count : taken ≡ min (length (output_of slot old)) (length into_old)
+  pub moved : into_new ≡ take taken (output_of slot old) ++ drop taken into_old
+  pub left : new ≡ record old { outputs = slice_set old.outputs slot (drop taken (output_of slot old)) }
+
+-- there is no such slot, and nothing changes
+pub record IsMissing (slot code : ℕ) (old new : SessionState) : Type 0 where
+  pub missing : length old.slots ≤ slot
+  pub bad_slot : code ≡ 3
+  pub kept : new ≡ old
+
+-- both interrupt words of a slot, and nothing changes
+pub record HasWords (slot block console : ℕ) (old new : SessionState) : Type 0 where
+  pub words : option_map interrupt_words (slice_get old.slots slot) ≡ Some (block, console)
+  pub kept : new ≡ old
+
+-- whether an event of a slot ever met a refusal, and nothing changes
+pub record IsNotedAs (slot : ℕ) (disturbed : Bool) (old new : SessionState) : Type 0 where
+  pub noted : slice_get (disturbed_of old.slots) slot ≡ Some disturbed
+  pub kept : new ≡ old
+
+-- the image's length, and nothing changes
+pub record HasImage (code len : ℕ) (old new : SessionState) : Type 0 where
+  pub code_is : code ≡ 0
+  pub len_is : len ≡ length old.image
+  pub kept : new ≡ old
+
+-- as many bytes of the image as there were places, from byte start on; and nothing changes
+pub record CopiesImage (start len : ℕ) (into : List ℕ) (old new : SessionState) : Type 0 where
+  pub inside : start + len ≤ length old.image
+  pub copied : into ≡ take len (drop start old.image)
+  pub kept : new ≡ old
+
+-- not all of the range lies in the image, and nothing changes
+pub record IsOutside (start len code : ℕ) (old new : SessionState) : Type 0 where
+  pub outside : length old.image < start + len
+  pub bad_range : code ≡ 4
+  pub kept : new ≡ old

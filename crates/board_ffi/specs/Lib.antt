@@ -1,0 +1,4 @@
+pub mod Handle
+pub mod Codes
+pub mod Calls
+pub mod Create

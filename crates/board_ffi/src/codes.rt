@@ -1,0 +1,76 @@
+//! The number of each answer, which has its name in the header.
+
+ghost use Rattle.std.specs.Prelude.{◌≡◌};
+ghost use Rattle.board_ffi.specs.Codes.{refusal_code, board_code, fault_code};
+
+use embed::{BoardFault, CacheFault, MemoryFault, Refusal, SessionFault};
+
+pub(crate) const DONE: u32 = 0;
+
+pub(crate) const NO_BOARD: u32 = 1;
+
+pub(crate) const HAS_BOARD: u32 = 2;
+
+pub(crate) const BAD_SLOT: u32 = 3;
+
+pub(crate) const BAD_RANGE: u32 = 4;
+
+pub(crate) const NO_MEMORY: u32 = 5;
+
+pub(crate) const BAD_WINDOW: u32 = 6;
+
+pub(crate) const BAD_IMAGE: u32 = 7;
+
+pub(crate) const NO_SLOTS: u32 = 8;
+
+pub(crate) const TOO_MANY_SLOTS: u32 = 9;
+
+pub(crate) const BAD_MEMORY_SIZE: u32 = 10;
+
+pub(crate) const BAD_MEMORY_BASE: u32 = 11;
+
+pub(crate) const EXTENT_OUTSIDE: u32 = 12;
+
+pub(crate) const EXTENTS_OVERLAP: u32 = 13;
+
+pub(crate) const BAD_CACHE: u32 = 14;
+
+/// The number of a call that was refused.
+pub(crate) fn of_refusal(why: Refusal) -> u32
+    ensures { result ≡ refusal_code why }
+{
+    match why {
+        Refusal::BadSlot => BAD_SLOT,
+        Refusal::BadRange => BAD_RANGE,
+        Refusal::NoMemory => NO_MEMORY,
+    }
+}
+
+/// The number of a session that was refused.
+pub(crate) fn of_fault(why: SessionFault) -> u32
+    ensures { result ≡ fault_code why }
+{
+    match why {
+        SessionFault::BadImage => BAD_IMAGE,
+        SessionFault::Board(why) => of_board_fault(why),
+        SessionFault::NoMemory => NO_MEMORY,
+    }
+}
+
+// The number of a board that was refused.
+fn of_board_fault(why: BoardFault) -> u32
+    ensures { result ≡ board_code why }
+{
+    match why {
+        BoardFault::NoSlots => NO_SLOTS,
+        BoardFault::TooManySlots => TOO_MANY_SLOTS,
+        BoardFault::Memory(MemoryFault::BadSize) => BAD_MEMORY_SIZE,
+        BoardFault::Memory(MemoryFault::BadBase) => BAD_MEMORY_BASE,
+        BoardFault::ExtentOutside => EXTENT_OUTSIDE,
+        BoardFault::ExtentsOverlap => EXTENTS_OVERLAP,
+        BoardFault::Cache(CacheFault::BadCapacity) => BAD_CACHE,
+        BoardFault::Memory(MemoryFault::NoMemory)
+        | BoardFault::Cache(CacheFault::NoMemory)
+        | BoardFault::NoMemory => NO_MEMORY,
+    }
+}

@@ -1,0 +1,93 @@
+//! A guest's console from the outside: what is typed, its size, and what it puts out.
+
+ghost use Rattle.std.specs.Prelude.{◌≡◌, ◌≢◌};
+ghost use Rattle.board.specs.declared.event.EventKind.{EventKind};
+ghost use Rattle.board.specs.declared.reply.Reply.{Reply};
+ghost use Rattle.board_ffi.specs.Calls.{Calls, IsMissing, MovesOutput, Takes};
+ghost use Rattle.board_ffi.specs.Codes.{reply_of};
+
+use crate::codes::{BAD_SLOT, DONE, NO_BOARD, of_refusal};
+use crate::handle::Handle;
+use std::alloc::Global;
+
+/// Types bytes to a guest's console, and tells how many were taken: the first ones.
+#[unsafe(no_mangle)]
+pub extern "C" fn kalyubos_input(
+    alloc: Global,
+    board: &mut Handle,
+    slot: u8,
+    bytes: &[u8],
+    took: &mut usize,
+) -> u32
+    ensures step { result ≢ 5 → Calls board.old.session board.new.session result
+        (Takes slot (EventKind.Input bytes.now) (reply_of result (Reply.Took took.new))) }
+    ensures no_memory { result ≡ 5 → board.new.session ≡ board.old.session }
+    ensures kept { result ≢ 0 → took.new ≡ took.old }
+{
+    let Some(mut session) = board.take(alloc) else {
+        return NO_BOARD;
+    };
+    let answer = session.input(slot, bytes);
+    board.put(session);
+    match answer {
+        Ok(taken) => {
+            *took = taken;
+            DONE
+        }
+        Err(why) => of_refusal(why),
+    }
+}
+
+/// Gives a guest's console another size, of which its driver is told.
+#[unsafe(no_mangle)]
+pub extern "C" fn kalyubos_resize(
+    alloc: Global,
+    board: &mut Handle,
+    slot: u8,
+    cols: u16,
+    rows: u16,
+) -> u32
+    ensures step { Calls board.old.session board.new.session result
+        (Takes slot (EventKind.Resize cols rows) (reply_of result Reply.Done)) }
+{
+    let Some(mut session) = board.take(alloc) else {
+        return NO_BOARD;
+    };
+    let answer = session.resize(slot, cols, rows);
+    board.put(session);
+    match answer {
+        Ok(()) => DONE,
+        Err(why) => of_refusal(why),
+    }
+}
+
+/// Moves out the first bytes of what a guest's console put out, as many as find room, and tells how many
+/// they are.
+#[unsafe(no_mangle)]
+pub extern "C" fn kalyubos_take_output(
+    alloc: Global,
+    board: &mut Handle,
+    slot: u8,
+    into: &mut [u8],
+    taken: &mut usize,
+) -> u32
+    ensures moved { result ≡ 0 → Calls board.old.session board.new.session result
+        (MovesOutput slot into.old into.new taken.new) }
+    ensures missing { result ≢ 0 → Calls board.old.session board.new.session result
+        (IsMissing slot result) }
+    ensures kept { result ≢ 0 → taken.new ≡ taken.old }
+    ensures kept_into { result ≢ 0 → into.new ≡ into.old }
+{
+    let Some(mut session) = board.take(alloc) else {
+        return NO_BOARD;
+    };
+    let answer = session.take_output(slot, into);
+    board.put(session);
+    match answer {
+        Some(count) => {
+            *taken = count;
+            DONE
+        }
+        None => BAD_SLOT,
+    }
+}

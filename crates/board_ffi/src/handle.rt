@@ -1,0 +1,91 @@
+//! What C holds: a pointer to a session, or null.
+//!
+//! A call takes the session out of its handle, works on it, and puts it back.
+
+ghost use Rattle.std.specs.Prelude.{◌≡◌, Some, None, MatchOption};
+ghost use Rattle.board_ffi.specs.Handle.{Held, held, held_coded};
+
+mod parts;
+
+use embed::Session;
+use parts::Parts;
+use std::alloc::Global;
+use std::marker::Model;
+
+/// A session, or none.
+#[repr(C)]
+pub struct Handle {
+    at: *mut u8,
+    alloc: Global,
+    pub ghost session: { Held } by { held_coded },
+}
+
+impl Model for Handle {
+    ghost also_owns = { λ h. held h.alloc h.at h.session };
+}
+
+impl Handle {
+    /// Takes the session out, and leaves none.
+    pub(crate) fn take(&mut self, alloc: Global) -> Option<Box<Session>>
+        ensures taken { MatchOption result (self.old.session ≡ None)
+            (λ session. self.old.session ≡ Some session.value) }
+        ensures left { self.new.session ≡ None }
+    {
+        std::mem::replace(self, Handle::empty(alloc)).into_box()
+    }
+
+    /// Holds this session from now on.
+    pub(crate) fn put(&mut self, session: Box<Session>)
+        ensures { self.new.session ≡ Some session.value }
+    {
+        *self = Handle::of_parts(Parts::of(session));
+    }
+
+    // The session, if there is one.
+    fn into_box(self) -> Option<Box<Session>>
+        ensures { MatchOption result (self.session ≡ None)
+            (λ session. self.session ≡ Some session.value) }
+    {
+        let parts = self.into_parts()?;
+        Some(parts.into_box())
+    }
+
+    pub(crate) fn empty(alloc: Global) -> Handle
+        ensures { result.session ≡ None }
+    {
+        Handle {
+            at: std::ptr::null_mut(),
+            alloc,
+        }
+    }
+
+    fn of_parts(parts: Parts<Session, Global>) -> Handle
+        ensures { result.session ≡ Some parts.value }
+    {
+        let Parts { ptr, alloc } = parts;
+        Handle {
+            at: ptr as *mut u8,
+            alloc,
+        }
+    }
+
+    fn into_parts(self) -> Option<Parts<Session, Global>>
+        ensures { MatchOption result (self.session ≡ None)
+            (λ parts. self.session ≡ Some parts.value) }
+    {
+        let Handle { at, alloc } = self;
+        if std::ptr::eq(at, std::ptr::null_mut()) {
+            return None;
+        }
+        Some(Parts {
+            ptr: at as *mut Session,
+            alloc,
+        })
+    }
+}
+
+impl Drop for Handle {
+    fn drop(self) {
+        drop(self.into_box());
+    }
+}

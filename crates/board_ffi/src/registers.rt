@@ -1,0 +1,145 @@
+//! A guest's reads and writes of its devices' registers, and the words that stand for its interrupt lines.
+
+ghost use Rattle.std.specs.Prelude.{◌≡◌, ◌≢◌, MatchOption};
+ghost use Rattle.board.specs.declared.event.EventKind.{EventKind};
+ghost use Rattle.board.specs.declared.reply.Reply.{Reply};
+ghost use Rattle.board_ffi.specs.Calls.{Calls, HasWords, IsMissing, IsNotedAs, Takes, window_of};
+ghost use Rattle.board_ffi.specs.Codes.{reply_of};
+
+use crate::codes::{BAD_SLOT, BAD_WINDOW, DONE, NO_BOARD, of_refusal};
+use crate::handle::Handle;
+use embed::DeviceKind;
+use std::alloc::Global;
+
+/// A guest's read of a register: what it gets.
+#[unsafe(no_mangle)]
+pub extern "C" fn kalyubos_read(
+    alloc: Global,
+    board: &mut Handle,
+    slot: u8,
+    window: u8,
+    offset: u16,
+    width: u8,
+    value: &mut u32,
+) -> u32
+    ensures step { MatchOption (window_of window)
+        ((result ≡ 6) × (board.new ≡ board.old))
+        (λ kind. Calls board.old.session board.new.session result
+        (Takes slot (EventKind.Read kind offset width) (reply_of result (Reply.Value value.new)))) }
+    ensures kept { result ≢ 0 → value.new ≡ value.old }
+{
+    let Some(window) = window_numbered(window) else {
+        return BAD_WINDOW;
+    };
+    let Some(mut session) = board.take(alloc) else {
+        return NO_BOARD;
+    };
+    let answer = session.read(slot, window, offset, width);
+    board.put(session);
+    match answer {
+        Ok(found) => {
+            *value = found;
+            DONE
+        }
+        Err(why) => of_refusal(why),
+    }
+}
+
+/// A guest's write of a register. What it notifies is served to its end.
+#[unsafe(no_mangle)]
+pub extern "C" fn kalyubos_write(
+    alloc: Global,
+    board: &mut Handle,
+    slot: u8,
+    window: u8,
+    offset: u16,
+    width: u8,
+    value: u32,
+) -> u32
+    ensures step { MatchOption (window_of window)
+        ((result ≡ 6) × (board.new ≡ board.old))
+        (λ kind. Calls board.old.session board.new.session result
+        (Takes slot (EventKind.Write kind offset width value) (reply_of result Reply.Done))) }
+{
+    let Some(window) = window_numbered(window) else {
+        return BAD_WINDOW;
+    };
+    let Some(mut session) = board.take(alloc) else {
+        return NO_BOARD;
+    };
+    let answer = session.write(slot, window, offset, width, value);
+    board.put(session);
+    match answer {
+        Ok(()) => DONE,
+        Err(why) => of_refusal(why),
+    }
+}
+
+// The window of a number.
+fn window_numbered(number: u8) -> Option<DeviceKind>
+    ensures { result ≡ window_of number }
+{
+    match number {
+        0 => Some(DeviceKind::Block),
+        1 => Some(DeviceKind::Console),
+        _ => None,
+    }
+}
+
+/// Tells InterruptStatus of both windows of a guest (4.2.2). A line is raised while its word isn't 0.
+#[unsafe(no_mangle)]
+pub extern "C" fn kalyubos_interrupts(
+    alloc: Global,
+    board: &mut Handle,
+    slot: u8,
+    block: &mut u8,
+    console: &mut u8,
+) -> u32
+    ensures told { result ≡ 0 → Calls board.old.session board.new.session result
+        (HasWords slot block.new console.new) }
+    ensures missing { result ≢ 0 → Calls board.old.session board.new.session result
+        (IsMissing slot result) }
+    ensures kept { result ≢ 0 → (block.new ≡ block.old) × (console.new ≡ console.old) }
+{
+    let Some(session) = board.take(alloc) else {
+        return NO_BOARD;
+    };
+    let answer = session.interrupts(slot);
+    board.put(session);
+    match answer {
+        Some((block_word, console_word)) => {
+            *block = block_word;
+            *console = console_word;
+            DONE
+        }
+        None => BAD_SLOT,
+    }
+}
+
+/// Tells whether an event of a guest ever met a want of memory.
+#[unsafe(no_mangle)]
+pub extern "C" fn kalyubos_disturbed(
+    alloc: Global,
+    board: &mut Handle,
+    slot: u8,
+    disturbed: &mut bool,
+) -> u32
+    ensures told { result ≡ 0 → Calls board.old.session board.new.session result
+        (IsNotedAs slot disturbed.new) }
+    ensures missing { result ≢ 0 → Calls board.old.session board.new.session result
+        (IsMissing slot result) }
+    ensures kept { result ≢ 0 → disturbed.new ≡ disturbed.old }
+{
+    let Some(session) = board.take(alloc) else {
+        return NO_BOARD;
+    };
+    let answer = session.disturbed(slot);
+    board.put(session);
+    match answer {
+        Some(told) => {
+            *disturbed = told;
+            DONE
+        }
+        None => BAD_SLOT,
+    }
+}

@@ -1,0 +1,313 @@
+//! Each call answers, and refuses.
+
+use crate::console::{kalyubos_input, kalyubos_resize, kalyubos_take_output};
+use crate::create::{Slot, kalyubos_create, kalyubos_destroy};
+use crate::handle::Handle;
+use crate::image::{kalyubos_image_len, kalyubos_read_image};
+use crate::memory::{kalyubos_read_memory, kalyubos_write_memory};
+use crate::registers::{kalyubos_disturbed, kalyubos_interrupts, kalyubos_read, kalyubos_write};
+use std::alloc::Global;
+use std::process::Abort;
+use std::test::*;
+
+/// A guest of 64 KiB with the first two sectors.
+const SLOT: Slot = Slot {
+    base: 0x8000_0000,
+    len: 0x1_0000,
+    start: 0,
+    count: 2,
+    cols: 80,
+    rows: 25,
+    read_only: false,
+};
+
+/// A disk of two sectors.
+const IMAGE: [u8; 1024] = [7; 1024];
+
+/// The two are equal.
+fn same<T: PartialEq + Drop>(rt: &impl Abort, got: T, want: T) {
+    assert!(rt; got == want);
+}
+
+/// A board of one guest.
+fn one_guest(rt: &impl Abort, alloc: Global) -> Handle {
+    let mut board = Handle::empty(alloc);
+    same(
+        rt,
+        kalyubos_create(alloc, &mut board, &[SLOT], &IMAGE, 1),
+        0,
+    );
+    board
+}
+
+/// A slot, how many of it, the image's length, the cache's capacity, and what creating them answers.
+const BOARDS: [(Slot, usize, usize, u32, u32); 9] = [
+    (SLOT, 1, 1023, 1, 7),
+    (SLOT, 0, 1024, 1, 8),
+    (SLOT, 17, 1024, 1, 9),
+    (Slot { len: 0x800, ..SLOT }, 1, 1024, 1, 10),
+    (
+        Slot {
+            base: 0x800,
+            ..SLOT
+        },
+        1,
+        1024,
+        1,
+        11,
+    ),
+    (Slot { start: 1, ..SLOT }, 1, 1024, 1, 12),
+    (SLOT, 2, 1024, 1, 13),
+    (SLOT, 1, 1024, 0, 14),
+    (SLOT, 1, 1024, 1, 0),
+];
+
+#[test]
+fn a_board_is_made_or_refused(rt: HostRuntime) -> Result<(), Fail> {
+    let alloc = rt.alloc();
+    let mut board = Handle::empty(alloc);
+    for (slot, count, len, cache, want) in &BOARDS {
+        let slots = [*slot; 17];
+        let got = kalyubos_create(alloc, &mut board, &slots[..*count], &IMAGE[..*len], *cache);
+        same(&rt, got, *want);
+    }
+    Ok(())
+}
+
+#[test]
+fn a_full_handle_is_kept_and_an_empty_one_has_no_board(rt: HostRuntime) -> Result<(), Fail> {
+    let alloc = rt.alloc();
+    let mut board = one_guest(&rt, alloc);
+    same(
+        &rt,
+        kalyubos_create(alloc, &mut board, &[SLOT], &IMAGE, 1),
+        2,
+    );
+    same(&rt, kalyubos_destroy(alloc, &mut board), 0);
+    same(&rt, kalyubos_destroy(alloc, &mut board), 1);
+    same(&rt, kalyubos_write(alloc, &mut board, 0, 0, 0, 4, 0), 1);
+    same(&rt, kalyubos_resize(alloc, &mut board, 0, 1, 1), 1);
+    same(&rt, kalyubos_write_memory(alloc, &mut board, 0, 0, &[]), 1);
+    same(
+        &rt,
+        kalyubos_read_memory(alloc, &mut board, 0, 0, &mut []),
+        1,
+    );
+    same(&rt, kalyubos_read_image(alloc, &mut board, 0, &mut []), 1);
+    Ok(())
+}
+
+#[test]
+fn an_empty_handle_tells_nothing(rt: HostRuntime) -> Result<(), Fail> {
+    let alloc = rt.alloc();
+    let mut board = Handle::empty(alloc);
+    let (mut value, mut count, mut told) = (9, 9, true);
+    let (mut block, mut console) = (9, 9);
+    same(
+        &rt,
+        kalyubos_read(alloc, &mut board, 0, 0, 0, 4, &mut value),
+        1,
+    );
+    same(
+        &rt,
+        kalyubos_input(alloc, &mut board, 0, b"a", &mut count),
+        1,
+    );
+    same(
+        &rt,
+        kalyubos_take_output(alloc, &mut board, 0, &mut [], &mut count),
+        1,
+    );
+    same(&rt, kalyubos_image_len(alloc, &mut board, &mut count), 1);
+    same(&rt, kalyubos_disturbed(alloc, &mut board, 0, &mut told), 1);
+    same(
+        &rt,
+        kalyubos_interrupts(alloc, &mut board, 0, &mut block, &mut console),
+        1,
+    );
+    same(
+        &rt,
+        (value, count, told, block, console),
+        (9, 9, true, 9, 9),
+    );
+    Ok(())
+}
+
+/// Slot, window, offset and width of a read; what it answers, and what then stands in `value`, which was 99.
+const READS: [(u8, u8, u16, u8, u32, u32); 6] = [
+    (0, 0, 0x000, 4, 0, 0x7472_6976),
+    (0, 0, 0x008, 4, 0, 2),
+    (0, 1, 0x008, 4, 0, 3),
+    (0, 1, 0x008, 3, 0, 0),
+    (1, 0, 0x000, 4, 3, 99),
+    (0, 2, 0x000, 4, 6, 99),
+];
+
+#[test]
+fn registers_are_read(rt: HostRuntime) -> Result<(), Fail> {
+    let alloc = rt.alloc();
+    let mut board = one_guest(&rt, alloc);
+    for (slot, window, offset, width, want, found) in &READS {
+        let mut value = 99;
+        let got = kalyubos_read(
+            alloc, &mut board, *slot, *window, *offset, *width, &mut value,
+        );
+        same(&rt, (got, value), (*want, *found));
+    }
+    Ok(())
+}
+
+#[test]
+fn what_a_console_puts_out_is_taken(rt: HostRuntime) -> Result<(), Fail> {
+    let alloc = rt.alloc();
+    let mut board = one_guest(&rt, alloc);
+    let (mut out, mut taken) = ([0; 1], 9);
+    // emergency writes of "h" and "i"
+    same(
+        &rt,
+        kalyubos_write(alloc, &mut board, 0, 1, 0x108, 4, 0x68),
+        0,
+    );
+    same(
+        &rt,
+        kalyubos_write(alloc, &mut board, 0, 1, 0x108, 4, 0x69),
+        0,
+    );
+    same(
+        &rt,
+        kalyubos_write(alloc, &mut board, 1, 1, 0x108, 4, 0x69),
+        3,
+    );
+    same(
+        &rt,
+        kalyubos_write(alloc, &mut board, 0, 2, 0x108, 4, 0x69),
+        6,
+    );
+    for want in [b'h', b'i'] {
+        same(
+            &rt,
+            kalyubos_take_output(alloc, &mut board, 0, &mut out, &mut taken),
+            0,
+        );
+        same(&rt, (taken, out[0]), (1, want));
+    }
+    same(
+        &rt,
+        kalyubos_take_output(alloc, &mut board, 0, &mut out, &mut taken),
+        0,
+    );
+    same(&rt, taken, 0);
+    same(
+        &rt,
+        kalyubos_take_output(alloc, &mut board, 1, &mut out, &mut taken),
+        3,
+    );
+    Ok(())
+}
+
+#[test]
+fn a_console_is_typed_to_and_resized(rt: HostRuntime) -> Result<(), Fail> {
+    let alloc = rt.alloc();
+    let mut board = one_guest(&rt, alloc);
+    let (mut took, mut size) = (9, 0);
+    let (mut block, mut console, mut told) = (9, 9, true);
+    same(
+        &rt,
+        kalyubos_input(alloc, &mut board, 0, b"ls\n", &mut took),
+        0,
+    );
+    same(&rt, took, 3);
+    same(
+        &rt,
+        kalyubos_input(alloc, &mut board, 0, &[0x61; 4096], &mut took),
+        0,
+    );
+    same(&rt, took, 4093);
+    same(
+        &rt,
+        kalyubos_input(alloc, &mut board, 1, b"ls\n", &mut took),
+        3,
+    );
+    same(&rt, kalyubos_resize(alloc, &mut board, 0, 0x84, 0x2b), 0);
+    same(&rt, kalyubos_resize(alloc, &mut board, 1, 0x84, 0x2b), 3);
+    same(
+        &rt,
+        kalyubos_read(alloc, &mut board, 0, 1, 0x100, 4, &mut size),
+        0,
+    );
+    same(&rt, size, 0x002b_0084);
+    same(
+        &rt,
+        kalyubos_interrupts(alloc, &mut board, 0, &mut block, &mut console),
+        0,
+    );
+    same(&rt, kalyubos_disturbed(alloc, &mut board, 0, &mut told), 0);
+    // no driver is there to be told of the new size
+    same(&rt, (block, console, told), (0, 0, false));
+    same(
+        &rt,
+        kalyubos_interrupts(alloc, &mut board, 1, &mut block, &mut console),
+        3,
+    );
+    same(&rt, kalyubos_disturbed(alloc, &mut board, 1, &mut told), 3);
+    Ok(())
+}
+
+#[test]
+fn memory_and_the_image_are_copied(rt: HostRuntime) -> Result<(), Fail> {
+    let alloc = rt.alloc();
+    let mut board = one_guest(&rt, alloc);
+    let (mut bytes, mut len) = ([9; 4], 0);
+    same(
+        &rt,
+        kalyubos_write_memory(alloc, &mut board, 0, 0x8000_fffc, b"code"),
+        0,
+    );
+    same(
+        &rt,
+        kalyubos_write_memory(alloc, &mut board, 0, 0x8000_fffd, b"more"),
+        4,
+    );
+    same(
+        &rt,
+        kalyubos_write_memory(alloc, &mut board, 1, 0x8000_0000, b"more"),
+        3,
+    );
+    same(
+        &rt,
+        kalyubos_read_memory(alloc, &mut board, 0, 0x8000_fffd, &mut bytes),
+        4,
+    );
+    same(
+        &rt,
+        kalyubos_read_memory(alloc, &mut board, 1, 0x8000_0000, &mut bytes),
+        3,
+    );
+    same(&rt, bytes, [9; 4]);
+    same(
+        &rt,
+        kalyubos_read_memory(alloc, &mut board, 0, 0x8000_fffc, &mut bytes),
+        0,
+    );
+    same(&rt, bytes, *b"code");
+    same(&rt, kalyubos_image_len(alloc, &mut board, &mut len), 0);
+    same(&rt, len, 1024);
+    same(
+        &rt,
+        kalyubos_read_image(alloc, &mut board, 1021, &mut bytes),
+        4,
+    );
+    same(
+        &rt,
+        kalyubos_read_image(alloc, &mut board, 1025, &mut bytes),
+        4,
+    );
+    same(&rt, bytes, *b"code");
+    same(
+        &rt,
+        kalyubos_read_image(alloc, &mut board, 1020, &mut bytes),
+        0,
+    );
+    same(&rt, bytes, [7; 4]);
+    Ok(())
+}

@@ -1,0 +1,22 @@
+/* The board's heap over malloc. `malloc` aligns to 16, which is all that the board asks for. */
+#include <stdlib.h>
+
+#include "kalyubos.h"
+
+struct kalyubos_block rattle_alloc(size_t size, size_t align)
+{
+    void *at = malloc(size != 0 ? size : align);
+    return (struct kalyubos_block){ at != NULL, at };
+}
+
+struct kalyubos_block rattle_realloc(void *at, size_t kept, size_t size, size_t align)
+{
+    void *moved = realloc(at, size != 0 ? size : align);
+    (void)kept;
+    return (struct kalyubos_block){ moved != NULL, moved };
+}
+
+void rattle_dealloc(void *at)
+{
+    free(at);
+}

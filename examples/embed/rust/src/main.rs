@@ -1,0 +1,135 @@
+//! The host of `host.c`, in Rust: the same guest, and the same lines.
+
+use kalyubos::{Board, Refusal, Slot, Window};
+
+const MEMORY: u64 = 0x8000_0000;
+const TABLE: u64 = 0x1000;
+const AVAIL: u64 = 0x2000;
+const USED: u64 = 0x3000;
+const DATA: u64 = 0x4000;
+
+const NEXT: u16 = 1;
+const WRITE: u16 = 2;
+
+/// A descriptor as it lies in memory.
+fn descriptor(addr: u64, len: u32, flags: u16, next: u16) -> Vec<u8> {
+    let mut bytes = addr.to_le_bytes().to_vec();
+    bytes.extend(len.to_le_bytes());
+    bytes.extend(flags.to_le_bytes());
+    bytes.extend(next.to_le_bytes());
+    bytes
+}
+
+/// A guest's driver: what a virtual CPU does in its place are loads and stores.
+struct Driver<'board> {
+    board: &'board mut Board,
+    window: Window,
+    queue: u32,
+}
+
+impl Driver<'_> {
+    /// Where the window's queue lies: each window has 32 KiB of the memory.
+    fn area(&self) -> u64 {
+        MEMORY + 0x8000 * self.window as u64
+    }
+
+    fn get(&mut self, offset: u16) -> Result<u32, Refusal> {
+        self.board.read(0, self.window, offset, 4)
+    }
+
+    fn set(&mut self, offset: u16, value: u32) -> Result<(), Refusal> {
+        self.board.write(0, self.window, offset, 4, value)
+    }
+
+    fn store(&mut self, addr: u64, from: &[u8]) -> Result<(), Refusal> {
+        self.board.write_memory(0, addr, from)
+    }
+
+    /// VERSION_1 alone is accepted, and a queue of four made ready.
+    fn bring_up(&mut self) -> Result<(), Refusal> {
+        let area = self.area() as u32;
+        for (offset, value) in [
+            (0x070, 0),
+            (0x070, 1),
+            (0x070, 3),
+            (0x024, 1),
+            (0x020, 1),
+            (0x070, 11),
+            (0x030, self.queue),
+            (0x038, 4),
+            (0x080, area + TABLE as u32),
+            (0x090, area + AVAIL as u32),
+            (0x0a0, area + USED as u32),
+            (0x044, 1),
+            (0x070, 15),
+        ] {
+            self.set(offset, value)?;
+        }
+        Ok(())
+    }
+
+    /// Puts one chain, whose head is descriptor 0, on offer.
+    fn offer(&mut self, chain: &[u8]) -> Result<(), Refusal> {
+        let area = self.area();
+        self.store(area + TABLE, chain)?;
+        self.store(area + AVAIL, &[0, 0, 1, 0, 0, 0])?;
+        self.set(0x050, self.queue)
+    }
+
+    fn read_sector(&mut self, sector: u64) -> Result<(), Refusal> {
+        let data = self.area() + DATA;
+        let mut header = [0; 16];
+        header[8..].copy_from_slice(&sector.to_le_bytes());
+        self.store(data, &header)?;
+        let mut chain = descriptor(data, 16, NEXT, 1);
+        chain.extend(descriptor(data + 0x200, 512, NEXT | WRITE, 2));
+        chain.extend(descriptor(data + 0x100, 1, WRITE, 0));
+        self.offer(&chain)
+    }
+}
+
+fn guest(board: &mut Board) -> Result<(), Refusal> {
+    for window in [Window::Block, Window::Console] {
+        let mut driver = Driver { board, window, queue: 0 };
+        let (magic, device) = (driver.get(0x000)?, driver.get(0x008)?);
+        println!("window {}: magic {magic:08x}, device {device}", window as u8);
+    }
+    let mut disk = Driver { board, window: Window::Block, queue: 0 };
+    disk.bring_up()?;
+    disk.read_sector(1)?;
+    let data = disk.area() + DATA;
+    let (mut status, mut text) = ([0xff], [0; 512]);
+    board.read_memory(0, data + 0x100, &mut status)?;
+    println!("sector 1: status {}", status[0]);
+    board.read_memory(0, data + 0x200, &mut text)?;
+    let len = text.iter().position(|&byte| byte == 0).unwrap_or(text.len());
+
+    let mut console = Driver { board, window: Window::Console, queue: 1 };
+    console.bring_up()?;
+    let data = console.area() + DATA;
+    console.store(data, &text[..len])?;
+    console.offer(&descriptor(data, len as u32, 0, 0))
+}
+
+fn main() -> Result<(), Refusal> {
+    let mut image = vec![0; 2 * 512];
+    image[512..532].copy_from_slice(b"hello from sector 1\n");
+    let slot = Slot {
+        base: MEMORY,
+        len: 0x1_0000,
+        start: 0,
+        count: 2,
+        cols: 80,
+        rows: 25,
+        read_only: false,
+    };
+    let mut board = Board::new(&[slot], &image, 8)?;
+    guest(&mut board)?;
+    let mut out = [0; 64];
+    let taken = board.take_output(0, &mut out)?;
+    print!("console: {}", String::from_utf8_lossy(&out[..taken]));
+    let (block, console) = board.interrupts(0)?;
+    let disturbed = u8::from(board.disturbed(0)?);
+    println!("interrupts: {block} and {console}, disturbed: {disturbed}");
+    Ok(())
+}
