@@ -1,6 +1,6 @@
 -- Sectors that were moved so far, and what the request is once they all are, or once the image fails.
 use Rattle.std.proofs.Common.{◌≡◌, inl, inr, ℕ, ◌+◌, ◌*◌, ◌<◌, ◌≤◌, Some, List, [], ◌++◌, length, map, take, drop, refl, sym, ap, ◌∙◌, arith, length-take, length-drop, length-append}
-use Rattle.std.specs.Prelude.{IfSome}
+use Rattle.std.specs.Prelude.{IfSome, Result, Ok, Err}
 use Rattle.std.proofs.lemmas.List.{take_all, drop-drop}
 use Rattle.std.proofs.lemmas.List.{length-map, map-append}
 use Rattle.guest_memory.specs.Memory.{Memory, SameRange}
@@ -9,6 +9,7 @@ use Rattle.chain.specs.Bytes.{readable_of, writable_of, scatter}
 use Rattle.chain.specs.Service.{scattered}
 use Rattle.chain.proofs.Partial.{scattered-then_run, scattered-nil}
 use Rattle.sector_cache.specs.Sector.{sector_of}
+use Rattle.sector_cache.specs.Lending.{IsReadThrough}
 use Rattle.sector_cache.specs.Disk.{Disk, IsWhole, IsTorn, failed, flushed, written}
 use Rattle.block_device.specs.declared.extent.Extent.{Extent}
 use Rattle.block_device.specs.declared.request.RequestStatus.TheVariants.{Success, IoError}
@@ -18,6 +19,15 @@ use Rattle.block_device.specs.Request.{payload_of}
 use Rattle.block_device.specs.Outcome.{AreAsTold, filled}
 use Rattle.block_device.specs.Progress.{IsDone}
 use Rattle.block_device.proofs.Extents.{filled-nil, written-filled, extent_disk-filled, KeepsOutside-filled, AreAsTold-none, AreAsTold-more, AreAsTold-extent, take-sector}
+
+-- the disk after a sector was lent, and after a read that failed
+pub after_lent : {X E : Type 0} (result : Result X E) (x : X) (old new : Disk) → result ≡ Ok x → IsReadThrough result old new → new ≡ old
+after_lent (Ok _) x old new is rests = rests.0
+after_lent (Err _) x old new is rests = cc
+
+pub after_refused : {X E : Type 0} (result : Result X E) (e : E) (old new : Disk) → result ≡ Err e → IsReadThrough result old new → new ≡ failed old
+after_refused (Ok _) e old new is rests = cc
+after_refused (Err _) e old new is rests = rests.1
 
 -- these sectors were read from a sector of the disk on, and put in the first writable places
 pub record IsReading (buffers : List Buffer) (old new : Memory) (disk disk' : Disk) (sector done : ℕ) : Type 0 where

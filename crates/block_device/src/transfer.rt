@@ -1,5 +1,6 @@
-//! Sectors on their way between an image and a chain, one at a time through one array: nothing is
-//! gathered, and the first call of the image that fails is the last.
+//! Sectors on their way between an image and a chain, one at a time. Nothing is gathered: what is read goes from
+//! the cache straight into memory, what is written through one array. The first call of the image that fails is
+//! the last.
 
 ghost use Rattle.std.specs.Prelude.{◌+◌, ◌*◌, ◌^◌, ◌<◌, ◌≤◌, ◌≡◌, if◌then◌else◌, length, All};
 ghost use Rattle.guest_memory.specs.Memory.{SameRange};
@@ -67,10 +68,9 @@ impl BlockDevice {
         ensures outside { KeepsOutside self.now.extent (I.disk cache.old) (I.disk cache.new) }
         ensures range { SameRange mem.old mem.new }
     {
-        let mut bytes = [0; SECTOR_LEN as usize];
         for done in 0..count {
-            match cache.read(self.extent.start + sector + done, &mut bytes) {
-                Ok(()) => chain.write_at(mem, SECTOR_LEN * done, &bytes),
+            match cache.lend(self.extent.start + sector + done) {
+                Ok(bytes) => chain.write_at(mem, SECTOR_LEN * done, bytes),
                 Err(_) => {
                     return Done {
                         len: SECTOR_LEN * done,

@@ -1,5 +1,5 @@
 -- What a look-up finds among entries by number, after one of them was removed, put first or pushed out.
-use Rattle.std.proofs.Common.{◌≡◌, ◌≢◌, ℕ, zero, suc, ◌-◌, ◌⊎◌, inl, inr, Bool, true, false, cond, List, [], ◌∷◌, take, Option, Some, None, IfSome, Box, nat_eq, refl, sym, ◌∙◌, ap}
+use Rattle.std.proofs.Common.{◌≡◌, ◌≢◌, ℕ, zero, suc, ◌-◌, ◌⊎◌, inl, inr, Bool, true, false, cond, List, [], ◌∷◌, take, slice_get, Option, Some, None, IfSome, Box, nat_eq, refl, sym, ◌∙◌, ap}
 use Rattle.std.specs.Box.{box_value}
 use Rattle.std.specs.Cmp.{nat_eq_equiv}
 use Rattle.std.specs.List.{IsDistinct}
@@ -8,6 +8,7 @@ use Rattle.std.specs.Option.{option_map, option_map_or, option_and_then}
 use Rattle.std.proofs.lemmas.Bool.{eqb-true, eq-eqb, ne_eqb, cases_eq}
 use Rattle.std.proofs.lemmas.Map.{lookup-remove_entry, lookup-set_value}
 use Rattle.lru.specs.LruCache.{LruCache, lru_cache, promoted, put_entries}
+use Rattle.lru.proofs.CallerLemmas.{lookup-put_entries}
 
 module _ {X : Type 0} where
   -- the removal of one number leaves each other
@@ -109,3 +110,16 @@ module _ {A : Type 0} where
           | inr put ↦ let has : Some block.value ≡ Some kept = ap (option_map box_value) (sym put.1) ∙ at.2 in let same : kept ≡ block.value = cc in inr (put.0, same ∙ holds)
         ]
   ]) refl
+
+  -- after a put of a block something of that number is found
+  pub put_found : (old new : LruCache ℕ (Option (Box (List ℕ) A))) (k : ℕ) (block : Box (List ℕ) A) → new ≡ lru_cache (put_entries nat_eq old k (Some block)) old.cap → seen (lookup (nat_eq k) new.entries) ≡ None → ⊥
+  put_found old new k block is none =
+      let put : seen (lookup (nat_eq k) new.entries) ≡ Some block.value = ap (λ c. seen (lookup (nat_eq k) c.entries)) is ∙ ap seen (lookup-put_entries nat_eq old k (Some block) nat_eq_equiv) in
+      let never : Some block.value ≡ None = sym put ∙ none in cc
+
+  -- the first entry is found by its number
+  pub seen-first : (es : List (ℕ × Option (Box (List ℕ) A))) (k number : ℕ) (v : Option (Box (List ℕ) A)) (block : Box (List ℕ) A) → Some (number, v) ≡ slice_get es 0 → v ≡ Some block → number ≡ k → seen (lookup (nat_eq k) es) ≡ Some block.value
+  seen-first [] k number v block first is same = cc
+  seen-first (e ∷ es) k number v block first is same =
+      let at : (number, v) ≡ e = cc in
+      rw (eq-eqb k e.0 (sym same ∙ ap (λ p. p.0) at)) (ap (λ p. option_map box_value p.1) (sym at) ∙ ap (option_map box_value) is)

@@ -2,7 +2,7 @@
 use Rattle.std.specs.Prelude.{◌≡◌, ◌==◌, ℕ, ◌⊎◌, List, Option, Some, None, IfSome, nat_eq, if◌then◌else◌}
 use Rattle.std.specs.Box.{box_value}
 use Rattle.std.specs.Map.{lookup}
-use Rattle.std.specs.Option.{option_map, option_and_then}
+use Rattle.std.specs.Option.{option_map, option_and_then, unwrap_or}
 use Rattle.sector_cache.specs.Disk.{Disk, IsAsTold}
 use Rattle.sector_cache.specs.declared.kept.Kept.{Kept}
 
@@ -10,6 +10,14 @@ use Rattle.sector_cache.specs.declared.kept.Kept.{Kept}
 abbrev pub kept_of : {A : Type 0} → Kept A → ℕ → Option (List ℕ)
 kept_of kept sector =
     option_and_then (option_map box_value) (lookup (nat_eq sector) kept.sectors.entries)
+
+-- the bytes of the sector that was read or written last
+abbrev pub last_of : {A : Type 0} → Kept A → List ℕ
+last_of kept = box_value kept.last
+
+-- the bytes that are kept of a sector, or else those
+abbrev pub bytes_of : {A : Type 0} → Kept A → ℕ → List ℕ
+bytes_of kept sector = unwrap_or (kept_of kept sector) (last_of kept)
 
 -- what is kept of a sector is what the disk tells of it
 pub record IsCoherent {A : Type 0} (disk : Disk) (kept : Kept A) : Type 0 where

@@ -3,6 +3,7 @@ pub mod Disk
 pub mod Backing
 pub mod Fault
 pub mod Kept
+pub mod Lending
 pub mod FileImage
 pub mod MemoryImage
 pub mod Script

@@ -1,9 +1,13 @@
 //! A cache of sectors over an image.
 
 ghost use Rattle.std.specs.Prelude.{◌≡◌, ◌<◌, ◌↔◌, IfOk, IfErr, OnOk, OnErr, IsSome, replicate};
+ghost use Rattle.std.specs.Borrow.{sem};
+ghost use Rattle.std.specs.Io.BufRead.{Rests};
+ghost use Rattle.sector_cache.specs.contracts.cache.SectorCache.{the_row};
 ghost use Rattle.sector_cache.specs.Disk.{IsAsTold, IsTorn, failed, written, flushed};
 ghost use Rattle.sector_cache.specs.Fault.{IsCapacity, RefusesCapacity};
 ghost use Rattle.sector_cache.specs.Kept.{IsCoherent};
+ghost use Rattle.sector_cache.specs.Lending.{IsReadThrough};
 
 use crate::fault::{CacheFault, Refused};
 use crate::image::{Image, ImageError};
@@ -58,6 +62,20 @@ impl<I: Image, A: Allocator + Copy> SectorCache<I, A> {
         Ok(SectorCache { image, kept })
     }
 
+    /// Lends the bytes of a sector: where they are kept those, else what the image reads just now.
+    pub fn lend(&mut self, sector: u64) -> Result<&[u8; 512], ImageError>
+        requires { sector < (I.disk self.old).sector_count }
+        ensures read { IfOk result (λ bytes. IsAsTold (I.disk self.old) sector bytes.now) }
+        ensures* after_borrow { sem 𝓛 (Rests (the_row I.row A.row I.Image A.Allocator) self.entry (λ cache.
+            IsReadThrough result (I.disk self.old) (I.disk cache))) }
+    {
+        if !self.kept.touch(sector) {
+            self.image.read_sector(sector, &mut self.kept.last)?;
+            self.kept.keep_last(sector);
+        }
+        Ok(self.kept.bytes(sector))
+    }
+
     /// Reads a sector. After an `Err` `into` may hold any bytes.
     pub fn read(&mut self, sector: u64, into: &mut [u8; 512]) -> Result<(), ImageError>
         requires { sector < (I.disk self.old).sector_count }
@@ -65,11 +83,7 @@ impl<I: Image, A: Allocator + Copy> SectorCache<I, A> {
         ensures ok { OnOk result (I.disk self.new ≡ I.disk self.old) }
         ensures err { OnErr result (I.disk self.new ≡ failed (I.disk self.old)) }
     {
-        if self.kept.get(sector, into) {
-            return Ok(());
-        }
-        self.image.read_sector(sector, into)?;
-        self.kept.put(sector, into);
+        *into = *self.lend(sector)?;
         Ok(())
     }
 

@@ -1,11 +1,11 @@
 //! The sectors that a cache keeps: at most so many, of which the least recently used gives way.
 
 ghost use Rattle.std.specs.Prelude.{◌≡◌, ℕ, None, Some, IfOk, IfSome, is_some};
-ghost use Rattle.std.specs.Bool.{OnTrue};
 ghost use Rattle.std.specs.Box.{box_value};
 
 use lru::{DefaultHasher, LruCache};
 use std::alloc::{AllocError, AllocFailed, Allocator, Global};
+use std::mem;
 use std::num::NonZeroUsize;
 
 /// The bytes of one sector.
@@ -16,13 +16,15 @@ type Block<A> = Box<[u8; 512], A>;
 pub struct Kept<A: Allocator = Global> {
     // None where the bytes of a sector are being written.
     sectors: LruCache<u64, Option<Block<A>>, DefaultHasher, A>,
+    /// The bytes of the sector that was read or written last, until they are kept.
+    pub(crate) last: Block<A>,
     // Room for the bytes of one sector more, where some gave way.
     spare: Option<Block<A>>,
     alloc: A,
 }
 
 impl<A: Allocator + Copy> Kept<A> {
-    ghost use Rattle.sector_cache.specs.Kept.{kept_of, KeepsAsMuch, KeepsAllBut, MayKeep};
+    ghost use Rattle.sector_cache.specs.Kept.{kept_of, last_of, bytes_of, KeepsAsMuch, KeepsAllBut, MayKeep};
 
     /// Room for `capacity` sectors, of which none is kept yet.
     pub(crate) fn new(alloc: A, capacity: NonZeroUsize) -> Result<Self, AllocError>
@@ -30,24 +32,32 @@ impl<A: Allocator + Copy> Kept<A> {
     {
         Ok(Kept {
             sectors: LruCache::new(alloc, capacity)?,
+            last: Box::new(alloc, [0; 512])?,
             spare: None,
             alloc,
         })
     }
 
-    /// Copies the bytes of a sector, and answers whether they are kept. It is then the most recently
-    /// used.
-    pub(crate) fn get(&mut self, sector: u64, into: &mut [u8; 512]) -> bool
+    /// Makes a sector the most recently used, and answers whether its bytes are kept.
+    pub(crate) fn touch(&mut self, sector: u64) -> bool
         ensures found { result ≡ is_some (kept_of self.old sector) }
-        ensures copied { OnTrue result (kept_of self.old sector ≡ Some into.new) }
         ensures stays { KeepsAsMuch self.old self.new }
+        ensures last { last_of self.new ≡ last_of self.old }
     {
-        match self.sectors.get(&sector) {
-            Some(Some(block)) => {
-                *into = **block;
-                true
-            }
-            _ => false,
+        matches!(self.sectors.get(&sector), Some(Some(_)))
+    }
+
+    /// The bytes of a sector where they are kept, else those of the last one. They are found at once where the
+    /// sector was used last.
+    pub(crate) fn bytes(&self, sector: u64) -> &[u8; 512]
+        ensures { result.now ≡ bytes_of self.now sector }
+    {
+        match self.sectors.peek_mru() {
+            Some((number, Some(block))) if *number == sector => block,
+            _ => match self.sectors.peek(&sector) {
+                Some(Some(block)) => block,
+                _ => &self.last,
+            },
         }
     }
 
@@ -69,31 +79,46 @@ impl<A: Allocator + Copy> Kept<A> {
         self.sectors.pop(&sector);
     }
 
-    /// Keeps the bytes of a sector, as the most recently used. Where there is no memory for them,
-    /// they aren't kept.
+    /// Keeps these bytes of a sector, as the most recently used. Where there is no memory for them, they
+    /// aren't kept.
     pub(crate) fn put(&mut self, sector: u64, bytes: &[u8; 512])
         ensures { MayKeep sector bytes.now self.old self.new }
     {
-        let Some(block) = filled(self.alloc, self.spare.take(), bytes) else {
+        *self.last = *bytes;
+        self.keep_last(sector);
+    }
+
+    /// The same of the last bytes.
+    pub(crate) fn keep_last(&mut self, sector: u64)
+        ensures keeps { MayKeep sector (last_of self.old) self.old self.new }
+        ensures last { kept_of self.new sector ≡ None → last_of self.new ≡ last_of self.old }
+    {
+        let Some(room) = room(self.alloc, self.spare.take()) else {
             return;
         };
+        let block = mem::replace(&mut self.last, room);
         match self.sectors.push(sector, Some(block)) {
             Ok(Some((_, block))) => self.spare = block,
             Ok(None) => {}
-            Err(AllocFailed { value: (_, block) }) => self.spare = block,
+            Err(AllocFailed { value: (_, block) }) => self.take_back(block),
+        }
+    }
+
+    /// Takes back the last bytes, for which there was no place.
+    fn take_back(&mut self, block: Option<Block<A>>)
+        ensures sectors { self.new.sectors ≡ self.old.sectors }
+        ensures last { IfSome block (λ b. last_of self.new ≡ box_value b) }
+    {
+        if let Some(block) = block {
+            self.spare = Some(mem::replace(&mut self.last, block));
         }
     }
 }
 
-/// A block of these bytes, in the room that is given or else in new room.
-fn filled<A: Allocator>(alloc: A, spare: Option<Block<A>>, bytes: &[u8; 512]) -> Option<Block<A>>
-    ensures { IfSome result (λ block. box_value block ≡ bytes.now) }
-{
+/// Room for one sector: what is spared, or new.
+fn room<A: Allocator>(alloc: A, spare: Option<Block<A>>) -> Option<Block<A>> {
     match spare {
-        Some(mut block) => {
-            *block = *bytes;
-            Some(block)
-        }
-        None => Box::new(alloc, *bytes).ok(),
+        Some(block) => Some(block),
+        None => Box::new(alloc, [0; 512]).ok(),
     }
 }

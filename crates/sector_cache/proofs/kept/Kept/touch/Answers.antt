@@ -1,5 +1,5 @@
 use Rattle.sector_cache.proofs.Keeping.{seen-promoted}
-use Rattle.sector_cache.proofs.kept.Kept.get.Goals as goal
+use Rattle.sector_cache.proofs.kept.Kept.touch.Goals as goal
 
 pub returns-in-Some-Some-clause-stays : goal.returns-in-Some-Some-clause-stays
 returns-in-Some-Some-clause-stays g c =
