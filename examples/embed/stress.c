@@ -204,8 +204,12 @@ static uint64_t area(uint8_t window)
     return MEMORY + (window ? MEMORY_LEN / 2 : 0);
 }
 
+/* How many chains each driver has put on offer since it brought its window up. */
+static uint16_t offered[BOARDS][256][2];
+
 static void bring_up(struct kalyubos *board, uint8_t slot, uint8_t window)
 {
+    offered[board - boards][slot][window] = 0;
     uint16_t offsets[] = { 0x70, 0x70, 0x70, 0x24, 0x20, 0x70, 0x30, 0x38, 0x80, 0x90, 0xa0, 0x44, 0x70 };
     uint32_t at = (uint32_t)area(window), queue = window ? (uint32_t)chance(2) : 0;
     uint32_t features = chance(4) == 0 ? 5 : 1; /* VERSION_1, and at times RING_PACKED */
@@ -222,7 +226,6 @@ static void put(uint8_t *bytes, uint64_t value, int len)
 
 static void offer(struct kalyubos *board, uint8_t slot, uint8_t window)
 {
-    static uint16_t idx[BOARDS][SLOTS + 1][2];
     uint8_t table[8 * 16], header[16], ring[4 + 16];
     for (int i = 0; i < 8; i++) {
         put(table + 16 * i, area(window) + (chance(50) ? 0x1000 + 0x100 * chance(16) : chance(1 << 20)), 8);
@@ -233,7 +236,7 @@ static void offer(struct kalyubos *board, uint8_t slot, uint8_t window)
     if (!window && chance(4))
         put(table + 16 * 2 + 8, 1, 4), put(table + 16 * 2 + 12, 2, 2);
     put(header, chance(8) ? chance(2) : chance(32), 4), put(header + 4, 0, 4), put(header + 8, chance(6), 8);
-    put(ring, 0, 2), put(ring + 2, ++idx[board - boards][slot % (SLOTS + 1)][window], 2);
+    put(ring, 0, 2), put(ring + 2, ++offered[board - boards][slot][window], 2);
     for (int i = 0; i < 8; i++)
         put(ring + 4 + 2 * i, chance(10) ? 0 : chance(9), 2);
     write_memory(board, slot, area(window), table, sizeof table);
@@ -273,7 +276,8 @@ static void call(struct kalyubos *board)
         break;
     case 11: resize(board, slot, (uint16_t)chance(200), (uint16_t)chance(100)); break;
     case 12: case 13: look(board, slot); break;
-    default: bring_up(board, slot, window);
+    case 14: bring_up(board, slot, window); break;
+    default: offer(board, slot, window);
     }
     if (records == NULL && chance(2000) == 0)
         chance(2) ? (void)kalyubos_destroy(board) : make(board);

@@ -9,7 +9,7 @@ use base.Fml.{ftrue}
 use types.Logic.{Logic}
 use types.Kit.{◌$◌, Goal, Step, step, Seq, Item, ‵, move, drop, fsplit, fjoin, fpick, fpack, feq_l, feq_i}
 use denote.RattleType.{RattleType, Valss}
-use denote.RawPtr.{Ptr, RawPtr, null_ptr, ptr_val}
+use denote.RawPtr.{Ptr, null_ptr, ptr_val}
 use denote.Steps.{nothing}
 use denote.Struct.Struct.{within}
 use denote.Struct.Owning.{shape, to, fields}
@@ -17,7 +17,7 @@ use Rattle.std.specs.Prelude.{None}
 use Rattle.std_alloc.proofs.BoxSteps.Form.{handle}
 use Rattle.std.proofs.alloc.Calls.{Fits, handle_tells}
 use Rattle.board_ffi.proofs.AsBox.{E}
-use Rattle.board_ffi.specs.Handle.{held, Held}
+use Rattle.board_ffi.specs.Handle.{held}
 use Rattle.board_ffi.specs.contracts.handle.Handle as Handle
 
 abbrev pub H : RattleType

@@ -40,35 +40,36 @@ fn one_guest(rt: &impl Abort, alloc: Global) -> Handle {
     board
 }
 
-/// A slot, how many of it, the image's length, the cache's capacity, and what creating them answers.
-const BOARDS: [(Slot, usize, usize, u32, u32); 9] = [
-    (SLOT, 1, 1023, 1, 7),
-    (SLOT, 0, 1024, 1, 8),
-    (SLOT, 17, 1024, 1, 9),
-    (Slot { len: 0x800, ..SLOT }, 1, 1024, 1, 10),
+/// A disk of one sector and half another.
+const CUT: [u8; 768] = [7; 768];
+
+/// Slots, an image, the cache's capacity, and what creating them answers.
+const BOARDS: [(&[Slot], &[u8], u32, u32); 9] = [
+    (&[SLOT], &CUT, 1, 7),
+    (&[], &IMAGE, 1, 8),
+    (&[SLOT; 17], &IMAGE, 1, 9),
+    (&[Slot { len: 0x800, ..SLOT }], &IMAGE, 1, 10),
     (
-        Slot {
+        &[Slot {
             base: 0x800,
             ..SLOT
-        },
-        1,
-        1024,
+        }],
+        &IMAGE,
         1,
         11,
     ),
-    (Slot { start: 1, ..SLOT }, 1, 1024, 1, 12),
-    (SLOT, 2, 1024, 1, 13),
-    (SLOT, 1, 1024, 0, 14),
-    (SLOT, 1, 1024, 1, 0),
+    (&[Slot { start: 1, ..SLOT }], &IMAGE, 1, 12),
+    (&[SLOT; 2], &IMAGE, 1, 13),
+    (&[SLOT], &IMAGE, 0, 14),
+    (&[SLOT], &IMAGE, 1, 0),
 ];
 
 #[test]
 fn a_board_is_made_or_refused(rt: HostRuntime) -> Result<(), Fail> {
     let alloc = rt.alloc();
     let mut board = Handle::empty(alloc);
-    for (slot, count, len, cache, want) in &BOARDS {
-        let slots = [*slot; 17];
-        let got = kalyubos_create(alloc, &mut board, &slots[..*count], &IMAGE[..*len], *cache);
+    for (slots, image, cache, want) in &BOARDS {
+        let got = kalyubos_create(alloc, &mut board, *slots, *image, *cache);
         same(&rt, got, *want);
     }
     Ok(())

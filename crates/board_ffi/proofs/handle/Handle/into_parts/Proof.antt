@@ -2,9 +2,9 @@
 use mathlib.Core.Path.{◌≡◌, ◌∙◌, refl, sym, subst}
 use mathlib.Core.List.{List, [], ◌∷◌, ◌++◌}
 use seplogic.Ra.Ura.{Ura}
-use lib.Dec.{T, lit<}
+use lib.Dec.{lit<}
 use mir.Raw.{raw as bare}
-use mir.Val.{Val, vnull, of_list, has_ty, WT}
+use mir.Val.{Val, of_list}
 use base.Logic.{SProp, ent, sep, emp, guard, guard_i, never_e, id⊢, via, snd∗}
 use base.Fml.{ftrue, ffalse, fsep}
 use prog.Memory.{Memory}
@@ -22,7 +22,6 @@ use types.ByLocal.{alloc_all, pass_all, free_all, look_at, get, get_in, sets, en
 use denote.Exit.{yes}
 use denote.Memory.{lone}
 use denote.RawPtr.{Ptr, block_ptr, null_ptr, Testable, tests_null}
-use denote.Signature.{plain}
 use denote.Steps.{nothing}
 use denote.Triple.Spec.{triple_of}
 use denote.Triple.Table.{entered}
