@@ -1,9 +1,9 @@
-//! The receive queue: which bytes stand where, what the used entry says, and what stays pending.
+//! The receive queue: which bytes stand where, what the used entry says, and what stays pending. Several inputs and
+//! services one after another are scenarios of `conformance`, under `input`.
 
 use crate::ConsoleDevice;
 use crate::tests::{
-    AVAILABLE, DATA, Descriptor, NEXT, RECEIVE, Seen, UNUSED, USED, WRITE, after_receive, guest,
-    has, same, up,
+    DATA, Descriptor, NEXT, RECEIVE, Seen, UNUSED, WRITE, after_receive, guest, has, same, up,
 };
 use guest_memory::GuestMemory;
 use std::alloc::Global;
@@ -121,104 +121,5 @@ fn check_received(rt: &impl Abort, alloc: Global, row: &Received) -> Result<(), 
     same(rt, row, &seen, &used(row.len));
     same(rt, row, &has(&mem, DATA, &row.found), &true);
     same(rt, row, &console.input(&[0; 4096]), &row.room);
-    Ok(())
-}
-
-/// Two chains of four bytes each, the second one first.
-const TWO_CHAINS: [Descriptor; 2] = [
-    Descriptor(DATA, 4, WRITE, 0),
-    Descriptor(DATA + 4, 4, WRITE, 0),
-];
-
-#[test]
-fn a_chain_is_taken_only_while_input_is_pending(rt: HostRuntime) -> Result<(), Fail> {
-    let mut mem = guest(rt.alloc(), &TWO_CHAINS, [1, 0], 2)?;
-    let mut window = up(&mem, RECEIVE);
-    let mut console = ConsoleDevice::new(rt.alloc(), 80, 25)?;
-    let seen = after_receive(&mut console, &mut mem, &mut window);
-    same(&rt, &"none", &(seen.used, seen.interrupts), &(0, 0));
-    let _ = console.input(b"WXYZ");
-    let seen = after_receive(&mut console, &mut mem, &mut window);
-    let found = (seen.used, seen.head, seen.len, seen.interrupts);
-    same(&rt, &"first", &found, &(1, 1, 4, 1));
-    let _ = console.input(b"ABCD");
-    let seen = after_receive(&mut console, &mut mem, &mut window);
-    let entry = mem.get_u64(USED + 12);
-    same(
-        &rt,
-        &"second",
-        &(seen.used, entry),
-        &(2, Some(0x4_0000_0000)),
-    );
-    same(&rt, &"bytes", &has(&mem, DATA, b"ABCDWXYZ"), &true);
-    Ok(())
-}
-
-#[test]
-fn input_keeps_its_order_round_the_end_of_its_ring(rt: HostRuntime) -> Result<(), Fail> {
-    let mut console = ConsoleDevice::new(rt.alloc(), 80, 25)?;
-    let mut typed = [0; 3000];
-    for _ in 0..5 {
-        count_on(&mut typed);
-        check_typed(&rt, rt.alloc(), &mut console, &typed)?;
-    }
-    Ok(())
-}
-
-/// Goes on counting, modulo 256, where the bytes end.
-fn count_on(typed: &mut [u8; 3000]) {
-    let mut next = typed[2999];
-    for byte in typed {
-        next = next.wrapping_add(1);
-        *byte = next;
-    }
-}
-
-fn check_typed(
-    rt: &impl Abort,
-    alloc: Global,
-    console: &mut ConsoleDevice,
-    typed: &[u8; 3000],
-) -> Result<(), Fail> {
-    let _ = console.input(typed);
-    let (mem, seen) = receive_once(alloc, console, &[Descriptor(DATA, 0x1000, WRITE, 0)])?;
-    same(rt, &typed[0], &seen, &used(3000));
-    same(rt, &typed[0], &has(&mem, DATA, typed), &true);
-    Ok(())
-}
-
-#[test]
-fn input_waits_for_its_buffers(rt: HostRuntime) -> Result<(), Fail> {
-    let mut console = ConsoleDevice::new(rt.alloc(), 80, 25)?;
-    same(&rt, &"typed", &console.input(&[0x61; 5000]), &4096);
-    let short = [Descriptor(DATA, 3, WRITE, 0)];
-    let (mem, seen) = receive_once(rt.alloc(), &mut console, &short)?;
-    let first = (seen, mem.get_u32(DATA));
-    same(&rt, &"short", &first, &(used(3), Some(0x6461_6161)));
-    same(&rt, &"typed on", &console.input(b"zzzz"), &3);
-    // what is pending stays when the window comes up anew
-    let long = [Descriptor(DATA, 0x1000, WRITE, 0)];
-    let (mem, seen) = receive_once(rt.alloc(), &mut console, &long)?;
-    let last = (seen, mem.get_u64(DATA + 4089));
-    let wanted = (used(0x1000), Some(0x007a_7a7a_6161_6161));
-    same(&rt, &"long", &last, &wanted);
-    Ok(())
-}
-
-#[test]
-fn input_over_the_available_ring_is_a_jump_of_the_next_service(
-    rt: HostRuntime,
-) -> Result<(), Fail> {
-    let mut mem = guest(rt.alloc(), &[Descriptor(AVAILABLE, 8, WRITE, 0)], [0, 0], 1)?;
-    let mut window = up(&mem, RECEIVE);
-    let mut console = ConsoleDevice::new(rt.alloc(), 80, 25)?;
-    let _ = console.input(&[0x10; 8]);
-    let seen = after_receive(&mut console, &mut mem, &mut window);
-    let idx = mem.get_u16(AVAILABLE + 2);
-    same(&rt, &"over idx", &(seen, idx), &(used(8), Some(0x1010)));
-    // the service is opened though nothing is pending
-    let seen = after_receive(&mut console, &mut mem, &mut window);
-    let found = (seen.used, seen.interrupts, seen.status);
-    same(&rt, &"jump", &found, &(1, 3, 0x4f));
     Ok(())
 }

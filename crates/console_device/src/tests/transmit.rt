@@ -2,7 +2,7 @@
 
 use crate::ConsoleDevice;
 use crate::tests::{
-    DATA, Descriptor, INDIRECT, INDIRECT_TABLE, NEXT, Seen, TRANSMIT, UNUSED, WRITE, after_receive,
+    DATA, Descriptor, INDIRECT, INDIRECT_TABLE, NEXT, Seen, TRANSMIT, UNUSED, WRITE,
     after_transmit, guest, has, same, up,
 };
 use std::alloc::Global;
@@ -111,18 +111,5 @@ fn check_transmitted(rt: &impl Abort, alloc: Global, row: &Transmitted) -> Resul
     same(rt, row, &answer, &(Ok(()), row.seen));
     same(rt, row, &Some(out.as_slice()), &row.out.get(..row.len));
     same(rt, row, &has(&mem, DATA, b"abcdefgh"), &true);
-    Ok(())
-}
-
-#[test]
-fn a_queue_that_is_not_ready_is_not_served(rt: HostRuntime) -> Result<(), Fail> {
-    let mut mem = guest(rt.alloc(), &[Descriptor(DATA, 4, WRITE, 0)], [0, 0], 1)?;
-    let mut window = up(&mem, TRANSMIT);
-    let mut console = ConsoleDevice::new(rt.alloc(), 80, 25)?;
-    let _ = console.input(b"ABCD");
-    let seen = after_receive(&mut console, &mut mem, &mut window);
-    let found = (seen.used, seen.interrupts, seen.status);
-    same(&rt, &"not served", &found, &(0, 0, 0x0f));
-    same(&rt, &"bytes", &has(&mem, DATA, b"abcd"), &true);
     Ok(())
 }
