@@ -7,11 +7,11 @@
  * What each call promises is proved, for a caller that keeps these duties:
  *  - A handle is zeroed before its first call, and is then changed by calls alone. It is never copied: a copy
  *    would be a second owner of one board.
- *  - One call at a time for a handle. Different handles may be in different threads at once, if the heap may.
- *    Not from a signal handler.
+ *  - A board stays on the thread that made it, with one call at a time, and none from a signal handler. Other
+ *    threads may have boards of their own at the same time, if the heap may.
  *  - No pointer is null, also where its length is 0. A buffer is as long as its length says, and none of a
  *    call's buffers and out parameters overlaps another, or the handle.
- *  - A `bool` is 0 or 1. Some 64 KiB of stack are free.
+ *  - A `bool` is 0 or 1. 64 KiB of stack are free, which is more than any call was seen to take.
  *
  * Nothing of the caller's is kept: a call copies what it needs. Each answers a number, and after any but
  * KALYUBOS_DONE its out parameters are as they were.
@@ -70,8 +70,8 @@ struct kalyubos_slot {
 
 /*
  * Makes a board of `slots_len` slots over a copy of the image, with a cache of at most `cache` sectors before it,
- * and puts it into an empty handle. A refusal leaves the handle as it was and takes no memory: of those from
- * BAD_IMAGE on it is the first of the list, slot by slot for the memory and extent of each.
+ * and puts it into an empty handle. A refusal leaves the handle as it was and keeps no memory. Of the numbers from
+ * BAD_IMAGE on it is the first that holds, those of a slot looked for slot by slot.
  */
 uint32_t kalyubos_create(struct kalyubos *board, const struct kalyubos_slot *slots, size_t slots_len,
                          const uint8_t *image, size_t image_len, uint32_t cache);

@@ -1,5 +1,5 @@
 -- What a call does to the board behind its handle.
-use Rattle.std.specs.Prelude.{◌≡◌, ℕ, ◌==◌, if◌then◌else◌, ◌<◌, ◌≤◌, ◌+◌, ◌++◌, Bool, List, Option, Some, None, MatchOption, IsSomeAnd, length, min, take, drop, slice_set}
+use Rattle.std.specs.Prelude.{◌≡◌, ℕ, ◌==◌, if◌then◌else◌, ◌<◌, ◌≤◌, ◌+◌, ◌++◌, Bool, List, Option, Some, None, IsTrue, MatchOption, IsSomeAnd, length, min, take, drop, slice_set}
 use Rattle.std.specs.List.{slice_get}
 use Rattle.std.specs.Option.{option_map}
 use Rattle.std.specs.Global.{Global}
@@ -10,6 +10,7 @@ use Rattle.board.specs.declared.reply.Reply.{Reply}
 use Rattle.board.specs.Slot.{interrupt_words}
 use Rattle.board.specs.World.{disturbed_of}
 use Rattle.embed.specs.Session.{SessionState, IsStep, output_of}
+use Rattle.board_ffi.specs.Codes.{is_reply, reply_of}
 use Rattle.board_ffi.specs.Handle.{Held}
 
 -- A call on a handle: where it holds no board it answers 1 and goes on holding none; a board does this, and is
@@ -18,9 +19,11 @@ abbrev pub Calls : Held → Held → ℕ → (SessionState → SessionState → 
 Calls before after code step =
     MatchOption before ((code ≡ 1) × (after ≡ None)) (λ old. IsSomeAnd after (step old))
 
--- the board takes the step of this event of a slot, and this is the reply
-abbrev pub Takes : ℕ → EventKind Global → Reply Global → SessionState → SessionState → Type 0
-Takes slot what reply old new = IsStep old (record { slot = slot; what = what }) reply new
+-- The board takes the step of this event of a slot, and its reply is the one that the number stands for: this one
+-- where the call is done.
+abbrev pub Takes : ℕ → EventKind Global → ℕ → Reply Global → SessionState → SessionState → Type 0
+Takes slot what code done old new =
+    IsStep old (record { slot = slot; what = what }) (reply_of code done) new × IsTrue (is_reply code)
 
 -- the window of each number
 abbrev pub window_of : ℕ → Option DeviceKind

@@ -1,5 +1,5 @@
 -- The number that stands for each answer.
-use Rattle.std.specs.Prelude.{ℕ, ◌==◌, if◌then◌else◌}
+use Rattle.std.specs.Prelude.{ℕ, ◌==◌, ◌||◌, Bool, if◌then◌else◌}
 use Rattle.guest_memory.specs.declared.fault.MemoryFault.TheVariants.{BadSize, BadBase}
 use Rattle.guest_memory.specs.declared.fault.MemoryFault.TheVariants as memory
 use Rattle.sector_cache.specs.declared.fault.CacheFault.TheVariants.{BadCapacity}
@@ -24,6 +24,10 @@ abbrev pub reply_of : {A : Type 0} → ℕ → Reply A → Reply A
 reply_of code done =
     if code == 0 then done
     else (if code == 3 then reply.BadSlot else (if code == 4 then reply.BadRange else reply.NoMemory))
+
+-- the numbers that a call answers which comes to a board's reply
+abbrev pub is_reply : ℕ → Bool
+is_reply code = (code == 0) || (code == 3) || (code == 4) || (code == 5)
 
 -- a board that was refused
 abbrev pub board_code : BoardFault → ℕ

@@ -4,7 +4,6 @@ ghost use Rattle.std.specs.Prelude.{◌≡◌, ◌≢◌};
 ghost use Rattle.board.specs.declared.event.EventKind.{EventKind};
 ghost use Rattle.board.specs.declared.reply.Reply.{Reply};
 ghost use Rattle.board_ffi.specs.Calls.{Calls, IsMissing, MovesOutput, Takes};
-ghost use Rattle.board_ffi.specs.Codes.{reply_of};
 
 use crate::codes::{BAD_SLOT, DONE, NO_BOARD, of_refusal};
 use crate::handle::Handle;
@@ -20,7 +19,7 @@ pub extern "C" fn kalyubos_input(
     took: &mut usize,
 ) -> u32
     ensures step { result ≢ 5 → Calls board.old.session board.new.session result
-        (Takes slot (EventKind.Input bytes.now) (reply_of result (Reply.Took took.new))) }
+        (Takes slot (EventKind.Input bytes.now) result (Reply.Took took.new)) }
     ensures no_memory { result ≡ 5 → board.new.session ≡ board.old.session }
     ensures kept { result ≢ 0 → took.new ≡ took.old }
 {
@@ -48,7 +47,7 @@ pub extern "C" fn kalyubos_resize(
     rows: u16,
 ) -> u32
     ensures step { Calls board.old.session board.new.session result
-        (Takes slot (EventKind.Resize cols rows) (reply_of result Reply.Done)) }
+        (Takes slot (EventKind.Resize cols rows) result Reply.Done) }
 {
     let Some(mut session) = board.take(alloc) else {
         return NO_BOARD;

@@ -4,7 +4,6 @@ ghost use Rattle.std.specs.Prelude.{◌≡◌, ◌≢◌, length};
 ghost use Rattle.board.specs.declared.event.EventKind.{EventKind};
 ghost use Rattle.board.specs.declared.reply.Reply.{Reply};
 ghost use Rattle.board_ffi.specs.Calls.{Calls, Takes};
-ghost use Rattle.board_ffi.specs.Codes.{reply_of};
 
 use crate::codes::{DONE, NO_BOARD, of_refusal};
 use crate::handle::Handle;
@@ -20,7 +19,7 @@ pub extern "C" fn kalyubos_read_memory(
     into: &mut [u8],
 ) -> u32
     ensures step { Calls board.old.session board.new.session result
-        (Takes slot (EventKind.MemRead addr (length into.old)) (reply_of result (Reply.Bytes into.new))) }
+        (Takes slot (EventKind.MemRead addr (length into.old)) result (Reply.Bytes into.new)) }
     ensures kept { result ≢ 0 → into.new ≡ into.old }
 {
     let Some(session) = board.take(alloc) else {
@@ -44,7 +43,7 @@ pub extern "C" fn kalyubos_write_memory(
     from: &[u8],
 ) -> u32
     ensures step { Calls board.old.session board.new.session result
-        (Takes slot (EventKind.MemWrite addr from.now) (reply_of result Reply.Done)) }
+        (Takes slot (EventKind.MemWrite addr from.now) result Reply.Done) }
 {
     let Some(mut session) = board.take(alloc) else {
         return NO_BOARD;

@@ -4,7 +4,6 @@ ghost use Rattle.std.specs.Prelude.{◌≡◌, ◌≢◌, MatchOption};
 ghost use Rattle.board.specs.declared.event.EventKind.{EventKind};
 ghost use Rattle.board.specs.declared.reply.Reply.{Reply};
 ghost use Rattle.board_ffi.specs.Calls.{Calls, HasWords, IsMissing, IsNotedAs, Takes, window_of};
-ghost use Rattle.board_ffi.specs.Codes.{reply_of};
 
 use crate::codes::{BAD_SLOT, BAD_WINDOW, DONE, NO_BOARD, of_refusal};
 use crate::handle::Handle;
@@ -25,7 +24,7 @@ pub extern "C" fn kalyubos_read(
     ensures step { MatchOption (window_of window)
         ((result ≡ 6) × (board.new ≡ board.old))
         (λ kind. Calls board.old.session board.new.session result
-        (Takes slot (EventKind.Read kind offset width) (reply_of result (Reply.Value value.new)))) }
+        (Takes slot (EventKind.Read kind offset width) result (Reply.Value value.new))) }
     ensures kept { result ≢ 0 → value.new ≡ value.old }
 {
     let Some(window) = window_numbered(window) else {
@@ -59,7 +58,7 @@ pub extern "C" fn kalyubos_write(
     ensures step { MatchOption (window_of window)
         ((result ≡ 6) × (board.new ≡ board.old))
         (λ kind. Calls board.old.session board.new.session result
-        (Takes slot (EventKind.Write kind offset width value) (reply_of result Reply.Done))) }
+        (Takes slot (EventKind.Write kind offset width value) result Reply.Done)) }
 {
     let Some(window) = window_numbered(window) else {
         return BAD_WINDOW;
