@@ -6,20 +6,21 @@ ghost use Rattle.std.specs.Fs.{asks_append, asks_create, asks_create_new, asks_r
 ghost use Rattle.trace.specs.LastLine.{AppendsFront};
 ghost use Rattle.vreplay.specs.Words.{saved_to};
 
-use crate::image::read_image;
+use crate::advice::{Advice, refuse, told};
+use crate::image::{NoImage, read_image};
 use crate::replayed::{replayed, replayed_over};
 use crate::words::{Call, Keeping};
-use sector_cache::{BackingFile, FileImage, MemoryImage};
+use sector_cache::{BackingFile, FileImage, FileImageFault, MemoryImage};
 use std::alloc::Allocator;
 use std::fs;
 use std::fs::OpenOptions;
 use std::io::Write;
 use std::rt::Files;
-use trace::{ReplayFault, write_whole};
+use trace::{ReplayFault, gather, write_whole};
 
 /// Replays the call's trace over its image. Where the call asks for it the image's bytes are then saved, or
-/// else the image is served in place. The answer is the file that was saved to.
-pub fn replay_files<A: Allocator + Copy, R: Files, W: Write>(
+/// else the image is served in place. The answer is the file that was saved to. A person is told of each fault.
+pub fn replay_files<A: Allocator + Copy, R: Eprint + Files, W: Write>(
     rt: &R,
     alloc: A,
     call: &Call<'_>,
@@ -46,18 +47,19 @@ where
 }
 
 // Replays the trace over an image that is read whole. The image's own file is only read.
-fn replay_whole<A: Allocator + Copy, R: Files, W: Write>(
+fn replay_whole<A: Allocator + Copy, R: Eprint + Files, W: Write>(
     rt: &R,
     alloc: A,
     call: &Call<'_>,
     out: &mut W,
 ) -> Result<MemoryImage<A>, ReplayFault> {
-    let image = read_image(alloc, &mut open(rt, call.image, false)?)?;
-    replayed(alloc, &mut open(rt, call.trace, false)?, out, image)
+    let image = image_in(rt, alloc, call.image)?;
+    let text = text_in(rt, alloc, call.trace)?;
+    told(rt, &text, replayed(alloc, &mut text.as_slice(), out, image))
 }
 
 // Replays the trace over the image's own file.
-fn replay_in_place<A: Allocator + Copy, R: Files, W: Write>(
+fn replay_in_place<A: Allocator + Copy, R: Eprint + Files, W: Write>(
     rt: &R,
     alloc: A,
     call: &Call<'_>,
@@ -66,15 +68,59 @@ fn replay_in_place<A: Allocator + Copy, R: Files, W: Write>(
 where
     R::File: BackingFile,
 {
-    let Ok(image) = FileImage::new(open(rt, call.image, true)?) else {
-        return Err(ReplayFault::Read);
-    };
-    replayed_over(alloc, &mut open(rt, call.trace, false)?, out, image)
+    let image = image_at(rt, call.image)?;
+    let text = text_in(rt, alloc, call.trace)?;
+    told(
+        rt,
+        &text,
+        replayed_over(alloc, &mut text.as_slice(), out, image),
+    )
+}
+
+// The image of a file's bytes.
+fn image_in<A: Allocator, R: Eprint + Files>(
+    rt: &R,
+    alloc: A,
+    path: &str,
+) -> Result<MemoryImage<A>, ReplayFault> {
+    match read_image(alloc, &mut open(rt, path, false)?) {
+        Ok(image) => Ok(image),
+        Err(NoImage::Unread) => refuse(rt, ReplayFault::Read, Advice::Unread(path)),
+        Err(NoImage::Ragged) => refuse(rt, ReplayFault::Read, Advice::Ragged(path)),
+        Err(NoImage::NoMemory) => refuse(rt, ReplayFault::NoMemory, Advice::Memory("the image")),
+    }
+}
+
+// The image that a file is.
+fn image_at<R: Eprint + Files>(rt: &R, path: &str) -> Result<FileImage<R::File>, ReplayFault>
+where
+    R::File: BackingFile,
+{
+    match FileImage::new(open(rt, path, true)?) {
+        Ok(image) => Ok(image),
+        Err(FileImageFault::Io) => refuse(rt, ReplayFault::Read, Advice::Unread(path)),
+        Err(FileImageFault::BadSize) => refuse(rt, ReplayFault::Read, Advice::Ragged(path)),
+    }
+}
+
+// The text of a file.
+fn text_in<A: Allocator, R: Eprint + Files>(
+    rt: &R,
+    alloc: A,
+    path: &str,
+) -> Result<Vec<u8, A>, ReplayFault> {
+    match gather(alloc, &mut open(rt, path, false)?) {
+        Ok(text) => Ok(text),
+        Err(fault) => refuse(rt, fault, Advice::on_reading(fault, path)),
+    }
 }
 
 // Opens a file that is there, to be read and perhaps to be written too.
-fn open<R: Files>(rt: &R, path: &str, writes: bool) -> Result<R::File, ReplayFault> {
-    access(writes).open(rt, path).or(Err(ReplayFault::Read))
+fn open<R: Eprint + Files>(rt: &R, path: &str, writes: bool) -> Result<R::File, ReplayFault> {
+    match access(writes).open(rt, path) {
+        Ok(file) => Ok(file),
+        Err(error) => refuse(rt, ReplayFault::Read, Advice::Unopened(path, error)),
+    }
 }
 
 // How a file is opened that is there: it is neither made nor cut.
@@ -90,14 +136,17 @@ fn access(writes: bool) -> OpenOptions
 }
 
 // Makes the file anew, and writes the bytes to it.
-fn save<R: Files>(rt: &R, path: &str, bytes: &[u8]) -> Result<R::File, ReplayFault>
+fn save<R: Eprint + Files>(rt: &R, path: &str, bytes: &[u8]) -> Result<R::File, ReplayFault>
     ensures { IfErr result (λ fault. fault ≡ ReplayFault.Write) }
 {
-    let Ok(mut file) = fs::create(rt, path) else {
-        return Err(ReplayFault::Write);
+    let mut file = match fs::create(rt, path) {
+        Ok(file) => file,
+        Err(error) => return refuse(rt, ReplayFault::Write, Advice::Unmade(path, error)),
     };
-    send(&mut file, bytes)?;
-    Ok(file)
+    match send(&mut file, bytes) {
+        Ok(()) => Ok(file),
+        Err(fault) => refuse(rt, fault, Advice::Unsaved(path)),
+    }
 }
 
 // Writes the bytes to the file, whole, or a front of them.

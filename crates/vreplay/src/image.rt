@@ -1,6 +1,6 @@
 //! The image that a trace is replayed over.
 
-ghost use Rattle.std.specs.Prelude.{◌≡◌, ◌%◌, ◌⊎◌, IfOk, IfErr, IfSome, OnOk, length, replicate};
+ghost use Rattle.std.specs.Prelude.{◌≡◌, ◌≢◌, ◌%◌, IfOk, IfErr, IfSome, IsErrOf, OnOk, length, replicate};
 ghost use Rattle.std.specs.Io.KnownBytes.{IsAtEnd};
 ghost use Rattle.sector_cache.specs.Disk.{new_disk};
 ghost use Rattle.sector_cache.specs.MemoryImage.{disk_of};
@@ -9,6 +9,15 @@ use sector_cache::{ImageFault, MemoryImage};
 use std::alloc::{AllocError, Allocator};
 use std::io::Read;
 use trace::{ReplayFault, gather};
+
+/// Why there is no image of what was read.
+#[derive(Clone, Copy)]
+pub enum NoImage {
+    Unread,
+    /// What was read isn't whole sectors.
+    Ragged,
+    NoMemory,
+}
 
 /// The bytes of the image of a call without words: eight sectors.
 const ZERO_BYTES: usize = 8 * 512;
@@ -38,14 +47,19 @@ fn zeros<A: Allocator>(alloc: A) -> Result<Vec<u8, A>, AllocError>
 pub fn read_image<A: Allocator, T: Read>(
     alloc: A,
     reader: &mut T,
-) -> Result<MemoryImage<A>, ReplayFault>
+) -> Result<MemoryImage<A>, NoImage>
     ensures all { IfOk result (λ image. IfSome (T.remaining reader.old) (λ bytes. disk_of image ≡ new_disk bytes)) }
     ensures whole { OnOk result (IfSome (T.remaining reader.old) (λ bytes. length bytes % 512 ≡ 0)) }
     ensures end { OnOk result (IsAtEnd (T.remaining reader.new)) }
-    ensures fault { IfErr result (λ fault. (fault ≡ ReplayFault.Read) ⊎ (fault ≡ ReplayFault.NoMemory)) }
+    ensures ragged { IsErrOf result NoImage.Ragged → IfSome (T.remaining reader.old) (λ bytes. length bytes % 512 ≢ 0) }
 {
-    match MemoryImage::new(gather(alloc, reader)?) {
+    let gathered = match gather(alloc, reader) {
+        Ok(gathered) => gathered,
+        Err(ReplayFault::NoMemory) => return Err(NoImage::NoMemory),
+        Err(_) => return Err(NoImage::Unread),
+    };
+    match MemoryImage::new(gathered) {
         Ok(image) => Ok(image),
-        Err(ImageFault::BadSize) => Err(ReplayFault::Read),
+        Err(ImageFault::BadSize) => Err(NoImage::Ragged),
     }
 }

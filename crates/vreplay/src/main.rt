@@ -6,15 +6,18 @@
 //! output, and where something was refused one last line says what. The status says it too.
 //!
 //! `words` reads what a call asks for, `image` makes the image, `replayed` replays and keeps the image,
-//! `files` does that over files, `fault` and `last_line` tell why a call did not come to its end, and `program`
-//! puts them in their order. `laws` says of the words what callers may rely on.
+//! `files` does that over files, `fault` and `last_line` tell why a call did not come to its end, `advice` and
+//! `line_table` tell a person more of it on standard error, and `program` puts them in their order. `laws` says of
+//! the words what callers may rely on.
 #![tactic(auto)]
 
+mod advice;
 mod fault;
 mod files;
 mod image;
 mod last_line;
 mod laws;
+mod line_table;
 mod program;
 mod replayed;
 mod words;

@@ -3,6 +3,7 @@
 ghost use Rattle.std.specs.Prelude.{◌≡◌, ◌<◌, ◌⊎◌, Err, length};
 ghost use Rattle.vreplay.specs.Words.{NamesNoCall, texts_of};
 
+use crate::advice::{Advice, refuse, tell, told};
 use crate::fault::Fault;
 use crate::files::replay_files;
 use crate::image::zero_image;
@@ -14,10 +15,10 @@ use std::alloc::Allocator;
 use std::io;
 use std::io::{ErrorKind, Write};
 use std::rt::Files;
-use trace::{ReplayFault, finish};
+use trace::{ReplayFault, finish, gather};
 
 /// Does what the words after the program's name ask for, and answers the status.
-pub fn program<R: Input + Print + Files + AllocGlobal>(rt: &R, words: &[String]) -> u8
+pub fn program<R: Input + Print + Eprint + Files + AllocGlobal>(rt: &R, words: &[String]) -> u8
 where
     R::File: BackingFile,
     ensures usage { 0 < length words.now → NamesNoCall (texts_of words.now) → (result ≡ 2) ⊎ (result ≡ 3) }
@@ -28,7 +29,7 @@ where
 }
 
 /// The same, with the memory for all but the words from this allocator.
-pub(crate) fn program_in<A: Allocator + Copy, R: Input + Print + Files + AllocGlobal>(
+pub(crate) fn program_in<A: Allocator + Copy, R: Input + Print + Eprint + Files + AllocGlobal>(
     rt: &R,
     alloc: A,
     words: &[String],
@@ -45,18 +46,19 @@ where
 }
 
 /// Writes the last line for words that are no text, or for which there is no memory, and answers the status.
-pub fn refuse_words<R: Print>(rt: &R, error: &io::Error) -> u8
+pub fn refuse_words<R: Print + Eprint>(rt: &R, error: &io::Error) -> u8
     ensures { result ≡ 3 }
 {
-    let fault = match error.kind() {
-        ErrorKind::OutOfMemory => ReplayFault::NoMemory,
-        _ => ReplayFault::Read,
+    let (fault, advice) = match error.kind() {
+        ErrorKind::OutOfMemory => (ReplayFault::NoMemory, Advice::Memory("the words")),
+        _ => (ReplayFault::Read, Advice::NoText),
     };
+    tell(rt, advice);
     finish(&Err(fault), &mut io::writer(rt))
 }
 
 // Does what the words ask for, all but the last line.
-fn carry_out<A: Allocator + Copy, R: Input + Files + AllocGlobal, W: Write>(
+fn carry_out<A: Allocator + Copy, R: Input + Eprint + Files + AllocGlobal, W: Write>(
     rt: &R,
     alloc: A,
     words: &[String],
@@ -71,18 +73,28 @@ where
     if words.is_empty() {
         return Ok(replay_input(rt, alloc, out)?);
     }
-    let call = read_words(rt.alloc(), words)?;
+    let call = match read_words(rt.alloc(), words) {
+        Ok(call) => call,
+        Err(fault) => return refuse(rt, fault, Advice::on_words(fault, words)),
+    };
     replay_files(rt, alloc, &call, out)?;
     Ok(())
 }
 
 // Replays standard input over an image of zeros.
-fn replay_input<A: Allocator + Copy, R: Input, W: Write>(
+fn replay_input<A: Allocator + Copy, R: Input + Eprint, W: Write>(
     rt: &R,
     alloc: A,
     out: &mut W,
 ) -> Result<(), ReplayFault> {
-    let image = zero_image(alloc)?;
-    replayed(alloc, &mut rt.reader(), out, image)?;
+    let image = match zero_image(alloc) {
+        Ok(image) => image,
+        Err(fault) => return refuse(rt, fault, Advice::Memory("the image")),
+    };
+    let text = match gather(alloc, &mut rt.reader()) {
+        Ok(text) => text,
+        Err(fault) => return refuse(rt, fault, Advice::on_reading(fault, "standard input")),
+    };
+    told(rt, &text, replayed(alloc, &mut text.as_slice(), out, image))?;
     Ok(())
 }

@@ -9,10 +9,13 @@ mod order;
 mod over_files;
 mod refused;
 mod stopped;
+mod told;
 mod word_lists;
 mod written;
 
 use std::alloc::{AllocError, Global};
+use std::fmt::Debug;
+use std::process::Abort;
 
 /// A slot of eight sectors whose guest reads a register.
 const TRACE: &[u8] = b"vreplay 1\ncache 1\nslot 80000000 1000 0 8 rw 50 19\nr 0 c 008 4\n";
@@ -22,6 +25,12 @@ const RECORDS: &[u8] = b"0 v:00000003 - 0 0\n";
 
 /// The same, where the output or the file to save to then fails.
 const UNSAVED: &[u8] = b"0 v:00000003 - 0 0\nfault output\n";
+
+/// Tells of which row something else was found than what is wanted. The one assertion with a message: a message is
+/// dear to prove.
+fn same<R: Debug, T: PartialEq + Debug>(rt: &impl Abort, row: &R, found: &T, wanted: &T) {
+    assert_eq!(rt; found, wanted, "{row:?}");
+}
 
 /// The words as the program takes them.
 fn words_of(heap: Global, words: &[&str]) -> Result<Vec<String>, AllocError> {

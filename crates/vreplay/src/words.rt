@@ -1,6 +1,6 @@
 //! What the words of the command line ask for.
 
-ghost use Rattle.std.specs.Prelude.{◌≡◌, ◌↔◌, Some, IfOk, IfErr, IfSome, IsNone, IsSome, IsTrue, codes};
+ghost use Rattle.std.specs.Prelude.{◌≡◌, ◌↔◌, None, Some, IfOk, IfErr, IfSome, IsErr, IsNone, IsSome, IsTrue, codes};
 ghost use Rattle.clap.specs.Words.{FailsBy, HasMatchesOf, fault_of, first_value, found_of, kind_of};
 ghost use Rattle.vreplay.specs.Words.{IsCall, RefusesBy, is_in_place, saved_to, texts_of, vreplay};
 
@@ -40,9 +40,8 @@ pub fn read_words<'a>(alloc: Global, words: &'a [String]) -> Result<Call<'a>, Fa
         Ok(matches) => matches,
         Err(error) => return Err(fault_for(&error)),
     };
-    let (Some(trace), Some(image)) = (matches.get_str("trace"), matches.get_str("image")) else {
-        return Err(Fault::Usage);
-    };
+    let trace = file_of(&matches, "trace")?;
+    let image = file_of(&matches, "image")?;
     let Some(keeping) = keeping_of(&matches) else {
         return Err(Fault::Usage);
     };
@@ -51,6 +50,15 @@ pub fn read_words<'a>(alloc: Global, words: &'a [String]) -> Result<Call<'a>, Fa
         image,
         keeping,
     })
+}
+
+// The file that the words name by this argument.
+fn file_of<'a>(matches: &ArgMatches<'a>, id: &str) -> Result<&'a str, Fault>
+    ensures file { IfOk result (λ file. first_value (found_of matches.now) id.now ≡ Some file.now) }
+    ensures missing { IfErr result (λ fault. fault ≡ Fault.Usage) }
+    ensures none { IsErr result → first_value (found_of matches.now) id.now ≡ None }
+{
+    matches.get_str(id).ok_or(Fault::Usage)
 }
 
 // What is to become of the image, where not both options were given.

@@ -2,15 +2,15 @@
 
 use super::disk::{Disk, Held};
 use super::machine::Machine;
-use super::{TRACE, numbered_image, words_of};
+use super::{TRACE, numbered_image, same, words_of};
 use crate::program::program_in;
 use std::alloc::Allocator;
 use std::process::Abort;
 use std::test::Fail;
 
 /// A call with these words: what is on its input, what the files `trace` and `image` hold, from which call
-/// on the files fail, how many bytes of a file served in place are read or written at once, and how many bytes the
-/// output takes.
+/// on the files fail, how many bytes of a file served in place are read or written at once, how many bytes the
+/// output takes, and whether standard error fails.
 #[derive(Clone, Copy)]
 pub struct Call<'a> {
     pub words: &'a [&'a str],
@@ -20,6 +20,7 @@ pub struct Call<'a> {
     pub fails_from: u32,
     pub most: usize,
     pub room: usize,
+    pub is_silent: bool,
 }
 
 /// What a file holds in which an image is sought.
@@ -40,13 +41,15 @@ pub const SAVING: Call<'static> = Call {
     fails_from: u32::MAX,
     most: usize::MAX,
     room: 1000,
+    is_silent: false,
 };
 
-/// What came of a call: its output, its status, and what the files then hold.
+/// What came of a call: its output, its status, what a person was told, and what the files then hold.
 #[derive(Drop)]
 pub struct Done {
     pub output: Vec<u8>,
     pub status: u8,
+    pub told: Vec<u8>,
     pub held: Held,
 }
 
@@ -61,13 +64,14 @@ pub fn made<A: Allocator + Copy>(
         Image::Ragged => vec![in rt.alloc(); 0; 513]?,
     };
     let disk = Disk::new(rt.alloc(), call.trace, &image, call.fails_from, call.most)?;
-    let machine = Machine::new(rt.alloc(), call.input, call.room, &disk);
+    let machine = Machine::new(rt.alloc(), call.input, call.room, call.is_silent, &disk);
     let words = words_of(rt.alloc(), call.words)?;
     let status = program_in(&machine, heap, words.as_slice());
-    let output = machine.into_output();
+    let (output, told) = machine.into_outputs();
     Ok(Done {
         output,
         status,
+        told,
         held: disk.into_held(),
     })
 }
@@ -81,12 +85,14 @@ pub fn expect_end(
     call: Call<'_>,
     end: End<'_>,
 ) -> Result<(), Fail> {
-    let words = call.words;
-    let (output, status, calls) = end;
     let done = made(rt, rt.alloc(), call)?;
-    assert_eq!(rt; done.output.as_slice(), output, "{words:?}");
-    assert_eq!(rt; done.status, status, "{words:?}");
-    assert_eq!(rt; done.held.calls, calls, "{words:?}");
-    assert_eq!(rt; done.held.saved.as_slice(), b"kept".as_slice(), "{words:?}");
+    let found = (done.output.as_slice(), done.status, done.held.calls);
+    same(rt, &call.words, &found, &end);
+    same(
+        rt,
+        &call.words,
+        &done.held.saved.as_slice(),
+        &b"kept".as_slice(),
+    );
     Ok(())
 }

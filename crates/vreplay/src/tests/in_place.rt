@@ -1,8 +1,9 @@
 //! An image that is served in place: each call of its file failing or coming short in turn.
 
 use super::calls::{Call, SAVING, made};
-use super::numbered_image;
 use super::written::{WRITING, written_image};
+use super::{numbered_image, same};
+use std::process::Abort;
 use std::test::Fail;
 
 /// From which call on the files fail and how many bytes of the image are read or written at once, with the last
@@ -28,31 +29,38 @@ const ROWS: [Row; 10] = [
 fn each_call_failing_or_short_in_turn(rt: HostRuntime) -> Result<(), Fail> {
     let before = numbered_image(rt.alloc())?;
     let after = written_image(rt.alloc())?;
-    for (fails_from, most, last, status, calls, written) in ROWS {
-        let call = Call {
-            words: &["trace", "image", "--in-place"],
-            trace: WRITING,
-            fails_from,
-            most,
-            ..SAVING
-        };
-        let done = made(&rt, rt.alloc(), call)?;
-        let found = (done.output.ends_with(last), done.status, done.held.calls);
-        assert_eq!(rt; found, (true, status, calls), "from {fails_from}, {most}");
-        let held = done.held.image.as_slice();
-        let split = 1024 + written;
-        assert!(rt; held.len() == 4096 && before.len() == 4096 && after.len() == 4096);
-        assert_eq!(rt;
-            &held[..split],
-            &after[..split],
-            "from {fails_from}, {most}"
-        );
-        assert_eq!(rt;
-            &held[split..],
-            &before[split..],
-            "from {fails_from}, {most}"
-        );
+    for row in &ROWS {
+        expect_row(&rt, &before, &after, row)?;
     }
+    Ok(())
+}
+
+fn expect_row(
+    rt: &(impl Abort + AllocGlobal),
+    before: &[u8],
+    after: &[u8],
+    row: &Row,
+) -> Result<(), Fail> {
+    let (fails_from, most, last, status, calls, written) = *row;
+    let call = Call {
+        words: &["trace", "image", "--in-place"],
+        trace: WRITING,
+        fails_from,
+        most,
+        ..SAVING
+    };
+    let done = made(rt, rt.alloc(), call)?;
+    let found = (done.output.ends_with(last), done.status, done.held.calls);
+    same(rt, row, &found, &(true, status, calls));
+    let split = written.saturating_add(1024);
+    let (front, rest) = (after.get(..split), before.get(split..));
+    let held = done.held.image.as_slice();
+    same(
+        rt,
+        row,
+        &(held.get(..split), held.get(split..)),
+        &(front, rest),
+    );
     Ok(())
 }
 

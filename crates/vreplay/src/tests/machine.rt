@@ -9,30 +9,41 @@ use std::io;
 use std::io::{BufRead, ErrorKind, Lines};
 use std::rt::Files;
 
-/// A runtime with this input and this disk, and an output that takes so many bytes and then fails.
+/// A runtime with this input and this disk, an output that takes so many bytes and then fails, and a standard error
+/// that takes each line or none.
 #[derive(Drop)]
 pub struct Machine<'a> {
     heap: Global,
     input: &'a [u8],
     room: usize,
     output: RefCell<Vec<u8>>,
+    told: RefCell<Vec<u8>>,
+    is_silent: bool,
     disk: &'a Disk,
 }
 
 impl<'a> Machine<'a> {
-    pub(super) fn new(heap: Global, input: &'a [u8], room: usize, disk: &'a Disk) -> Machine<'a> {
+    pub(super) fn new(
+        heap: Global,
+        input: &'a [u8],
+        room: usize,
+        is_silent: bool,
+        disk: &'a Disk,
+    ) -> Machine<'a> {
         Machine {
             heap,
             input,
             room,
             output: RefCell::new(Vec::new(heap)),
+            told: RefCell::new(Vec::new(heap)),
+            is_silent,
             disk,
         }
     }
 
-    /// What was written.
-    pub(super) fn into_output(self) -> Vec<u8> {
-        self.output.into_inner()
+    /// What was written, and what was written to standard error.
+    pub(super) fn into_outputs(self) -> (Vec<u8>, Vec<u8>) {
+        (self.output.into_inner(), self.told.into_inner())
     }
 }
 
@@ -78,6 +89,24 @@ impl Print for Machine<'_> {
             return Err(io::Error::from(ErrorKind::BrokenPipe));
         }
         Ok(output.extend_from_slice(bytes)?)
+    }
+}
+
+// The program tells a person whole lines.
+impl Eprint for Machine<'_> {
+    fn eprint<D: Display + Drop>(&self, _value: D) -> io::Result<()> {
+        Err(unsupported())
+    }
+
+    fn eprintln<D: Display + Drop>(&self, value: D) -> io::Result<()> {
+        if self.is_silent {
+            return Err(io::Error::from(ErrorKind::BrokenPipe));
+        }
+        let Ok(mut told) = self.told.try_borrow_mut() else {
+            return Err(io::Error::from(ErrorKind::ResourceBusy));
+        };
+        let line = format!(in self.heap; "{value}\n")?;
+        Ok(told.extend_from_slice(line.as_bytes())?)
     }
 }
 

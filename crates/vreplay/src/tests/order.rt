@@ -2,6 +2,7 @@
 
 use super::calls::{Call, End, Image, SAVING, expect_end};
 use super::{TRACE, UNSAVED};
+use std::process::Abort;
 use std::test::Fail;
 
 /// A slot whose extent ends after the ninth sector.
@@ -9,10 +10,13 @@ const WIDE: &[u8] = b"vreplay 1\ncache 1\nslot 80000000 1000 0 9 rw 50 19\nr 0 c
 
 const NO_TEXT: &[u8] = b"vreplay 1\n\xff\xfe\n";
 
-/// Words, the trace and the image, with the end: the words come before the image, the image before the
+/// Words, the trace and the image, with the end.
+type Row = (&'static [&'static str], &'static [u8], Image, End<'static>);
+
+/// The words come before the image, the image before the
 /// trace, the trace before its board, and that before the file to save to, which is not touched. Both files
 /// are opened, read and read to their end by three calls each.
-const ENDS: [(&[&str], &[u8], Image, End<'static>); 18] = [
+const ENDS: [Row; 18] = [
     (
         &["trace", "none", "--save"],
         TRACE,
@@ -124,14 +128,19 @@ const UNOPENED: &[&str] = &["trace", "image", "--save", "none"];
 
 #[test]
 fn the_first_fault_is_told(rt: HostRuntime) -> Result<(), Fail> {
-    for (words, trace, image, end) in ENDS {
-        let call = Call {
-            words,
-            trace,
-            image,
-            ..SAVING
-        };
-        expect_end(&rt, call, end)?;
+    for row in &ENDS {
+        expect_row(&rt, row)?;
     }
     Ok(())
+}
+
+fn expect_row(rt: &(impl Abort + AllocGlobal), row: &Row) -> Result<(), Fail> {
+    let (words, trace, image, end) = *row;
+    let call = Call {
+        words,
+        trace,
+        image,
+        ..SAVING
+    };
+    expect_end(rt, call, end)
 }

@@ -2,7 +2,7 @@
 
 use super::in_place::{LAST_RECORDS, LAST_SECTOR};
 use super::written::{WRITING, WRITTEN, written_image};
-use super::{RECORDS, TRACE, UNSAVED, numbered_image};
+use super::{RECORDS, TRACE, UNSAVED, numbered_image, same};
 use crate::fault::Fault;
 use crate::files::replay_files;
 use crate::last_line::end;
@@ -65,7 +65,7 @@ fn make_files(
 type Names<'a> = (&'a str, &'a str, Keeping<'a>);
 
 /// A call with these files writes this and has this status.
-fn expect_end<R: Abort + AllocGlobal + Files>(
+fn expect_end<R: Abort + AllocGlobal + Eprint + Files>(
     rt: &R,
     folder: &str,
     names: Names<'_>,
@@ -94,8 +94,8 @@ where
         Ok(_) => Ok(()),
         Err(fault) => Err(Fault::from(fault)),
     };
-    assert_eq!(rt; end(&outcome, &mut written), status, "{names:?}");
-    assert_eq!(rt; written.as_slice(), output, "{names:?}");
+    let found = end(&outcome, &mut written);
+    same(rt, &names, &(written.as_slice(), found), &(output, status));
     Ok(())
 }
 
@@ -107,7 +107,7 @@ fn expect_held(
     bytes: &[u8],
 ) -> Result<(), Fail> {
     let held = fs::read(rt, &path_of(rt, folder, name)?)?;
-    assert_eq!(rt; held.as_slice(), bytes, "{name}");
+    same(rt, &name, &held.as_slice(), &bytes);
     Ok(())
 }
 
@@ -119,8 +119,11 @@ const IN_PLACE: Keeping<'static> = Keeping::InPlace;
 
 const INPUT: &[u8] = b"fault input\n";
 
-/// Files that save nothing, with the end: `.` is the folder, and no file is called `missing`.
-const ENDS: [(Names<'static>, &[u8], u8); 19] = [
+/// Files that save nothing, with the end.
+type Row = (Names<'static>, &'static [u8], u8);
+
+/// `.` is the folder, and no file is called `missing`.
+const ENDS: [Row; 19] = [
     (("trace", "image", PLAIN), RECORDS, 0),
     (("trace", "empty", PLAIN), b"fault board ExtentOutside\n", 1),
     (("trace", "ragged", SAVED), INPUT, 3),
@@ -156,12 +159,26 @@ fn ends_that_save_nothing(rt: HostRuntime) -> Result<(), Fail> {
     let folder = new_folder(&rt)?;
     let image = numbered_image(rt.alloc())?;
     make_files(&rt, &folder, TRACE, &image)?;
-    for (names, output, status) in ENDS {
-        expect_end(&rt, &folder, names, output, status)?;
-        expect_held(&rt, &folder, "saved", b"kept")?;
-        expect_held(&rt, &folder, "image", &image)?;
+    for row in &ENDS {
+        expect_nothing_saved(&rt, &folder, &image, row)?;
     }
     Ok(fs::remove_dir_all(&rt, &folder)?)
+}
+
+/// The call ends so, and the image and the file to save to are as they were.
+fn expect_nothing_saved<R: Abort + AllocGlobal + Eprint + Files>(
+    rt: &R,
+    folder: &str,
+    image: &[u8],
+    row: &Row,
+) -> Result<(), Fail>
+where
+    R::File: BackingFile,
+{
+    let (names, output, status) = *row;
+    expect_end(rt, folder, names, output, status)?;
+    expect_held(rt, folder, "saved", b"kept")?;
+    expect_held(rt, folder, "image", image)
 }
 
 /// A file is made, one that was longer is made anew, and the image's own is.
@@ -170,17 +187,26 @@ fn an_image_that_no_guest_wrote_is_saved_as_it_was(rt: HostRuntime) -> Result<()
     let folder = new_folder(&rt)?;
     let image = numbered_image(rt.alloc())?;
     make_files(&rt, &folder, TRACE, &image)?;
-    for name in ["made", "longer", "image"] {
-        expect_end(
-            &rt,
-            &folder,
-            ("trace", "image", Keeping::Saved(name)),
-            RECORDS,
-            0,
-        )?;
-        expect_held(&rt, &folder, name, &image)?;
+    for name in &["made", "longer", "image"] {
+        expect_saved(&rt, &folder, name, RECORDS, &image)?;
     }
     Ok(fs::remove_dir_all(&rt, &folder)?)
+}
+
+/// The call saves these bytes.
+fn expect_saved<R: Abort + AllocGlobal + Eprint + Files>(
+    rt: &R,
+    folder: &str,
+    name: &str,
+    records: &[u8],
+    image: &[u8],
+) -> Result<(), Fail>
+where
+    R::File: BackingFile,
+{
+    let names = ("trace", "image", Keeping::Saved(name));
+    expect_end(rt, folder, names, records, 0)?;
+    expect_held(rt, folder, name, image)
 }
 
 /// What a guest wrote stands in the file that is saved to, and in the image's own only where that is the
@@ -191,23 +217,9 @@ fn a_sector_that_a_guest_wrote_is_saved(rt: HostRuntime) -> Result<(), Fail> {
     let image = numbered_image(rt.alloc())?;
     let after = written_image(rt.alloc())?;
     make_files(&rt, &folder, WRITING, &image)?;
-    expect_end(
-        &rt,
-        &folder,
-        ("trace", "image", Keeping::Saved("made")),
-        WRITTEN,
-        0,
-    )?;
-    expect_held(&rt, &folder, "made", &after)?;
+    expect_saved(&rt, &folder, "made", WRITTEN, &after)?;
     expect_held(&rt, &folder, "image", &image)?;
-    expect_end(
-        &rt,
-        &folder,
-        ("trace", "image", Keeping::Saved("image")),
-        WRITTEN,
-        0,
-    )?;
-    expect_held(&rt, &folder, "image", &after)?;
+    expect_saved(&rt, &folder, "image", WRITTEN, &after)?;
     Ok(fs::remove_dir_all(&rt, &folder)?)
 }
 

@@ -1,7 +1,7 @@
 //! Each request for memory refused in turn.
 
 use super::calls::{Call, SAVING, made};
-use super::{RECORDS, TRACE, numbered_image};
+use super::{RECORDS, TRACE, numbered_image, same};
 use refusing::RefusingHeap;
 use std::process::Abort;
 use std::test::Fail;
@@ -18,19 +18,15 @@ fn each_refusal_is_told(
         heap.refuse_from(n);
         let done = made(rt, &heap, call)?;
         if !heap.has_refused() {
-            assert_eq!(rt; done.output.as_slice(), RECORDS);
-            assert_eq!(rt; done.status, 0);
-            assert_eq!(rt; done.held.saved.as_slice(), saved);
-            assert!(rt; n > 4, "how often memory is asked for");
+            let found = (done.output.as_slice(), done.status, n > 4);
+            same(rt, &n, &found, &(RECORDS, 0, true));
+            same(rt, &n, &done.held.saved.as_slice(), &saved);
             return Ok(());
         }
-        assert_eq!(rt;
-            done.output.as_slice(),
-            b"fault memory\n".as_slice(),
-            "at request {n}"
-        );
-        assert_eq!(rt; done.status, 3);
-        assert_eq!(rt; done.held.saved.as_slice(), b"kept".as_slice());
+        let is_told = done.told.starts_with(b"no memory for the ");
+        let found = (done.output.as_slice(), done.status, is_told);
+        same(rt, &n, &found, &(b"fault memory\n".as_slice(), 3, true));
+        same(rt, &n, &done.held.saved.as_slice(), &b"kept".as_slice());
     }
     panic!(rt; "memory was never ample")
 }

@@ -1,7 +1,8 @@
 //! Each call of the files failing in turn, and an output that fails.
 
 use super::calls::{Call, SAVING, expect_end, made};
-use super::{RECORDS, UNSAVED, numbered_image};
+use super::{RECORDS, UNSAVED, numbered_image, same};
+use std::process::Abort;
 use std::test::Fail;
 
 /// What the calls are, in their order: open, read and end of the image, the same of the trace, and then
@@ -10,7 +11,9 @@ const CALLS: u32 = 9;
 
 /// From which call on the files fail, with what is written, the status, and how many bytes of the image the
 /// file to save to then holds; it holds the text `kept` where it wasn't opened.
-const STOPS: [(u32, &[u8], u8, Option<usize>); 10] = [
+type Stop = (u32, &'static [u8], u8, Option<usize>);
+
+const STOPS: [Stop; 10] = [
     (0, b"fault input\n", 3, None),
     (1, b"fault input\n", 3, None),
     (2, b"fault input\n", 3, None),
@@ -27,22 +30,28 @@ const STOPS: [(u32, &[u8], u8, Option<usize>); 10] = [
 #[test]
 fn each_call_failing_in_turn(rt: HostRuntime) -> Result<(), Fail> {
     let image = numbered_image(rt.alloc())?;
-    for (fails_from, output, status, saved) in STOPS {
-        let call = Call {
-            fails_from,
-            ..SAVING
-        };
-        let done = made(&rt, rt.alloc(), call)?;
-        assert_eq!(rt; done.output.as_slice(), output, "from {fails_from}");
-        assert_eq!(rt; done.status, status, "from {fails_from}");
-        assert_eq!(rt; done.held.calls, CALLS.min(fails_from.saturating_add(1)));
-        assert_eq!(rt; done.held.image.as_slice(), image.as_slice());
-        let held = match saved {
-            Some(n) => &image[..n.min(image.len())],
-            None => b"kept".as_slice(),
-        };
-        assert_eq!(rt; done.held.saved.as_slice(), held, "from {fails_from}");
+    for stop in &STOPS {
+        expect_stop(&rt, &image, stop)?;
     }
+    Ok(())
+}
+
+fn expect_stop(rt: &(impl Abort + AllocGlobal), image: &[u8], stop: &Stop) -> Result<(), Fail> {
+    let (fails_from, output, status, saved) = *stop;
+    let call = Call {
+        fails_from,
+        ..SAVING
+    };
+    let done = made(rt, rt.alloc(), call)?;
+    let calls = CALLS.min(fails_from.saturating_add(1));
+    let found = (done.output.as_slice(), done.status, done.held.calls);
+    same(rt, &fails_from, &found, &(output, status, calls));
+    let held = match saved {
+        Some(n) => &image[..n.min(image.len())],
+        None => b"kept".as_slice(),
+    };
+    let found = (done.held.image.as_slice(), done.held.saved.as_slice());
+    same(rt, &fails_from, &found, &(image, held));
     Ok(())
 }
 

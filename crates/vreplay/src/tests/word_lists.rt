@@ -1,9 +1,10 @@
 //! Lists of words: which call each names, and which are refused.
 
 use super::calls::{Call as Run, SAVING, expect_end};
-use super::{TRACE, words_of};
+use super::{TRACE, same, words_of};
 use crate::fault::Fault;
 use crate::words::{Call, Keeping, read_words};
+use std::process::Abort;
 use std::test::Fail;
 
 const PLAIN: Keeping<'static> = Keeping::Unchanged;
@@ -12,8 +13,16 @@ const SAVED: Keeping<'static> = Keeping::Saved("f");
 
 const IN_PLACE: Keeping<'static> = Keeping::InPlace;
 
-/// Words that name a trace and an image in every order, each with what is to become of the image.
-const CALLS: [(&[&str], &str, &str, Keeping<'static>); 27] = [
+/// Words that name a trace and an image, with both and with what is to become of the image.
+type Row = (
+    &'static [&'static str],
+    &'static str,
+    &'static str,
+    Keeping<'static>,
+);
+
+/// Every order.
+const CALLS: [Row; 27] = [
     (&["t", "i"], "t", "i", PLAIN),
     (&["--", "t", "i"], "t", "i", PLAIN),
     (&["t", "--", "i"], "t", "i", PLAIN),
@@ -65,16 +74,35 @@ const CALLS: [(&[&str], &str, &str, Keeping<'static>); 27] = [
 
 #[test]
 fn words_that_name_a_call(rt: HostRuntime) -> Result<(), Fail> {
-    for (words, trace, image, keeping) in CALLS {
-        let list = words_of(rt.alloc(), words)?;
-        let call = Call {
-            trace,
-            image,
-            keeping,
-        };
-        let found = read_words(rt.alloc(), list.as_slice());
-        assert_eq!(rt; found, Ok(call), "{words:?}");
+    for row in &CALLS {
+        expect_call(&rt, row)?;
     }
+    Ok(())
+}
+
+fn expect_call(rt: &(impl Abort + AllocGlobal), row: &Row) -> Result<(), Fail> {
+    let (words, trace, image, keeping) = *row;
+    let call = Call {
+        trace,
+        image,
+        keeping,
+    };
+    expect_read(rt, words, Ok(call))
+}
+
+/// The words are read so.
+fn expect_read(
+    rt: &(impl Abort + AllocGlobal),
+    words: &[&str],
+    wanted: Result<Call<'static>, Fault>,
+) -> Result<(), Fail> {
+    let list = words_of(rt.alloc(), words)?;
+    same(
+        rt,
+        &words,
+        &read_words(rt.alloc(), list.as_slice()),
+        &wanted,
+    );
     Ok(())
 }
 
@@ -136,17 +164,17 @@ const REFUSED: [&[&str]; 51] = [
 
 #[test]
 fn words_that_name_no_call(rt: HostRuntime) -> Result<(), Fail> {
-    for words in REFUSED {
-        let list = words_of(rt.alloc(), words)?;
-        let found = read_words(rt.alloc(), list.as_slice());
-        assert_eq!(rt; found, Err(Fault::Usage), "{words:?}");
+    for words in &REFUSED {
+        expect_read(&rt, words, Err(Fault::Usage))?;
     }
     Ok(())
 }
 
-/// Words that are refused and a room for the output, with what is written and the status: the last line is
-/// the program's own.
-const LINES: [(&[&str], usize, &[u8], u8); 15] = [
+/// Words that are refused and a room for the output, with what is written and the status.
+type Line = (&'static [&'static str], usize, &'static [u8], u8);
+
+/// The last line is the program's own.
+const LINES: [Line; 15] = [
     (&["--help"], 1000, b"fault usage\n", 2),
     (&["--help"], 11, b"", 3),
     (&["--help"], 0, b"", 3),
@@ -167,14 +195,19 @@ const LINES: [(&[&str], usize, &[u8], u8); 15] = [
 /// Nothing is read where the words are refused.
 #[test]
 fn refused_words_have_one_line(rt: HostRuntime) -> Result<(), Fail> {
-    for (words, room, output, status) in LINES {
-        let run = Run {
-            words,
-            input: TRACE,
-            room,
-            ..SAVING
-        };
-        expect_end(&rt, run, (output, status, 0))?;
+    for row in &LINES {
+        expect_line(&rt, row)?;
     }
     Ok(())
+}
+
+fn expect_line(rt: &(impl Abort + AllocGlobal), row: &Line) -> Result<(), Fail> {
+    let (words, room, output, status) = *row;
+    let run = Run {
+        words,
+        input: TRACE,
+        room,
+        ..SAVING
+    };
+    expect_end(rt, run, (output, status, 0))
 }

@@ -1,8 +1,9 @@
 //! A guest writes a sector, and what is saved.
 
 use super::calls::{Call, SAVING, made};
-use super::numbered_image;
+use super::{numbered_image, same};
 use std::alloc::{AllocError, Global};
+use std::process::Abort;
 use std::test::Fail;
 
 /// A driver sets a split queue of four up and writes sector 2 from its memory: a header of 16 bytes, 512 bytes
@@ -93,13 +94,27 @@ fn what_a_guest_wrote_is_saved(rt: HostRuntime) -> Result<(), Fail> {
         trace: WRITING,
         ..SAVING
     };
-    let done = made(&rt, rt.alloc(), call)?;
-    assert_eq!(rt; done.output.as_slice(), WRITTEN);
-    assert_eq!(rt; done.status, 0);
     let before = numbered_image(rt.alloc())?;
     let after = written_image(rt.alloc())?;
-    assert_eq!(rt; done.held.saved.as_slice(), after.as_slice());
-    assert_eq!(rt; done.held.image.as_slice(), before.as_slice());
+    expect_left(&rt, call, WRITTEN, (&after, &before))
+}
+
+/// The call succeeds with these records, and this then stands in `saved` and in the image.
+fn expect_left(
+    rt: &(impl Abort + AllocGlobal),
+    call: Call<'_>,
+    records: &[u8],
+    files: (&[u8], &[u8]),
+) -> Result<(), Fail> {
+    let done = made(rt, rt.alloc(), call)?;
+    let found = (done.held.saved.as_slice(), done.held.image.as_slice());
+    same(
+        rt,
+        &call.words,
+        &(done.output.as_slice(), done.status),
+        &(records, 0),
+    );
+    same(rt, &call.words, &found, &files);
     Ok(())
 }
 
@@ -111,13 +126,8 @@ fn the_image_itself_is_saved_to(rt: HostRuntime) -> Result<(), Fail> {
         trace: WRITING,
         ..SAVING
     };
-    let done = made(&rt, rt.alloc(), call)?;
-    assert_eq!(rt; done.output.as_slice(), WRITTEN);
-    assert_eq!(rt; done.status, 0);
     let after = written_image(rt.alloc())?;
-    assert_eq!(rt; done.held.image.as_slice(), after.as_slice());
-    assert_eq!(rt; done.held.saved.as_slice(), b"kept".as_slice());
-    Ok(())
+    expect_left(&rt, call, WRITTEN, (b"kept", &after))
 }
 
 /// A driver sets a split queue of four up and reads sector 0 into its memory: a header of 16 zero bytes, room for
@@ -192,10 +202,6 @@ fn an_image_that_was_read_is_saved(rt: HostRuntime) -> Result<(), Fail> {
         trace: READING,
         ..SAVING
     };
-    let done = made(&rt, rt.alloc(), call)?;
-    assert_eq!(rt; done.output.as_slice(), READ);
-    assert_eq!(rt; done.status, 0);
     let before = numbered_image(rt.alloc())?;
-    assert_eq!(rt; done.held.saved.as_slice(), before.as_slice());
-    Ok(())
+    expect_left(&rt, call, READ, (&before, &before))
 }

@@ -1,0 +1,233 @@
+//! What a person is told on standard error where a call doesn't come to its end: what was wanted and what was found.
+
+ghost use Rattle.std.specs.Prelude.{◌≡◌, Err};
+
+use crate::fault::Fault;
+use crate::line_table::{Shape, field_at_fault, line_of, row_of};
+use board::BoardFault;
+use guest_memory::MemoryFault;
+use sector_cache::CacheFault;
+use std::fmt::{Display, Formatter};
+use std::{fmt, io};
+use trace::{FaultKind, ReplayFault, TraceFault};
+
+/// One line for a person.
+#[derive(Clone, Copy)]
+pub enum Advice<'a> {
+    /// Words that name no call.
+    Words(&'a [String]),
+    /// A word that isn't text.
+    NoText,
+    /// A file that can't be opened.
+    Unopened(&'a str, io::Error),
+    /// Something that can't be read to its end.
+    Unread(&'a str),
+    /// A file of which the length is none of an image.
+    Ragged(&'a str),
+    /// A file that can't be saved to, because it can't be made, or written whole.
+    Unmade(&'a str, io::Error),
+    Unsaved(&'a str),
+    /// Standard output that can't be written.
+    Output,
+    /// A line of a trace that is refused, and its text.
+    Line(TraceFault, &'a [u8]),
+    Board(BoardFault),
+    /// Want of memory, and what it was wanted for.
+    Memory(&'static str),
+}
+
+/// Tells a person. Nothing depends on whether standard error can be written.
+pub fn tell<R: Eprint>(rt: &R, advice: Advice<'_>) {
+    let _ = rt.eprintln(advice);
+}
+
+/// Tells a person, and answers the fault.
+pub fn refuse<T, F, R: Eprint>(rt: &R, fault: F, advice: Advice<'_>) -> Result<T, F>
+    ensures { result ≡ Err fault }
+{
+    tell(rt, advice);
+    Err(fault)
+}
+
+/// Tells a person why this text's replay did not come to its end, where it didn't.
+pub fn told<T, R: Eprint>(
+    rt: &R,
+    text: &[u8],
+    outcome: Result<T, ReplayFault>,
+) -> Result<T, ReplayFault>
+    ensures { result ≡ outcome }
+{
+    if let Err(fault) = &outcome {
+        tell(rt, Advice::on_replay(*fault, text));
+    }
+    outcome
+}
+
+impl<'a> Advice<'a> {
+    /// On a replay of this text.
+    pub fn on_replay(fault: ReplayFault, text: &'a [u8]) -> Advice<'a> {
+        match fault {
+            ReplayFault::Read => Advice::Unread("the trace"),
+            ReplayFault::Trace(fault) => match fault.kind {
+                FaultKind::NoMemory => Advice::Memory("the trace"),
+                _ => Advice::Line(fault, line_of(text, fault.line)),
+            },
+            ReplayFault::Board(
+                BoardFault::NoMemory
+                | BoardFault::Memory(MemoryFault::NoMemory)
+                | BoardFault::Cache(CacheFault::NoMemory),
+            ) => Advice::Memory("the board"),
+            ReplayFault::Board(fault) => Advice::Board(fault),
+            ReplayFault::Run(_) | ReplayFault::NoMemory => Advice::Memory("the records"),
+            ReplayFault::Write => Advice::Output,
+        }
+    }
+
+    /// On words for which there is no call.
+    pub fn on_words(fault: Fault, words: &'a [String]) -> Advice<'a> {
+        match fault {
+            Fault::Usage => Advice::Words(words),
+            Fault::Replay(_) => Advice::Memory("the words"),
+        }
+    }
+
+    /// On bytes that were to be read, of which there is a name for people.
+    pub fn on_reading(fault: ReplayFault, name: &'a str) -> Advice<'a> {
+        match fault {
+            ReplayFault::NoMemory => Advice::Memory("the trace"),
+            _ => Advice::Unread(name),
+        }
+    }
+}
+
+impl Display for Advice<'_> {
+    fn fmt<W: fmt::Write>(&self, f: &mut Formatter<W>) -> fmt::Result {
+        match self {
+            Advice::Words(words) => write_words(f, words),
+            Advice::NoText => write!(f, "a word is text in UTF-8; found one that isn't"),
+            Advice::Unopened(name, error) => write!(f, "{name:?} can't be opened: {error}"),
+            Advice::Unread(name) => write!(f, "{name:?} can't be read"),
+            Advice::Ragged(name) => write!(
+                f,
+                "{name:?} is no image, which is whole sectors of 512 bytes each"
+            ),
+            Advice::Unmade(name, error) => write!(f, "{name:?} can't be made: {error}"),
+            Advice::Unsaved(name) => write!(f, "{name:?} can't be written whole"),
+            Advice::Output => write!(f, "standard output can't be written"),
+            Advice::Line(fault, line) => write_line(f, *fault, line),
+            Advice::Board(fault) => write!(f, "the trace's board: {fault}"),
+            Advice::Memory(what) => write!(f, "no memory for {what}"),
+        }
+    }
+}
+
+/// How many words are shown.
+const SHOWN_WORDS: usize = 8;
+
+// How a call looks, and the words that were found.
+fn write_words<W: fmt::Write>(f: &mut Formatter<W>, words: &[String]) -> fmt::Result {
+    write!(
+        f,
+        "a call is vreplay alone, or vreplay TRACE IMAGE, with --save FILE or --in-place; found"
+    )?;
+    for word in words.iter().take(SHOWN_WORDS) {
+        let shown = Shown(word.as_bytes());
+        write!(f, " {shown}")?;
+    }
+    Ok(())
+}
+
+// Why a line of a trace is refused.
+fn write_line<W: fmt::Write>(f: &mut Formatter<W>, fault: TraceFault, line: &[u8]) -> fmt::Result {
+    let number = fault.line;
+    write!(f, "line {number}: ")?;
+    match fault.kind {
+        FaultKind::Cut => write!(
+            f,
+            "each line ends with a line feed, and the first two are there"
+        )?,
+        FaultKind::Header => write!(f, "the first line is \"vreplay 1\"")?,
+        FaultKind::Word if number == 2 => write!(
+            f,
+            "the second line is the cache's, as \"cache 8\""
+        )?,
+        FaultKind::Word => write!(f, "a line begins with slot, r, w, mr, mw, in or sz")?,
+        FaultKind::Order => write!(f, "slots stand before all events")?,
+        FaultKind::Fields => write_fields(f, line)?,
+        kind => return write_field(f, kind, line),
+    }
+    let shown = Shown(line);
+    write!(f, "; found {shown}")
+}
+
+// How many fields a line has.
+fn write_fields<W: fmt::Write>(f: &mut Formatter<W>, line: &[u8]) -> fmt::Result {
+    let Some(row) = row_of(line) else {
+        return Ok(());
+    };
+    let word = row.word;
+    let count = row.shapes.len();
+    let example = row.example;
+    write!(
+        f,
+        "{word} has {count} fields after it, each after one space, as \"{example}\""
+    )
+}
+
+// How the field is spelled that is at fault, and how it was found.
+fn write_field<W: fmt::Write>(f: &mut Formatter<W>, kind: FaultKind, line: &[u8]) -> fmt::Result {
+    let Some((shape, field)) = field_at_fault(line, kind) else {
+        return write!(f, "{kind}");
+    };
+    let shown = Shown(field);
+    write!(f, "{shape}; found {shown}")
+}
+
+impl Display for Shape {
+    fn fmt<W: fmt::Write>(&self, f: &mut Formatter<W>) -> fmt::Result {
+        match self {
+            Shape::Number(name, bits) => write!(
+                f,
+                "{name} is lower case hexadecimal digits without zeros in front, of {bits} bits at most, as 1f"
+            ),
+            Shape::Offset => write!(
+                f,
+                "a register offset is three lower case hexadecimal digits, as 070"
+            ),
+            Shape::Value => write!(
+                f,
+                "a value is two lower case hexadecimal digits for each byte of its width, as 0000000f of width 4"
+            ),
+            Shape::Window => write!(f, "a window is b or c"),
+            Shape::Width => write!(f, "a width is 1, 2 or 4"),
+            Shape::Mode => write!(f, "a slot is rw or ro"),
+            Shape::Bytes => write!(
+                f,
+                "bytes are two lower case hexadecimal digits each, as 4142, or - for none"
+            ),
+        }
+    }
+}
+
+/// How many bytes of what was found are shown.
+const SHOWN_BYTES: usize = 40;
+
+/// Bytes in quotes, at most so many of them, those that aren't printable in hexadecimal.
+#[derive(Clone, Copy)]
+struct Shown<'a>(&'a [u8]);
+
+impl Display for Shown<'_> {
+    fn fmt<W: fmt::Write>(&self, f: &mut Formatter<W>) -> fmt::Result {
+        write!(f, "\"")?;
+        for byte in self.0.iter().take(SHOWN_BYTES) {
+            let byte = *byte;
+            match byte {
+                b'"' | b'\\' => write!(f, "\\{}", char::from(byte))?,
+                b' '..=b'~' => write!(f, "{}", char::from(byte))?,
+                _ => write!(f, "\\x{byte:02x}")?,
+            }
+        }
+        let cut = if self.0.len() > SHOWN_BYTES { ".." } else { "" };
+        write!(f, "\"{cut}")
+    }
+}
