@@ -3,12 +3,18 @@
 //! What a test compares stands in tables of plain values, a row for each case.
 
 mod disturbed;
+mod each_growth_of_calls;
+mod each_growth_of_replays;
+mod each_growth_refused;
+mod each_image_call_refused;
 mod faults;
 mod last_lines;
 mod printed;
 mod refused;
+mod refused_chain;
 mod replayed;
 mod spellings;
+mod two_guests;
 
 use crate::{FaultKind, TraceFault, is_printable, print_trace, read_trace};
 use std::process::Abort;

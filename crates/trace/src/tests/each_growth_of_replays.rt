@@ -1,0 +1,164 @@
+//! Each request for memory of a whole replay refused in turn, alone and with all that come after it.
+
+use super::two_guests::{Piecewise, RECORDS, Request, TRACE, eight_sectors, refuse};
+use crate::{FaultKind, ReplayFault, TraceFault, replay};
+use board::{BoardFault, MemoryImage};
+use refusing::RefusingHeap;
+use std::process::Abort;
+use std::test::Fail;
+
+/// What a replay came to.
+#[derive(Drop)]
+struct Replayed {
+    outcome: Result<(), ReplayFault>,
+    written: Vec<u8>,
+    image: Vec<u8>,
+    has_refused: bool,
+}
+
+/// Replays what both guests do.
+fn replay_guests(
+    rt: &impl AllocGlobal,
+    heap: &RefusingHeap,
+    request: Request,
+) -> Result<Replayed, Fail> {
+    let image = MemoryImage::new(eight_sectors(rt.alloc())?)?;
+    let mut reader = Piecewise::new(TRACE.as_bytes());
+    let mut written = Vec::new(rt.alloc());
+    refuse(heap, request);
+    let (image, outcome) = replay(heap, &mut reader, &mut written, image);
+    let has_refused = heap.has_refused();
+    heap.refuse_from(0);
+    Ok(Replayed {
+        outcome,
+        written,
+        image: image.into_bytes(),
+        has_refused,
+    })
+}
+
+/// What was asked for where a request was refused, in the order in which a replay asks.
+#[derive(Clone, Copy, Debug, PartialEq, PartialOrd)]
+enum Place {
+    Input,
+    Line,
+    Board,
+    Text,
+    Run,
+}
+
+/// The place that is answered.
+fn place_of(outcome: Result<(), ReplayFault>) -> Option<Place> {
+    match outcome {
+        Err(
+            ReplayFault::Trace(
+                TraceFault {
+                    line,
+                    kind: FaultKind::NoMemory,
+                },
+            ),
+        ) => { Some(if line == 1 { Place::Input } else { Place::Line }) }
+        Err(ReplayFault::Board(BoardFault::NoMemory)) => Some(Place::Board),
+        Err(ReplayFault::NoMemory) => Some(Place::Text),
+        Err(ReplayFault::Run(_)) | Ok(()) => Some(Place::Run),
+        Err(_) => None,
+    }
+}
+
+/// Whether a line is that of ample memory, or says that there was none for its slot.
+fn fits(line: &[u8], ample: &[u8]) -> bool {
+    let lacks = line.starts_with(b"0 nomem ") || line.starts_with(b"1 nomem ");
+    line == ample || (lacks && line.first() == ample.first())
+}
+
+/// How many records were written, where each of them fits.
+fn count_of(written: &[u8], ample: &[u8]) -> Option<usize> {
+    let mut count = 0usize;
+    let mut whole = ample.split_inclusive(|byte| *byte == b'\n');
+    for line in written.split_inclusive(|byte| *byte == b'\n') {
+        if !fits(line, whole.next()?) {
+            return None;
+        }
+        count = count.saturating_add(1);
+    }
+    Some(count)
+}
+
+/// How many events both guests have.
+const EVENTS: usize = 126;
+
+/// The place that is answered, where what stands is what it says: after all records the image of ample memory, after
+/// some so many records, and else nothing written and the image as it was.
+fn place_told(found: &Replayed, ample: &Replayed, untouched: &[u8]) -> Option<Place> {
+    let records = count_of(&found.written, &ample.written)?;
+    let stands = match found.outcome {
+        Ok(()) => records == EVENTS && found.image == ample.image,
+        Err(ReplayFault::Run(done)) => records == done && done < EVENTS,
+        Err(_) => records == 0 && found.image.as_slice() == untouched,
+    };
+    if stands {
+        place_of(found.outcome)
+    } else {
+        None
+    }
+}
+
+/// The places that are answered as each request is refused in turn, alone or with all that come after it, until a
+/// replay meets none.
+fn places(rt: &(impl Abort + AllocGlobal), lasts: bool) -> Result<Vec<Place>, Fail> {
+    let heap = RefusingHeap::new(rt.alloc());
+    let untouched = eight_sectors(rt.alloc())?;
+    let ample = replay_guests(rt, &heap, Request::None)?;
+    assert!(rt; ample.written.ends_with(RECORDS.as_bytes()));
+    let mut places = Vec::new(rt.alloc());
+    for n in 1..1000 {
+        let request = if lasts {
+            Request::From(n)
+        } else {
+            Request::Only(n)
+        };
+        let found = replay_guests(rt, &heap, request)?;
+        if !found.has_refused {
+            assert!(rt; found.written == ample.written);
+            return Ok(places);
+        }
+        match place_told(&found, &ample, &untouched) {
+            Some(place) => places.push(place)?,
+            None => panic!(rt; "{:?} where {request:?} is refused", found.outcome),
+        }
+    }
+    panic!(rt; "memory was never ample")
+}
+
+/// How often a place is answered.
+fn times(places: &[Place], place: Place) -> usize {
+    places.iter().filter(|found| **found == place).count()
+}
+
+/// The places are answered in their order: four times the input, 38 times a line, the board, once the text, and then
+/// the room for a record or its bytes.
+fn check_places(rt: &(impl Abort + AllocGlobal), lasts: bool) -> Result<(), Fail> {
+    let places = places(rt, lasts)?;
+    assert!(rt;
+        places
+            .iter()
+            .zip(places.iter().skip(1))
+            .all(|(one, next)| one <= next)
+    );
+    assert_eq!(rt; times(&places, Place::Input), 4);
+    assert_eq!(rt; times(&places, Place::Line), 38);
+    assert!(rt; times(&places, Place::Board) > 13);
+    assert_eq!(rt; times(&places, Place::Text), 1);
+    assert!(rt; times(&places, Place::Run) > 34);
+    Ok(())
+}
+
+#[test]
+fn one_request_is_refused(rt: HostRuntime) -> Result<(), Fail> {
+    check_places(&rt, false)
+}
+
+#[test]
+fn all_requests_from_one_on_are_refused(rt: HostRuntime) -> Result<(), Fail> {
+    check_places(&rt, true)
+}
