@@ -225,14 +225,14 @@ shown slots disk outputs = record { slots = slots; image = bytes_of disk; mark =
 abbrev session : List BoardSlot → List ℕ → Bool → List (List ℕ) → SessionState
 session slots image mark outputs = record { slots = slots; image = image; mark = mark; outputs = outputs }
 
-others_output : (outputs : List (List ℕ)) (h : ℕ) (new : List ℕ) → KeepsOtherOutputs h outputs (slice_set outputs h new)
+pub others_output : (outputs : List (List ℕ)) (h : ℕ) (new : List ℕ) → KeepsOtherOutputs h outputs (slice_set outputs h new)
 others_output [] h new other differ = refl
 others_output (o ∷ outputs) zero new zero differ = absurd (differ refl)
 others_output (o ∷ outputs) zero new (suc other) differ = refl
 others_output (o ∷ outputs) (suc h) new zero differ = refl
 others_output (o ∷ outputs) (suc h) new (suc other) differ = others_output outputs h new other (λ same. differ (ap suc same))
 
-set_there : (outputs : List (List ℕ)) (h : ℕ) (new : List ℕ) → h < length outputs → unwrap_or (slice_get (slice_set outputs h new) h) [] ≡ new
+pub set_there : (outputs : List (List ℕ)) (h : ℕ) (new : List ℕ) → h < length outputs → unwrap_or (slice_get (slice_set outputs h new) h) [] ≡ new
 set_there outputs h new fits =
     let fits' : h < length (slice_set outputs h new) = omega (arith, length-set outputs h new) in
     rw (unwrap_or-slice_get (slice_set outputs h new) h []) (get_or-set_same outputs h new [] fits)

@@ -2,3 +2,4 @@ pub use Rattle.board.specs.World
 pub mod Session
 pub mod Answering
 pub mod Refusing
+pub mod Course

@@ -6,11 +6,16 @@
 #![tactic(auto)]
 
 mod fault;
+mod laws;
 mod outlet;
 mod refusal;
 mod session;
 
 pub use board::{BoardFault, CacheFault, DeviceKind, Extent, GuestMemory, MemoryFault, SlotSpec};
 pub use fault::SessionFault;
+pub use laws::each_guest_is_alone;
 pub use refusal::Refusal;
 pub use session::Session;
+
+#[cfg(test)]
+mod tests;

@@ -4,6 +4,7 @@ ghost use Rattle.std.specs.Prelude.{◌≡◌, ◌≢◌, ◌<◌, ◌↔◌, le
 ghost use Rattle.board.specs.declared.event.EventKind.{EventKind};
 ghost use Rattle.embed.specs.declared.refusal.Refusal.{Refusal};
 ghost use Rattle.embed.specs.Answering.{done_reply, took_reply};
+ghost use Rattle.embed.specs.Course.{IsTaken};
 ghost use Rattle.embed.specs.Session.{IsStep, output_of};
 
 use crate::refusal::Refusal;
@@ -11,9 +12,13 @@ use crate::session::Session;
 use board::{Bytes, Event, EventKind, Reply};
 use std::alloc::Allocator;
 
+/// How many bytes of input a console keeps until its guest reads them.
+const MOST_PENDING: usize = 4096;
+
 impl<A: Allocator + Copy> Session<A> {
     /// Types bytes to the guest's console, and answers how many were taken: the first ones. A console keeps
     /// 4096 until its guest reads them. Where there is no memory for the bytes nothing is typed.
+    #[tactic(auto, using(crate::proofs::Typed::typed))]
     pub fn input(&mut self, slot: u8, bytes: &[u8]) -> Result<usize, Refusal>
         ensures step { result ≢ Err Refusal.NoMemory → IsStep {A = A} self.old
             (record { slot = slot; what = EventKind.Input bytes.now })
@@ -24,11 +29,12 @@ impl<A: Allocator + Copy> Session<A> {
         if self.board.slots() <= usize::from(slot) {
             return Err(Refusal::BadSlot);
         }
-        let Ok(bytes) = Vec::from_slice(self.alloc, bytes) else {
+        let few = &bytes[..bytes.len().min(MOST_PENDING)];
+        let Ok(few) = Vec::from_slice(self.alloc, few) else {
             return Err(Refusal::NoMemory);
         };
         let what = EventKind::Input {
-            bytes: Bytes::from(bytes),
+            bytes: Bytes::from(few),
         };
         match self.step(&Event { slot, what }) {
             Reply::Took(taken) => Ok(taken),
@@ -72,6 +78,8 @@ impl<A: Allocator> Session<A> {
         ensures left { IfSome result (λ count. self.new ≡ record self.old {
           outputs = slice_set self.old.outputs slot (drop count (output_of slot self.old));
         }) }
+        ensures taken { IfSome result (λ count.
+            IsTaken self.old slot (take count (output_of slot self.old)) self.new) }
         ensures missing { IfNone result (self.new ≡ self.old) }
         ensures missing_into { IfNone result (into.new ≡ into.old) }
     {

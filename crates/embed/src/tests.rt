@@ -1,0 +1,296 @@
+//! Each call, and what it does for want of memory.
+
+use super::*;
+use refusing::RefusingHeap;
+use std::alloc::{AllocError, Allocator, Global};
+use std::fmt::Debug;
+use std::process::Abort;
+use std::test::Fail;
+
+const BASE: u64 = 0x8000_0000;
+
+const BLOCK: DeviceKind = DeviceKind::Block;
+
+const CONSOLE: DeviceKind = DeviceKind::Console;
+
+/// A slot of 64 KiB, with four sectors of the image.
+fn slot(start: u64) -> SlotSpec {
+    SlotSpec {
+        base: BASE,
+        len: 0x1_0000,
+        extent: Extent { start, count: 4 },
+        read_only: false,
+        cols: 80,
+        rows: 25,
+    }
+}
+
+fn two_slots() -> [SlotSpec; 2] {
+    [slot(0), slot(4)]
+}
+
+/// An image of eight sectors, in which each byte of sector k is 0x10 + k.
+fn eight_sectors(alloc: Global) -> Result<Vec<u8>, AllocError> {
+    let mut bytes = Vec::new(alloc);
+    for sector in 0..8 {
+        bytes.extend_from_slice(&[0x10 + sector; 512])?;
+    }
+    Ok(bytes)
+}
+
+/// A session of both slots over it.
+fn session<A: Allocator + Copy>(alloc: Global, heap: A) -> Result<Session<A>, Fail> {
+    let image = eight_sectors(alloc)?;
+    Ok(Session::new(heap, &two_slots(), &image, 8)?)
+}
+
+fn same<R: Debug, T: PartialEq + Debug>(rt: &impl Abort, row: &R, found: &T, wanted: &T) {
+    assert_eq!(rt; found, wanted, "{row:?}");
+}
+
+/// A call of a slot, as plain data.
+#[derive(Clone, Copy, Debug)]
+enum Act<'a> {
+    Get(DeviceKind, u16),
+    Set(DeviceKind, u16, u32),
+    Type(&'a [u8]),
+    Resize(u16, u16),
+    Store(u64, &'a [u8]),
+}
+
+/// What the call answers, where 0 stands for an answer without a number.
+fn answer<A: Allocator + Copy>(
+    session: &mut Session<A>,
+    slot: u8,
+    act: Act,
+) -> Result<u32, Refusal> {
+    match act {
+        Act::Get(window, offset) => session.read(slot, window, offset, 4),
+        Act::Set(window, offset, value) => session
+            .write(slot, window, offset, 4, value)
+            .map(|()| 0),
+        Act::Type(bytes) => session.input(slot, bytes).map(|taken| taken as u32),
+        Act::Resize(cols, rows) => session.resize(slot, cols, rows).map(|()| 0),
+        Act::Store(addr, bytes) => session.write_memory(slot, addr, bytes).map(|()| 0),
+    }
+}
+
+type Row = (u8, Act<'static>, Result<u32, Refusal>);
+
+fn check_row<A: Allocator + Copy>(rt: &impl Abort, session: &mut Session<A>, row: &Row) {
+    let (slot, act, wanted) = *row;
+    same(rt, row, &answer(session, slot, act), &wanted);
+}
+
+/// None of these takes memory.
+const WITHOUT_MEMORY: [Row; 13] = [
+    // MagicValue, and DeviceID of both devices (4.2.2)
+    (0, Act::Get(BLOCK, 0x000), Ok(0x7472_6976)),
+    (0, Act::Get(BLOCK, 0x008), Ok(2)),
+    (1, Act::Get(CONSOLE, 0x008), Ok(3)),
+    (1, Act::Set(BLOCK, 0x070, 1), Ok(0)),
+    (1, Act::Get(BLOCK, 0x070), Ok(1)),
+    (0, Act::Get(BLOCK, 0x070), Ok(0)),
+    // columns and rows (5.3.4)
+    (1, Act::Resize(100, 30), Ok(0)),
+    (1, Act::Get(CONSOLE, 0x100), Ok(0x001e_0064)),
+    (0, Act::Get(CONSOLE, 0x100), Ok(0x0019_0050)),
+    (2, Act::Get(BLOCK, 0x000), Err(Refusal::BadSlot)),
+    (2, Act::Set(CONSOLE, 0x108, 0x41), Err(Refusal::BadSlot)),
+    (2, Act::Type(b"ls"), Err(Refusal::BadSlot)),
+    (2, Act::Resize(80, 25), Err(Refusal::BadSlot)),
+];
+
+#[test]
+fn registers_are_reached(rt: HostRuntime) -> Result<(), Fail> {
+    let heap = RefusingHeap::new(rt.alloc());
+    let mut session = session(rt.alloc(), &heap)?;
+    heap.refuse_from(1);
+    for row in &WITHOUT_MEMORY {
+        check_row(&rt, &mut session, row);
+    }
+    assert!(rt; !heap.has_refused());
+    Ok(())
+}
+
+#[test]
+fn memory_is_reached(rt: HostRuntime) -> Result<(), Fail> {
+    let heap = RefusingHeap::new(rt.alloc());
+    let mut session = session(rt.alloc(), &heap)?;
+    heap.refuse_from(1);
+    let mut back = *b"four";
+    let written = session.write_memory(1, BASE + 0xfffc, b"text");
+    let refused = [
+        session.write_memory(1, BASE + 0xfffd, b"text"),
+        session.read_memory(1, BASE + 0xfffd, &mut back),
+        session.write_memory(2, BASE, b"text"),
+        session.read_memory(2, BASE, &mut back),
+    ];
+    let (range, slot) = (Err(Refusal::BadRange), Err(Refusal::BadSlot));
+    assert!(rt; written == Ok(()) && refused == [range, range, slot, slot]);
+    assert!(rt; back == *b"four");
+    assert!(rt; session.read_memory(1, BASE + 0xfffc, &mut back) == Ok(()) && back == *b"text");
+    assert!(rt; session.read_memory(0, BASE + 0xfffc, &mut back) == Ok(()) && back == [0; 4]);
+    let word = session
+        .memory(1)
+        .and_then(|memory| memory.get_u16(BASE + 0xfffc));
+    assert!(rt; word == Some(0x6574) && session.memory(2).is_none());
+    assert!(rt; !heap.has_refused());
+    Ok(())
+}
+
+/// Both guests write to their consoles, without a queue (5.3.4).
+const EMERGENCY: [Row; 4] = [
+    (0, Act::Set(CONSOLE, 0x108, 0x61), Ok(0)),
+    (1, Act::Set(CONSOLE, 0x108, 0x7a), Ok(0)),
+    (0, Act::Set(CONSOLE, 0x108, 0x62), Ok(0)),
+    (0, Act::Set(CONSOLE, 0x108, 0x63), Ok(0)),
+];
+
+#[test]
+fn each_output_waits_for_itself(rt: HostRuntime) -> Result<(), Fail> {
+    let mut session = session(rt.alloc(), rt.alloc())?;
+    for row in &EMERGENCY {
+        check_row(&rt, &mut session, row);
+    }
+    let (mut two, mut four) = ([0; 2], *b"....");
+    assert!(rt; session.output(0) == Some(b"abc".as_slice()));
+    assert!(rt; session.take_output(0, &mut []) == Some(0));
+    assert!(rt; session.take_output(0, &mut two) == Some(2) && two == *b"ab");
+    assert!(rt; session.output(0) == Some(b"c".as_slice()));
+    assert!(rt; session.take_output(0, &mut four) == Some(1) && four == *b"c...");
+    assert!(rt; session.output(1) == Some(b"z".as_slice()));
+    assert!(rt; session.take_output(2, &mut four).is_none() && session.output(2).is_none());
+    Ok(())
+}
+
+/// The driver resets the device, accepts VERSION_1 alone, makes its transmit queue of four ready, and says
+/// DRIVER_OK (3.1.1, 4.2.3.2). A chain of one descriptor is on offer, five bytes at 80004000 to be read, and the
+/// notification puts them out: a used buffer is told of (4.2.2), and acknowledged.
+const TRANSMIT: [Row; 24] = [
+    (1, Act::Set(CONSOLE, 0x070, 0), Ok(0)),
+    (1, Act::Set(CONSOLE, 0x070, 1), Ok(0)),
+    (1, Act::Set(CONSOLE, 0x070, 3), Ok(0)),
+    (1, Act::Set(CONSOLE, 0x024, 0), Ok(0)),
+    (1, Act::Set(CONSOLE, 0x020, 0), Ok(0)),
+    (1, Act::Set(CONSOLE, 0x024, 1), Ok(0)),
+    (1, Act::Set(CONSOLE, 0x020, 1), Ok(0)),
+    (1, Act::Set(CONSOLE, 0x070, 0xb), Ok(0)),
+    (1, Act::Set(CONSOLE, 0x030, 1), Ok(0)),
+    (1, Act::Set(CONSOLE, 0x038, 4), Ok(0)),
+    (1, Act::Set(CONSOLE, 0x080, 0x8000_1000), Ok(0)),
+    (1, Act::Set(CONSOLE, 0x090, 0x8000_2000), Ok(0)),
+    (1, Act::Set(CONSOLE, 0x0a0, 0x8000_3000), Ok(0)),
+    (1, Act::Set(CONSOLE, 0x044, 1), Ok(0)),
+    (1, Act::Set(CONSOLE, 0x070, 0xf), Ok(0)),
+    (
+        1,
+        Act::Store(BASE + 0x1000, &[0, 0x40, 0, 0x80, 0, 0, 0, 0, 5]),
+        Ok(0),
+    ),
+    (1, Act::Store(BASE + 0x2002, &[1, 0]), Ok(0)),
+    (1, Act::Store(BASE + 0x4000, b"hello"), Ok(0)),
+    (1, Act::Get(CONSOLE, 0x060), Ok(0)),
+    (1, Act::Set(CONSOLE, 0x050, 1), Ok(0)),
+    (1, Act::Get(CONSOLE, 0x060), Ok(1)),
+    (1, Act::Type(b"ls\n"), Ok(3)),
+    (1, Act::Type(&[0x61; 4096]), Ok(4093)),
+    (1, Act::Get(CONSOLE, 0x044), Ok(1)),
+];
+
+#[test]
+fn a_driver_says_hello(rt: HostRuntime) -> Result<(), Fail> {
+    let mut session = session(rt.alloc(), rt.alloc())?;
+    for row in &TRANSMIT {
+        check_row(&rt, &mut session, row);
+    }
+    assert!(rt; session.output(1) == Some(b"hello".as_slice()));
+    let words = [
+        session.interrupts(0),
+        session.interrupts(1),
+        session.interrupts(2),
+    ];
+    assert!(rt; words == [Some((0, 0)), Some((0, 1)), None]);
+    assert!(rt; session.slots() == 2);
+    let image = eight_sectors(rt.alloc())?;
+    assert!(rt; session.image() == image.as_slice());
+    assert!(rt; session.into_image().as_slice() == image.as_slice());
+    Ok(())
+}
+
+/// Where there is no memory for them, nothing is typed, and nothing put out.
+const REFUSED: [Row; 2] = [
+    (0, Act::Type(b"ls"), Err(Refusal::NoMemory)),
+    (1, Act::Set(CONSOLE, 0x108, 0x41), Err(Refusal::NoMemory)),
+];
+
+/// And afterwards both are.
+const FOUND: [Row; 2] = [
+    (0, Act::Type(&[0x61; 5000]), Ok(4096)),
+    (1, Act::Set(CONSOLE, 0x108, 0x42), Ok(0)),
+];
+
+#[test]
+fn a_call_may_find_no_memory(rt: HostRuntime) -> Result<(), Fail> {
+    let heap = RefusingHeap::new(rt.alloc());
+    let mut session = session(rt.alloc(), &heap)?;
+    heap.refuse_from(1);
+    for row in &REFUSED {
+        check_row(&rt, &mut session, row);
+    }
+    heap.refuse_from(0);
+    for row in &FOUND {
+        check_row(&rt, &mut session, row);
+    }
+    let disturbed = [
+        session.disturbed(0),
+        session.disturbed(1),
+        session.disturbed(2),
+    ];
+    assert!(rt; disturbed == [Some(false), Some(true), None]);
+    assert!(rt; session.output(1) == Some(b"B".as_slice()));
+    Ok(())
+}
+
+/// Why there is no session of both slots over so many bytes, with a cache of so many sectors.
+const FAULTS: [(usize, u32, SessionFault); 4] = [
+    (4095, 8, SessionFault::BadImage),
+    (4095, 0, SessionFault::BadImage),
+    (3584, 0, SessionFault::Board(BoardFault::ExtentOutside)),
+    (
+        4096,
+        0,
+        SessionFault::Board(BoardFault::Cache(CacheFault::BadCapacity)),
+    ),
+];
+
+fn check_fault(rt: &impl Abort, alloc: Global, image: &[u8], row: &(usize, u32, SessionFault)) {
+    let (len, cache, wanted) = *row;
+    let made = Session::new(alloc, &two_slots(), &image[..len.min(image.len())], cache);
+    same(rt, row, &made.map(|_| ()), &Err(wanted));
+}
+
+#[test]
+fn each_fault_is_told(rt: HostRuntime) -> Result<(), Fail> {
+    let image = eight_sectors(rt.alloc())?;
+    for row in &FAULTS {
+        check_fault(&rt, rt.alloc(), &image, row);
+    }
+    Ok(())
+}
+
+#[test]
+fn a_refused_session_says_so(rt: HostRuntime) -> Result<(), Fail> {
+    let heap = RefusingHeap::new(rt.alloc());
+    let image = eight_sectors(rt.alloc())?;
+    for n in 1..100 {
+        heap.refuse_from(n);
+        let made = Session::new(&heap, &two_slots(), &image, 8).map(|_| ());
+        if made == Ok(()) {
+            assert!(rt; !heap.has_refused() && n > 5);
+            return Ok(());
+        }
+        assert!(rt; heap.has_refused() && made == Err(SessionFault::NoMemory));
+    }
+    panic!(rt; "memory was never ample")
+}
