@@ -5,6 +5,7 @@ ghost use Rattle.std.specs.Prelude.{◌<◌, length, IfErr};
 
 mod disturbed;
 mod driver;
+mod long_read;
 mod made;
 mod output;
 mod refused;
