@@ -2,6 +2,7 @@
 
 mod calls;
 mod disk;
+mod each_growth_refused;
 mod in_place;
 mod input;
 mod machine;
