@@ -36,6 +36,7 @@ broken:
 embed:
 	@examples/embed/run
 
-# Calls the library ten million times at random from C, under a heap that refuses, and beside vreplay.
+# Calls the library ten million times at random from C, under a heap that refuses, and beside vreplay; and from four
+# threads.
 stress:
 	@examples/embed/stress-run

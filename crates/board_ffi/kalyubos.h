@@ -7,8 +7,9 @@
  * What each call promises is proved, for a caller that keeps these duties:
  *  - A handle is zeroed before its first call, and is then changed by calls alone. It is never copied: a copy
  *    would be a second owner of one board.
- *  - A board stays on the thread that made it, with one call at a time, and none from a signal handler. Other
- *    threads may have boards of their own at the same time, if the heap may.
+ *  - One call at a time for a handle, from any thread, and none from a signal handler. What orders the calls of
+ *    several threads is the host's: a lock round them, or a thread's start and end. Calls on other handles may
+ *    run at the same time, if the heap may; what it gave on one thread it takes back on any.
  *  - No pointer is null, also where its length is 0. A buffer is as long as its length says, and none of a
  *    call's buffers and out parameters overlaps another, or the handle.
  *  - A `bool` is 0 or 1. 64 KiB of stack are free, which is more than any call was seen to take.

@@ -89,3 +89,5 @@ impl Drop for Handle {
         drop(self.into_box());
     }
 }
+
+unsafe impl Send for Handle {}

@@ -40,6 +40,19 @@ fn one_guest(rt: &impl Abort, alloc: Global) -> Handle {
     board
 }
 
+/// Hands on what may go to another thread.
+fn sent<T: Send>(value: T) -> T {
+    value
+}
+
+#[test]
+fn a_handle_goes_to_another_thread_with_its_board(rt: HostRuntime) -> Result<(), Fail> {
+    let alloc = rt.alloc();
+    let mut board = sent(one_guest(&rt, alloc));
+    same(&rt, kalyubos_destroy(alloc, &mut board), 0);
+    Ok(())
+}
+
 /// A disk of one sector and half another.
 const CUT: [u8; 768] = [7; 768];
 

@@ -1,5 +1,5 @@
 //! The board for safe Rust. Each duty of the header's is kept here: references are never null and don't overlap,
-//! a `Board` can't be copied, it takes `&mut self`, and it stays on its thread.
+//! a `Board` can't be copied, and it takes `&mut self`, so one thread at a time calls it.
 
 mod ffi;
 
@@ -48,6 +48,10 @@ fn answer(number: u32) -> Result<(), Refusal> {
 
 /// A board, which is destroyed where it is dropped.
 pub struct Board(ffi::Handle);
+
+// SAFETY: a handle is proved to be `Send`: what it owns, any thread may use and free, one at a time. `malloc` and
+// `free` serve every thread.
+unsafe impl Send for Board {}
 
 impl Board {
     pub fn new(slots: &[Slot], image: &[u8], cache: u32) -> Result<Board, Refusal> {

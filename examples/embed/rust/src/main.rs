@@ -1,6 +1,7 @@
-//! The host of `host.c`, in Rust: the same guest, and the same lines.
+//! The host of `host.c`, in Rust: the same guest, on a thread of its own, and the same lines.
 
 use kalyubos::{Board, Refusal, Slot, Window};
+use std::thread;
 
 const MEMORY: u64 = 0x8000_0000;
 const TABLE: u64 = 0x1000;
@@ -124,7 +125,7 @@ fn main() -> Result<(), Refusal> {
         read_only: false,
     };
     let mut board = Board::new(&[slot], &image, 8)?;
-    guest(&mut board)?;
+    thread::scope(|cpus| cpus.spawn(|| guest(&mut board)).join().expect("the guest's thread ends"))?;
     let mut out = [0; 64];
     let taken = board.take_output(0, &mut out)?;
     print!("console: {}", String::from_utf8_lossy(&out[..taken]));
