@@ -32,7 +32,8 @@ fuzz:
 broken:
 	@fuzz/broken
 
-# Builds the static library and a host of it in C and in Rust, runs both, and compares what they print.
+# Builds the static library and its hosts, in C, in Rust and over a CPU emulator where one is installed, runs them,
+# and compares what they print.
 embed:
 	@examples/embed/run
 

@@ -1,0 +1,158 @@
+/*
+ * A host over a CPU emulator, the Unicorn engine: two RISC-V CPUs run the program of guest.S, each as a guest of its
+ * own. What a CPU loads and stores at its windows and in its memory goes to the board, so all that a guest does is
+ * events of its slot; its program stands in a ROM of the host's.
+ */
+#include <stdio.h>
+#include <stdlib.h>
+#include <string.h>
+#include <unicorn/unicorn.h>
+
+#include "guest.h"
+#include "kalyubos.h"
+
+/* Where a guest finds what, in physical addresses. */
+static const uint64_t ROM = 0x1000, WINDOWS = 0x0a000000, MEMORY = 0x80000000;
+
+enum { PAGE = 0x1000, MEMORY_LEN = 0x10000, GUESTS = 2, TURN = 20, TURNS = 1000 };
+
+struct guest {
+    uint8_t slot;
+    uc_engine *cpu;
+    uint64_t at; /* the address of its next instruction */
+};
+
+static struct kalyubos board;
+
+static void must(uint32_t answer, const char *what)
+{
+    if (answer != KALYUBOS_DONE) {
+        fprintf(stderr, "%s: refused with %u\n", what, (unsigned)answer);
+        exit(1);
+    }
+}
+
+static void cpu_must(uc_err answer, const char *what)
+{
+    if (answer != UC_ERR_OK) {
+        fprintf(stderr, "%s: %s\n", what, uc_strerror(answer));
+        exit(1);
+    }
+}
+
+/* ---- what a CPU's loads and stores come to: offsets are from the windows' and from the memory's beginning */
+
+static uint64_t window_load(uc_engine *cpu, uint64_t offset, unsigned width, void *user)
+{
+    const struct guest *guest = user;
+    uint32_t value;
+    (void)cpu;
+    must(kalyubos_read(&board, guest->slot, offset / PAGE, offset % PAGE, width, &value), "read");
+    return value;
+}
+
+/* A machine with interrupt lines looks at kalyubos_interrupts after this; these guests wait at their rings. */
+static void window_store(uc_engine *cpu, uint64_t offset, unsigned width, uint64_t value, void *user)
+{
+    const struct guest *guest = user;
+    (void)cpu;
+    must(kalyubos_write(&board, guest->slot, offset / PAGE, offset % PAGE, width, value), "write");
+}
+
+/* Memory's bytes stand lowest first, as those of a RISC-V CPU do. */
+static uint64_t memory_load(uc_engine *cpu, uint64_t offset, unsigned width, void *user)
+{
+    const struct guest *guest = user;
+    uint8_t bytes[8];
+    uint64_t value = 0;
+    (void)cpu;
+    must(kalyubos_read_memory(&board, guest->slot, MEMORY + offset, bytes, width), "read_memory");
+    for (unsigned i = width; i > 0; i--)
+        value = value << 8 | bytes[i - 1];
+    return value;
+}
+
+static void memory_store(uc_engine *cpu, uint64_t offset, unsigned width, uint64_t value, void *user)
+{
+    const struct guest *guest = user;
+    uint8_t bytes[8];
+    (void)cpu;
+    for (unsigned i = 0; i < width; i++)
+        bytes[i] = value >> 8 * i;
+    must(kalyubos_write_memory(&board, guest->slot, MEMORY + offset, bytes, width), "write_memory");
+}
+
+/* ---- the machine */
+
+static void power_on(struct guest *guest, uint8_t slot)
+{
+    *guest = (struct guest){ slot, NULL, ROM };
+    cpu_must(uc_open(UC_ARCH_RISCV, UC_MODE_RISCV64, &guest->cpu), "a CPU");
+    cpu_must(uc_mem_map(guest->cpu, ROM, PAGE, UC_PROT_READ | UC_PROT_EXEC), "the ROM");
+    cpu_must(uc_mem_write(guest->cpu, ROM, GUEST, sizeof GUEST), "the program");
+    cpu_must(uc_mmio_map(guest->cpu, WINDOWS, 2 * PAGE, window_load, guest, window_store, guest), "the windows");
+    cpu_must(uc_mmio_map(guest->cpu, MEMORY, MEMORY_LEN, memory_load, guest, memory_store, guest), "the memory");
+}
+
+/* Some instructions of the guest; false where its program is at its end. */
+static bool turn(struct guest *guest)
+{
+    const uint64_t end = ROM + sizeof GUEST;
+    if (guest->at == end)
+        return false;
+    cpu_must(uc_emu_start(guest->cpu, guest->at, end, 0, TURN), "a turn");
+    cpu_must(uc_reg_read(guest->cpu, UC_RISCV_REG_PC, &guest->at), "the program counter");
+    return true;
+}
+
+static void report(const struct guest *guest)
+{
+    uint64_t failed;
+    uint8_t out[64], block, console;
+    size_t taken;
+    bool disturbed;
+    cpu_must(uc_reg_read(guest->cpu, UC_RISCV_REG_A0, &failed), "a0");
+    must(kalyubos_take_output(&board, guest->slot, out, sizeof out, &taken), "take_output");
+    must(kalyubos_interrupts(&board, guest->slot, &block, &console), "interrupts");
+    must(kalyubos_disturbed(&board, guest->slot, &disturbed), "disturbed");
+    if (guest->at != ROM + sizeof GUEST)
+        printf("guest %u: still at %llx\n", guest->slot, (unsigned long long)guest->at);
+    else if (failed != 0)
+        printf("guest %u: step %u failed\n", guest->slot, (unsigned)failed);
+    else
+        printf("guest %u: done\n", guest->slot);
+    printf("console: ");
+    fwrite(out, 1, taken, stdout);
+    printf("interrupts: %u and %u, disturbed: %d\n", block, console, disturbed);
+}
+
+int main(void)
+{
+    static uint8_t image[4 * 512];
+    strcpy((char *)image, "the first half of the image\n");
+    strcpy((char *)image + 2 * 512, "the second half\n");
+    struct kalyubos_slot slots[GUESTS] = {
+        { MEMORY, MEMORY_LEN, 0, 2, 80, 25, false },
+        { MEMORY, MEMORY_LEN, 2, 2, 80, 25, false },
+    };
+    must(kalyubos_create(&board, slots, GUESTS, image, sizeof image, 8), "create");
+
+    static struct guest guests[GUESTS];
+    for (uint8_t slot = 0; slot < GUESTS; slot++)
+        power_on(&guests[slot], slot);
+
+    /* The guests run in turns, until none goes on. */
+    bool runs = true;
+    for (unsigned turns = 0; runs && turns < TURNS; turns++) {
+        runs = false;
+        for (unsigned i = 0; i < GUESTS; i++)
+            runs = turn(&guests[i]) || runs;
+    }
+
+    for (unsigned i = 0; i < GUESTS; i++) {
+        report(&guests[i]);
+        cpu_must(uc_close(guests[i].cpu), "uc_close");
+    }
+    must(kalyubos_destroy(&board), "destroy");
+    return 0;
+}
