@@ -18,7 +18,6 @@ pub mod Sending
 pub mod Passing
 pub mod LastLines
 pub mod Gathering
-pub mod Inputs
 pub mod OneSlotLemmas
 pub mod RunLemmas
 pub mod Pieces

@@ -1,5 +1,5 @@
 -- What comes of a run on a new board.
-use Rattle.std.proofs.Common.{◌≡◌, ℕ, List, [], ◌∷◌, length, map, take, Option, Result, Ok, Err, IfSome, refl, sym, ap, subst, ◌∙◌, arith}
+use Rattle.std.proofs.Common.{◌≡◌, ℕ, List, [], ◌∷◌, length, map, take, Result, Ok, Err, refl, sym, ap, subst, ◌∙◌, arith}
 use Rattle.std.proofs.lemmas.List.{take_all}
 use Rattle.sector_cache.specs.Disk.{Disk}
 use Rattle.board.specs.declared.event.Event.{Event}
@@ -11,11 +11,7 @@ use Rattle.board.specs.Line.{HadMemory, IsRun, events_done}
 use Rattle.board.specs.Slot.{BoardSlot, opened}
 use Rattle.board.specs.World.{BoardState, extents_of, seen, world_of}
 use Rattle.trace.specs.OneSlot.{IsMachine}
-use Rattle.trace.specs.Replay.{AfterRun, IsTraceOf, Replays, RunsOn}
-use Rattle.trace.specs.Text.{Content}
-use Rattle.board.specs.Fault.{IsAccepted}
-use Rattle.trace.specs.declared.replay_fault.ReplayFault.{ReplayFault}
-use Rattle.trace.specs.declared.replay_fault.ReplayFault.TheVariants.{Read, Trace, Board, Run, Write, NoMemory}
+use Rattle.trace.specs.Replay.{RunsOn}
 use Rattle.trace.proofs.OneSlotLemmas.{one_slot}
 
 one_of : {A : Type 0} (slots : List SlotSpec) (old new : Disk) (last : List BoardSlot) (events : List (Event A)) (records : List (Record A)) → IsRun (seen (map opened slots) old) (seen last new) events [] records → extents_of last ≡ extents_of (map opened slots) → (spec : SlotSpec) → slots ≡ spec ∷ [] → new.failures ≡ old.failures → HadMemory 0 records → IsMachine spec (bytes_of old) (bytes_of new) events records
@@ -51,19 +47,3 @@ pub record FirstDone {A : Type 0} (events done : List (Event A)) : Type 0 where
 pub first_done : {A : Type 0} (result : Result (Unit {0}) RunStop) (events : List (Event A)) → FirstDone events (events_done result events)
 first_done (Ok done) events = record { count = length events; are = sym (take_all (length events) events (omega arith)) }
 first_done (Err stop) events = record { count = stop.done; are = refl }
-
-played_as : {A I : Type 0} (disk : I → Disk) (input old new : Option (List ℕ)) (before after : I) (trace : Content A) (outcome : Result (Unit {0}) ReplayFault) → IfSome input (λ bytes. IsTraceOf bytes trace) → IsAccepted (disk before).sector_count trace.slots trace.cache → AfterRun disk trace.slots trace.events before after old new outcome → Replays A disk input old new before after outcome
-played_as disk input old new before after trace (Ok done) read accepted ended = record { trace = trace; read = read; accepted = accepted; ended = ended }
-played_as disk input old new before after trace (Err (Run count)) read accepted ended = record { trace = trace; read = read; accepted = accepted; ended = ended }
-played_as disk input old new before after trace (Err Write) read accepted ended = record { trace = trace; read = read; accepted = accepted; ended = ended }
-played_as disk input old new before after trace (Err NoMemory) read accepted ended = record { trace = trace; read = read; accepted = accepted; ended = ended }
-played_as disk input old new before after trace (Err Read) read accepted ended = absurd ended
-played_as disk input old new before after trace (Err (Trace fault)) read accepted ended = absurd ended
-played_as disk input old new before after trace (Err (Board fault)) read accepted ended = absurd ended
-
--- the trace was read, there was a board for it, and this came of its events
-pub played : {A I : Type 0} (disk : I → Disk) (input old new : Option (List ℕ)) (before board after : I) (trace : Content A) (slots : List SlotSpec) (outcome : Result (Unit {0}) ReplayFault) → IfSome input (λ bytes. IsTraceOf bytes trace) → slots ≡ trace.slots → board ≡ before → IsAccepted (disk before).sector_count slots trace.cache → AfterRun disk trace.slots trace.events board after old new outcome → Replays A disk input old new before after outcome
-played {A} disk input old new before board after trace slots outcome read same kept accepted ended =
-    played_as disk input old new before after trace outcome read
-    (subst (λ (specs : List SlotSpec). IsAccepted (disk before).sector_count specs trace.cache) same accepted)
-    (subst (λ image. AfterRun disk trace.slots trace.events image after old new outcome) kept ended)

@@ -110,9 +110,3 @@ EndsReading (Ok _) left = IsAtEnd left
 EndsReading (Err Read) left = ⊤
 EndsReading (Err (Trace fault)) left = fault.kind ≢ kind.NoMemory → IsAtEnd left
 EndsReading (Err _) left = IsAtEnd left
-
--- why the input gave no trace: it couldn't be read, or it was refused
-abbrev pub RefusesInput : Type 0 → Option (List ℕ) → ReplayFault → Type 0
-RefusesInput A input Read = ⊤
-RefusesInput A input (Trace fault) = IfSome input (λ bytes. IsTraceFault A bytes fault)
-RefusesInput A input _ = ⊥

@@ -47,7 +47,7 @@ pub use print::{is_printable, print_trace};
 pub use read::read_trace;
 pub use records::print_records;
 pub use replay_fault::ReplayFault;
-pub use replaying::replay;
+pub use replaying::{replay, replay_text};
 pub use round_trip::read_back;
 pub use trace::Trace;
 pub use write::write_whole;

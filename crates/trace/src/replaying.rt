@@ -1,12 +1,12 @@
 //! Replaying a trace: from its text to the text of its records.
 
-ghost use Rattle.std.specs.Prelude.{◌≡◌, ◌<◌, [], IfOk, IfErr, IfSome, length, map};
+ghost use Rattle.std.specs.Prelude.{◌≡◌, ◌≢◌, ◌<◌, [], Some, Err, IfErr, length, map};
 ghost use Rattle.board.specs.Line.{events_done};
 ghost use Rattle.board.specs.Slot.{opened};
 ghost use Rattle.trace.specs.Pieces.{SendsRun};
-ghost use Rattle.trace.specs.Replay.{AfterRun, EndsReading, IsTraceOf, RefusesInput, Replays};
+ghost use Rattle.trace.specs.declared.replay_fault.ReplayFault.{ReplayFault};
+ghost use Rattle.trace.specs.Replay.{AfterRun, EndsReading, Replays};
 ghost use Rattle.trace.specs.Sends.{waiting};
-ghost use Rattle.trace.specs.Text.{content};
 
 use crate::buffer::Buffer;
 use crate::fault::{FaultKind, TraceFault};
@@ -43,33 +43,30 @@ pub fn replay<R: Read, W: Write, I: Image, A: Allocator + Copy>(
     ensures comes_to { Replays A I.disk (R.remaining reader.old) (W.contents writer.old) (W.contents writer.new) image result.0 result.1 }
     ensures end { EndsReading result.1 (R.remaining reader.new) }
 {
-    let trace = match read_input(alloc, reader) {
+    match gather(alloc, reader) {
+        Ok(text) => replay_text(alloc, &text, writer, image),
+        Err(ReplayFault::NoMemory) => (image, Err(ReplayFault::Trace(NO_ROOM))),
+        Err(_) => (image, Err(ReplayFault::Read)),
+    }
+}
+
+/// The same of a text that was gathered before.
+pub fn replay_text<W: Write, I: Image, A: Allocator + Copy>(
+    alloc: A,
+    text: &[u8],
+    writer: &mut W,
+    image: I,
+) -> (I, Result<(), ReplayFault>)
+    ensures comes_to { Replays A I.disk (Some text.now) (W.contents writer.old) (W.contents writer.new) image result.0 result.1 }
+    ensures read { result.1 ≢ Err ReplayFault.Read }
+{
+    let trace = match read_trace(alloc, text) {
         Ok(trace) => trace,
-        Err(fault) => return (image, Err(fault)),
+        Err(fault) => return (image, Err(ReplayFault::Trace(fault))),
     };
     match Board::new(alloc, &trace.slots, image, trace.cache) {
         Ok(board) => run_trace(alloc, board, &trace, writer),
         Err(Refused { image, why }) => (image, Err(ReplayFault::Board(why))),
-    }
-}
-
-// Reads a trace from what is left of the reader.
-fn read_input<R: Read, A: Allocator + Copy>(
-    alloc: A,
-    reader: &mut R,
-) -> Result<Trace<A>, ReplayFault>
-    ensures read { IfOk result (λ trace. IfSome (R.remaining reader.old) (λ bytes. IsTraceOf bytes (content trace))) }
-    ensures end { EndsReading result (R.remaining reader.new) }
-    ensures err { IfErr result (RefusesInput A (R.remaining reader.old)) }
-{
-    let input = match gather(alloc, reader) {
-        Ok(input) => input,
-        Err(ReplayFault::NoMemory) => return Err(ReplayFault::Trace(NO_ROOM)),
-        Err(_) => return Err(ReplayFault::Read),
-    };
-    match read_trace(alloc, &input) {
-        Ok(trace) => Ok(trace),
-        Err(fault) => Err(ReplayFault::Trace(fault)),
     }
 }
 

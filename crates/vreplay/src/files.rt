@@ -55,7 +55,7 @@ fn replay_whole<A: Allocator + Copy, R: Eprint + Files, W: Write>(
 ) -> Result<MemoryImage<A>, ReplayFault> {
     let image = image_in(rt, alloc, call.image)?;
     let text = text_in(rt, alloc, call.trace)?;
-    told(rt, &text, replayed(alloc, &mut text.as_slice(), out, image))
+    told(rt, &text, replayed(alloc, &text, out, image))
 }
 
 // Replays the trace over the image's own file.
@@ -70,11 +70,7 @@ where
 {
     let image = image_at(rt, call.image)?;
     let text = text_in(rt, alloc, call.trace)?;
-    told(
-        rt,
-        &text,
-        replayed_over(alloc, &mut text.as_slice(), out, image),
-    )
+    told(rt, &text, replayed_over(alloc, &text, out, image))
 }
 
 // The image of a file's bytes.

@@ -95,6 +95,6 @@ fn replay_input<A: Allocator + Copy, R: Input + Eprint, W: Write>(
         Ok(text) => text,
         Err(fault) => return refuse(rt, fault, Advice::on_reading(fault, "standard input")),
     };
-    told(rt, &text, replayed(alloc, &mut text.as_slice(), out, image))?;
+    told(rt, &text, replayed(alloc, &text, out, image))?;
     Ok(())
 }

@@ -1,41 +1,41 @@
 //! A replay of which the image is wanted afterwards.
 
-ghost use Rattle.std.specs.Prelude.{IfOk};
+ghost use Rattle.std.specs.Prelude.{Some, IfOk};
 ghost use Rattle.sector_cache.specs.MemoryImage.{disk_of};
 ghost use Rattle.board.specs.Image.{Tells};
 ghost use Rattle.vreplay.specs.Replayed.{ComesTo, HasRun};
 
 use sector_cache::{Image, MemoryImage};
 use std::alloc::Allocator;
-use std::io::{Read, Write};
-use trace::{ReplayFault, replay};
+use std::io::Write;
+use trace::{ReplayFault, replay_text};
 
-/// Replays a trace over the image and writes its records. The image is handed back after a replay that
+/// Replays a trace's text over the image and writes its records. The image is handed back after a replay that
 /// came to its end.
-pub fn replayed<A: Allocator + Copy, T: Read, W: Write>(
+pub fn replayed<A: Allocator + Copy, W: Write>(
     alloc: A,
-    trace: &mut T,
+    text: &[u8],
     out: &mut W,
     image: MemoryImage<A>,
 ) -> Result<MemoryImage<A>, ReplayFault>
-    ensures comes_to { ComesTo A disk_of (T.remaining trace.old) (W.contents out.old) (W.contents out.new) image result }
+    ensures comes_to { ComesTo A disk_of (Some text.now) (W.contents out.old) (W.contents out.new) image result }
     ensures tells { Tells (disk_of image) }
-    ensures run { IfOk result (λ after. HasRun A (T.remaining trace.old) (W.contents out.old) (W.contents out.new) (disk_of image) (disk_of after)) }
+    ensures run { IfOk result (λ after. HasRun A (Some text.now) (W.contents out.old) (W.contents out.new) (disk_of image) (disk_of after)) }
 {
-    replayed_over(alloc, trace, out, image)
+    replayed_over(alloc, text, out, image)
 }
 
 /// The same over any image. What is promised of the run is promised where the image tells its bytes.
-pub fn replayed_over<A: Allocator + Copy, T: Read, W: Write, I: Image + Drop>(
+pub fn replayed_over<A: Allocator + Copy, W: Write, I: Image + Drop>(
     alloc: A,
-    trace: &mut T,
+    text: &[u8],
     out: &mut W,
     image: I,
 ) -> Result<I, ReplayFault>
-    ensures comes_to { ComesTo A I.disk (T.remaining trace.old) (W.contents out.old) (W.contents out.new) image result }
-    ensures run { Tells (I.disk image) → IfOk result (λ after. HasRun A (T.remaining trace.old) (W.contents out.old) (W.contents out.new) (I.disk image) (I.disk after)) }
+    ensures comes_to { ComesTo A I.disk (Some text.now) (W.contents out.old) (W.contents out.new) image result }
+    ensures run { Tells (I.disk image) → IfOk result (λ after. HasRun A (Some text.now) (W.contents out.old) (W.contents out.new) (I.disk image) (I.disk after)) }
 {
-    match replay(alloc, trace, out, image) {
+    match replay_text(alloc, text, out, image) {
         (image, Ok(())) => Ok(image),
         (_, Err(fault)) => Err(fault),
     }
