@@ -1,6 +1,6 @@
 /*
  * kalyubos.h: up to sixteen guests, each with a block device and a console over virtio-mmio, behind a CPU loop of
- * your own. docs/EMBEDDING.md says what the devices do and how an exit of a guest becomes a call.
+ * your own. docs/model.md says what the devices do, and docs/EMBEDDING.md how an exit of a guest becomes a call.
  *
  * Link libboard_ffi.a, and give it a heap: the three functions at the end of this file.
  *
