@@ -4,6 +4,7 @@ use super::two_guests::{Piecewise, RECORDS, Request, TRACE, eight_sectors, refus
 use crate::{FaultKind, ReplayFault, TraceFault, replay};
 use board::{BoardFault, MemoryImage};
 use refusing::RefusingHeap;
+use std::alloc::{AllocError, Global};
 use std::process::Abort;
 use std::test::Fail;
 
@@ -16,14 +17,15 @@ struct Replayed {
     has_refused: bool,
 }
 
-/// Replays what both guests do.
-fn replay_guests(
+/// Replays a trace over eight sectors.
+fn replay_text(
     rt: &impl AllocGlobal,
     heap: &RefusingHeap,
+    text: &str,
     request: Request,
 ) -> Result<Replayed, Fail> {
     let image = MemoryImage::new(eight_sectors(rt.alloc())?)?;
-    let mut reader = Piecewise::new(TRACE.as_bytes());
+    let mut reader = Piecewise::new(text.as_bytes());
     let mut written = Vec::new(rt.alloc());
     refuse(heap, request);
     let (image, outcome) = replay(heap, &mut reader, &mut written, image);
@@ -88,12 +90,15 @@ fn count_of(written: &[u8], ample: &[u8]) -> Option<usize> {
 const EVENTS: usize = 126;
 
 /// The place that is answered, where what stands is what it says: after all records the image of ample memory, after
-/// some so many records, and else nothing written and the image as it was.
+/// some so many records, and else nothing written and the image as it was. It is so after some records too: the room
+/// for them grows no more once a guest writes a sector.
 fn place_told(found: &Replayed, ample: &Replayed, untouched: &[u8]) -> Option<Place> {
     let records = count_of(&found.written, &ample.written)?;
     let stands = match found.outcome {
         Ok(()) => records == EVENTS && found.image == ample.image,
-        Err(ReplayFault::Run(done)) => records == done && done < EVENTS,
+        Err(ReplayFault::Run(done)) => {
+            records == done && done < EVENTS && found.image.as_slice() == untouched
+        }
         Err(_) => records == 0 && found.image.as_slice() == untouched,
     };
     if stands {
@@ -108,7 +113,7 @@ fn place_told(found: &Replayed, ample: &Replayed, untouched: &[u8]) -> Option<Pl
 fn places(rt: &(impl Abort + AllocGlobal), lasts: bool) -> Result<Vec<Place>, Fail> {
     let heap = RefusingHeap::new(rt.alloc());
     let untouched = eight_sectors(rt.alloc())?;
-    let ample = replay_guests(rt, &heap, Request::None)?;
+    let ample = replay_text(rt, &heap, TRACE, Request::None)?;
     assert!(rt; ample.written.ends_with(RECORDS.as_bytes()));
     let mut places = Vec::new(rt.alloc());
     for n in 1..1000 {
@@ -117,7 +122,7 @@ fn places(rt: &(impl Abort + AllocGlobal), lasts: bool) -> Result<Vec<Place>, Fa
         } else {
             Request::Only(n)
         };
-        let found = replay_guests(rt, &heap, request)?;
+        let found = replay_text(rt, &heap, TRACE, request)?;
         if !found.has_refused {
             assert!(rt; found.written == ample.written);
             return Ok(places);
@@ -161,4 +166,72 @@ fn one_request_is_refused(rt: HostRuntime) -> Result<(), Fail> {
 #[test]
 fn all_requests_from_one_on_are_refused(rt: HostRuntime) -> Result<(), Fail> {
     check_places(&rt, true)
+}
+
+/// A guest brings its disk up by the fewest writes and writes zeros to sector 0, all in eight events. Its memory begins
+/// at 0, where its descriptors are and the used ring comes to stand over them; the available ring is at 40, the header
+/// at 50, the status at 60, and the zeros at 100.
+const SOON_WRITTEN: &str = "\
+vreplay 1
+cache 1
+slot 0 1000 0 4 rw 50 19
+w 0 b 024 4 00000001
+w 0 b 020 4 00000001
+w 0 b 070 4 0000000f
+w 0 b 038 4 00000004
+w 0 b 090 4 00000040
+w 0 b 044 4 00000001
+mw 0 0 500000000000000010000000010001000001000000000000000200000100020060000000000000000100000002000000\
+000000000000000000000000000000000000010000000000000000000000000001000000000000000000000000000000
+w 0 b 050 4 00000000
+r 0 b 000 4
+";
+
+/// The same image, but that its first sector is zeros.
+fn with_zeros(alloc: Global, image: &[u8]) -> Result<Vec<u8>, AllocError> {
+    let (_, rest) = image.split_at(image.len().min(512));
+    let mut bytes = vec![in alloc; 0; 512]?;
+    bytes.extend_from_slice(rest)?;
+    Ok(bytes)
+}
+
+/// How many events were done where the run stopped, and whether the image is then as it was, or with the zeros.
+fn stop_of(found: &Replayed, untouched: &[u8], written: &[u8]) -> Option<(usize, bool, bool)> {
+    match found.outcome {
+        Err(ReplayFault::Run(done)) => Some((
+            done,
+            found.image.as_slice() == untouched,
+            found.image.as_slice() == written,
+        )),
+        _ => None,
+    }
+}
+
+/// The stops as each request is refused alone, until a replay meets none. Where a sector isn't kept the run goes on.
+fn stops(rt: &(impl Abort + AllocGlobal)) -> Result<Vec<(usize, bool, bool)>, Fail> {
+    let heap = RefusingHeap::new(rt.alloc());
+    let untouched = eight_sectors(rt.alloc())?;
+    let written = with_zeros(rt.alloc(), &untouched)?;
+    let mut stops = Vec::new(rt.alloc());
+    for n in 1..1000 {
+        let found = replay_text(rt, &heap, SOON_WRITTEN, Request::Only(n))?;
+        if !found.has_refused {
+            return Ok(stops);
+        }
+        if let Some(stop) = stop_of(&found, &untouched, &written) {
+            stops.push(stop)?;
+        }
+    }
+    panic!(rt; "memory was never ample")
+}
+
+/// The room for records grows at the first, the fifth and the ninth event. What the first eight wrote stands.
+#[test]
+fn what_was_written_before_a_stop_stands(rt: HostRuntime) -> Result<(), Fail> {
+    let stops = stops(&rt)?;
+    assert_eq!(rt;
+        stops.as_slice(),
+        [(0, true, false), (4, true, false), (8, false, true)].as_slice()
+    );
+    Ok(())
 }
