@@ -11,7 +11,8 @@ PROGRAM = crates/vreplay/out/vreplay
 # Proves what the program stands on, builds it, and replays a trace. TRACE=FILE names another, IMAGE=FILE an
 # image to replay it over, and SAVE=FILE what the image's bytes are saved to.
 run:
-	@echo "Proving and building vreplay: some minutes the first time, seconds after that." >&2
+	$(if $(SAVE),$(if $(IMAGE),,$(error SAVE=FILE wants IMAGE=FILE beside it)))
+	@echo "Proving and building vreplay: some 17 minutes of processor time at first, seconds after that." >&2
 	@cd crates/vreplay && mkdir -p out && rt run < stdin > out/run.log || { tail -20 out/run.log >&2; exit 1; }
 	@echo "Replaying $(TRACE):" >&2
 	@$(if $(IMAGE),$(PROGRAM) "$(TRACE)" "$(IMAGE)" $(if $(SAVE),--save "$(SAVE)"),$(PROGRAM) < "$(TRACE)")
