@@ -72,7 +72,8 @@ struct kalyubos_slot {
 /*
  * Makes a board of `slots_len` slots over a copy of the image, with a cache of at most `cache` sectors before it,
  * and puts it into an empty handle. A refusal leaves the handle as it was and keeps no memory. Of the numbers from
- * BAD_IMAGE on it is the first that holds, those of a slot looked for slot by slot.
+ * BAD_IMAGE on it is the first that holds, those of a slot looked for slot by slot; NO_MEMORY may come in the place of
+ * each but BAD_IMAGE.
  */
 uint32_t kalyubos_create(struct kalyubos *board, const struct kalyubos_slot *slots, size_t slots_len,
                          const uint8_t *image, size_t image_len, uint32_t cache);
