@@ -54,7 +54,7 @@ impl Chain {
         mem.part_mut(rest.addr, u64::from(rest.len).min(most))
     }
 
-    /// `lend`, called on the chain.
+    /// `lend`, called on the chain. A proof that ties what is lent to a call's first argument cites `lend`.
     pub fn write_part<'m, A: Allocator>(
         &self,
         mem: &'m mut GuestMemory<A>,

@@ -8,6 +8,7 @@ use base.Fml.{ftrue, flft}
 use types.Kit.{‵, raw, ◌⊛◌, some, later, ◌$◌, ◌∵◌, !, qed, move, drop, use1, split, split3, join, group, fsplit, fjoin, pick, await, suffices, done}
 use types.Run.{enter, addr, stop, no_more, and_then, returns}
 use types.ByLocal.{alloc_all, pass_all, free_all, look_at, get, through, sets, lands_as}
+use contract.Lifetimes.{Lfts}
 use contract.Running.{tables}
 use denote.Builtin.{RefOf, RefMutOf, u8, u64}
 use denote.Exit.{yes, no}
@@ -21,7 +22,6 @@ use denote.Slice.{MutSlice, mut_slice_Lawful}
 use denote.Steps.{nothing, peeks}
 use denote.Triple.Call.{calls_at}
 use denote.Triple.Clauses.{Lasts, lasts, at_exit}
-use contract.Lifetimes.{Lfts}
 use denote.Triple.Entry.{Args as Passed}
 use denote.Triple.Spec.{triple_of}
 use denote.Triple.Table.{framed}
@@ -45,7 +45,8 @@ write_part_spec 𝓤 𝓛 𝓜 𝓡 wired Y L g d dd met md =
     let self = RefOf (0 ∷ []) tt (plain (λ _. Chain.the_row)) (λ _. tt) in
     let mem = RefMutOf (1 ∷ []) tt (plain (λ _. GuestMemory.the_row (param 0 Y) g)) (λ _. tt) in
     let number = plain (λ _. u64) in
-    let stays : Stays En.signature.params En.kept = (stay_dropped self yes, (stay_dropped mem no, (stay_dropped number yes, (stay_dropped number yes, tt)))) in
+    let stays : Stays En.signature.params En.kept =
+    (stay_dropped self yes, (stay_dropped mem no, (stay_dropped number yes, (stay_dropped number yes, tt)))) in
     let Part = λ (κs : Lfts 3). MutSlice (named 1) κs.1.0 u8 in
     let called = lend.ended Y g d dd in
     let G = triple_of 𝓛 (lend.signature Y g d dd) (lend.spec Y g d dd 𝓛 𝓜.mem 𝓡.returns) in
