@@ -1,7 +1,11 @@
 //! Values from outside: the limits of a chain, counted by hand, and which byte stands at which place.
 
-ghost use Rattle.std.specs.Prelude.{IfOk};
-ghost use Rattle.chain.specs.Buffers.{Good};
+ghost use Rattle.std.specs.Prelude.{◌≡◌, ◌<◌, ℕ, All, IfOk, List, drop, length, min, replicate};
+ghost use Rattle.std.specs.Borrow.{sem};
+ghost use Rattle.guest_memory.specs.Memory.{part_of, put};
+ghost use Rattle.guest_memory.specs.Lending.{LendsPart};
+ghost use Rattle.chain.specs.Buffers.{Good, Within};
+ghost use Rattle.chain.specs.Bytes.{scatter, writable_of, writable_rest};
 
 use crate::{Buffer, Chain, Fault, Segment};
 use guest_memory::GuestMemory;
@@ -185,8 +189,52 @@ fn empty_segments_are_passed_over(rt: HostRuntime) -> Result<(), Fail> {
     Ok(())
 }
 
-/// Fills the part that is lent from a place on, and answers how long it is.
+/// `write_part` with memory in front, where a proof looks for what is lent. Proved by hand, from the contract of
+/// `write_part` alone.
+fn lent_part<'m, A: Allocator>(
+    mem: &'m mut GuestMemory<A>,
+    chain: &Chain,
+    place: u64,
+    most: u64,
+) -> &'m mut [u8]
+    requires inside { All (Within mem.old) chain.now }
+    requires in_list { place < length (writable_of chain.now) }
+    requires some { 0 < most }
+    ensures* writes_back { sem 𝓛 (LendsPart A.row A.Allocator mem.entry
+        (writable_rest chain.now place).addr result) }
+    ensures value { result.now ≡
+        part_of mem.old (writable_rest chain.now place).addr (length result.now) }
+    ensures len { length result.now ≡ min most (writable_rest chain.now place).len }
+    ensures some { 0 < length result.now }
+    ensures listed { (bytes : List ℕ) → length bytes ≡ length result.now →
+        put mem.old (writable_rest chain.now place).addr bytes ≡
+        scatter mem.old (drop place (writable_of chain.now)) bytes }
+{
+    chain.write_part(mem, place, most)
+}
+
+/// Fills the part that is lent from a place on, and answers how long it is. That memory then has the byte at
+/// these places of the list, and nothing else changed, is proved from the contract of `write_part` alone.
 fn fill_part<A: Allocator>(
+    mem: &mut GuestMemory<A>,
+    chain: &Chain,
+    place: u64,
+    most: u64,
+    byte: u8,
+) -> usize
+    requires inside { All (Within mem.old) chain.now }
+    requires in_list { place < length (writable_of chain.now) }
+    requires some { 0 < most }
+    ensures { mem.new ≡
+        scatter mem.old (drop place (writable_of chain.now)) (replicate result byte) }
+{
+    let part = lent_part(mem, chain, place, most);
+    part.fill(byte);
+    part.len()
+}
+
+/// The same of a chain of these buffers: no byte of none.
+fn fill_part_of<A: Allocator>(
     mem: &mut GuestMemory<A>,
     buffers: &[Buffer],
     place: u64,
@@ -197,9 +245,7 @@ fn fill_part<A: Allocator>(
     if place >= chain.writable_len() || most == 0 {
         return Ok(0);
     }
-    let part = chain.write_part(mem, place, most);
-    part.fill(byte);
-    Ok(part.len())
+    Ok(fill_part(mem, &chain, place, most, byte))
 }
 
 #[test]
@@ -218,7 +264,7 @@ fn a_part_ends_with_its_segment(rt: HostRuntime) -> Result<(), Fail> {
         (1, 1, 0x33, 1, 0x2222_3311),
         (4, 9, 0x44, 1, 0x4422_3311),
     ] {
-        let len = fill_part(&mut mem, &buffers, place, most, byte)?;
+        let len = fill_part_of(&mut mem, &buffers, place, most, byte)?;
         assert_eq!(rt; (len, mem.get_u64(BASE)), (lent, Some(first)));
     }
     Ok(())
