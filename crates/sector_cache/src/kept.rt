@@ -84,11 +84,17 @@ impl<A: Allocator + Copy> Kept<A> {
     pub(crate) fn put(&mut self, sector: u64, bytes: &[u8; 512])
         ensures { MayKeep sector bytes.now self.old self.new }
     {
-        *self.last = *bytes;
-        self.keep_last(sector);
+        let Some(block) = block_of(self.alloc, self.spare.take(), bytes) else {
+            return;
+        };
+        match self.sectors.push(sector, Some(block)) {
+            Ok(Some((_, block))) => self.spare = block,
+            Ok(None) => {}
+            Err(AllocFailed { value: (_, block) }) => self.spare = block,
+        }
     }
 
-    /// The same of the last bytes.
+    /// The same of the last bytes, whose block is kept itself.
     pub(crate) fn keep_last(&mut self, sector: u64)
         ensures keeps { MayKeep sector (last_of self.old) self.old self.new }
         ensures last { kept_of self.new sector ≡ None → last_of self.new ≡ last_of self.old }
@@ -112,6 +118,19 @@ impl<A: Allocator + Copy> Kept<A> {
         if let Some(block) = block {
             self.spare = Some(mem::replace(&mut self.last, block));
         }
+    }
+}
+
+/// A block of these bytes: what is spared, or new.
+fn block_of<A: Allocator>(alloc: A, spare: Option<Block<A>>, bytes: &[u8; 512]) -> Option<Block<A>>
+    ensures { IfSome result (λ block. box_value block ≡ bytes.now) }
+{
+    match spare {
+        Some(mut block) => {
+            *block = *bytes;
+            Some(block)
+        }
+        None => Box::new(alloc, *bytes).ok(),
     }
 }
 
