@@ -1,7 +1,5 @@
 //! Worked values of the images and the cache, and what a caller can prove over any image.
 
-ghost use Rattle.std.specs.Prelude.{◌≡◌};
-
 mod blind;
 mod both;
 mod files;
@@ -19,8 +17,10 @@ use crate::{
 };
 use blind::BlindImage;
 use gather::gather;
-use sectors::filled;
+use sectors::{Given, filled, halves_of};
 use std::alloc::{AllocError, Global};
+use std::fmt::Debug;
+use std::process::Abort;
 use std::test::Fail;
 
 /// Bytes by half sectors: 256 of each of these.
@@ -32,112 +32,128 @@ fn halves(alloc: Global, each: &[u8]) -> Result<Vec<u8>, AllocError> {
     Ok(bytes)
 }
 
+/// Tells of which row something else was found than what is wanted. The one assertion with a message: a message is
+/// dear to prove.
+fn same<R: Debug, T: PartialEq + Debug>(rt: &impl Abort, row: &R, found: &T, wanted: &T) {
+    assert_eq!(rt; found, wanted, "{row:?}");
+}
+
+/// A length, and why there is no image of so many bytes.
+type Length = (usize, Option<ImageFault>);
+
+const LENGTHS: [Length; 3] = [(0, None), (511, Some(ImageFault::BadSize)), (512, None)];
+
+fn check_length(rt: &impl Abort, alloc: Global, row: &Length) -> Result<(), Fail> {
+    let (length, fault) = *row;
+    let memory = MemoryImage::new(vec![in alloc; 7u8; length]?).err();
+    let scripted = ScriptedImage::new(vec![in alloc; 7u8; length]?, Vec::new(alloc)).err();
+    same(rt, row, &(memory, scripted), &(fault, fault));
+    Ok(())
+}
+
 #[test]
 fn images_have_whole_sectors(rt: HostRuntime) -> Result<(), Fail> {
-    for (length, fault) in [(0, None), (511, Some(ImageFault::BadSize)), (512, None)] {
-        let memory = MemoryImage::new(vec![in rt.alloc(); 7u8; length]?);
-        assert_eq!(rt; memory.err(), fault, "{length} bytes in memory");
-        let failing = Vec::new(rt.alloc());
-        let scripted = ScriptedImage::new(vec![in rt.alloc(); 7u8; length]?, failing);
-        assert_eq!(rt; scripted.err(), fault, "{length} bytes with a script");
+    for row in &LENGTHS {
+        check_length(&rt, rt.alloc(), row)?;
     }
+    Ok(())
+}
+
+/// A capacity, and why there is no cache of so many sectors.
+type Capacity = (u32, Option<CacheFault>);
+
+const CAPACITIES: [Capacity; 4] = [
+    (0, Some(CacheFault::BadCapacity)),
+    (1, None),
+    (65536, None),
+    (65537, Some(CacheFault::BadCapacity)),
+];
+
+fn check_capacity(rt: &impl Abort, alloc: Global, row: &Capacity) -> Result<(), Fail> {
+    let (capacity, fault) = *row;
+    let image = MemoryImage::new(halves(alloc, &[0x10, 0x10])?)?;
+    let (image, answer) = match SectorCache::new(alloc, image, capacity) {
+        Ok(cache) => (cache.into_image(), None),
+        Err(refused) => (refused.image, Some(refused.why)),
+    };
+    let stays = image.bytes() == filled(0x10).as_slice();
+    same(rt, row, &(answer, stays), &(fault, true));
     Ok(())
 }
 
 #[test]
 fn caches_have_1_to_65536_sectors(rt: HostRuntime) -> Result<(), Fail> {
-    for (capacity, fault) in [
-        (0, Some(CacheFault::BadCapacity)),
-        (1, None),
-        (65536, None),
-        (65537, Some(CacheFault::BadCapacity)),
-    ] {
-        let image = MemoryImage::new(halves(rt.alloc(), &[0x10, 0x10])?)?;
-        let (image, answer) = match SectorCache::new(rt.alloc(), image, capacity) {
-            Ok(cache) => (cache.into_image(), None),
-            Err(refused) => (refused.image, Some(refused.why)),
-        };
-        assert_eq!(rt; answer, fault, "capacity {capacity}");
-        assert_eq!(rt; image.bytes(), filled(0x10).as_slice());
+    for row in &CAPACITIES {
+        check_capacity(&rt, rt.alloc(), row)?;
     }
     Ok(())
 }
 
-/// Reads sector 0, writes 55 into sector 1, flushes and reads sector 1, and answers which succeeded.
-pub(crate) fn four_calls<I: Image>(
-    image: &mut I,
-    zero: &mut [u8; 512],
-    one: &mut [u8; 512],
-) -> [bool; 4]
-    requires { (I.disk image.old).sector_count ≡ 2 }
-{
-    let read = image.read_sector(0, zero).is_ok();
+/// What `four_calls` gives: of each read the byte of each half of the sector, or none where it fails; whether the
+/// write and the flush succeed.
+pub(crate) type Answers = (Given, [bool; 2], Given);
+
+/// Reads sector 0, writes 55 into sector 1, flushes and reads sector 1, of an image of two sectors.
+pub(crate) fn four_calls<I: Image>(image: &mut I) -> Option<Answers> {
+    if image.sectors() != 2 {
+        return None;
+    }
+    let (mut zero, mut one) = (filled(0), filled(0));
+    let read = image.read_sector(0, &mut zero).is_ok();
     let written = image.write_sector(1, &filled(0x55)).is_ok();
     let flushed = image.flush().is_ok();
-    [read, written, flushed, image.read_sector(1, one).is_ok()]
+    let read_again = image.read_sector(1, &mut one).is_ok();
+    Some((
+        given(read, &zero),
+        [written, flushed],
+        given(read_again, &one),
+    ))
+}
+
+/// The byte of each half of a sector that was read.
+fn given(read: bool, bytes: &[u8; 512]) -> Given {
+    if read { halves_of(bytes) } else { None }
+}
+
+/// The call that fails, or 4 for none; what the calls give; the halves that are left in sector 1.
+type Listed = (u64, Answers, [u8; 2]);
+
+const LISTED: [Listed; 5] = [
+    (
+        4,
+        (Some([0x10, 0x10]), [true, true], Some([0x55, 0x55])),
+        [0x55, 0x55],
+    ),
+    (0, (None, [true, true], Some([0x55, 0x55])), [0x55, 0x55]),
+    (
+        1,
+        (Some([0x10, 0x10]), [false, true], Some([0x55, 0x11])),
+        [0x55, 0x11],
+    ),
+    (
+        2,
+        (Some([0x10, 0x10]), [true, false], Some([0x55, 0x55])),
+        [0x55, 0x55],
+    ),
+    (3, (Some([0x10, 0x10]), [true, true], None), [0x55, 0x55]),
+];
+
+fn check_listed(rt: &impl Abort, alloc: Global, row: &Listed) -> Result<(), Fail> {
+    let (fails, answers, [first, second]) = *row;
+    let bytes = halves(alloc, &[0x10, 0x10, 0x11, 0x11])?;
+    let mut image = ScriptedImage::new(bytes, vec![in alloc; fails; 1]?)?;
+    let found = (four_calls(&mut image), image.calls(), image.flushes());
+    same(rt, row, &found, &(Some(answers), 4, 1));
+    let left = halves(alloc, &[0x10, 0x10, first, second])?;
+    same(rt, row, &image.into_bytes(), &left);
+    Ok(())
 }
 
 #[test]
 fn listed_calls_fail(rt: HostRuntime) -> Result<(), Fail> {
-    // The call that fails, or 4 for none; which succeed; the halves of sector 1 from the write on.
-    let cases = [
-        (4, [true, true, true, true], 0x55, 0x55),
-        (0, [false, true, true, true], 0x55, 0x55),
-        (1, [true, false, true, true], 0x55, 0x11),
-        (2, [true, true, false, true], 0x55, 0x55),
-        (3, [true, true, true, false], 0x55, 0x55),
-    ];
-    for (fails, succeed, first, second) in cases {
-        let bytes = halves(rt.alloc(), &[0x10, 0x10, 0x11, 0x11])?;
-        let mut image = ScriptedImage::new(bytes, vec![in rt.alloc(); fails; 1]?)?;
-        assert_eq!(rt; image.sectors(), 2);
-        let (mut zero, mut one) = (filled(0), filled(0));
-        let answers = four_calls(&mut image, &mut zero, &mut one);
-        assert_eq!(rt; (answers, image.calls(), image.flushes()), (succeed, 4, 1));
-        assert!(rt; fails == 0 || zero == filled(0x10), "call {fails} fails");
-        let torn = halves(rt.alloc(), &[first, second])?;
-        assert!(rt;
-            fails == 3 || one.as_slice() == torn.as_slice(),
-            "call {fails} fails"
-        );
-        let left = halves(rt.alloc(), &[0x10, 0x10, first, second])?;
-        assert_eq!(rt; image.into_bytes(), left, "call {fails} fails");
+    for row in &LISTED {
+        check_listed(&rt, rt.alloc(), row)?;
     }
-    Ok(())
-}
-
-/// Over three sectors: reads 0, writes 55 into 2, aa into 0, flushes, and reads 2 and 0. The write
-/// into 2 alone is to fail, or the first call that fails beside it is handed on.
-fn write_beside_torn<I: Image>(
-    cache: &mut SectorCache<I>,
-    torn: &mut [u8; 512],
-    bytes: &mut [u8; 512],
-) -> Result<bool, ImageError>
-    requires { (I.disk cache.old).sector_count ≡ 3 }
-{
-    cache.read(0, bytes)?;
-    let fails = cache.write(2, &filled(0x55)).is_err();
-    cache.write(0, &filled(0xaa))?;
-    cache.flush()?;
-    cache.read(2, torn)?;
-    cache.read(0, bytes)?;
-    Ok(fails)
-}
-
-#[test]
-fn a_torn_sector_is_read_as_it_stands(rt: HostRuntime) -> Result<(), Fail> {
-    let bytes = halves(rt.alloc(), &[0x10, 0x10, 0x11, 0x11, 0x12, 0x12])?;
-    let image = ScriptedImage::new(bytes, vec![in rt.alloc(); 1u64; 1]?)?;
-    let mut cache = SectorCache::new(rt.alloc(), image, 1).map_err(|refused| refused.why)?;
-    assert_eq!(rt; cache.image().sectors(), 3);
-    let (mut torn, mut bytes) = (filled(0), filled(0));
-    assert!(rt; write_beside_torn(&mut cache, &mut torn, &mut bytes)?);
-    assert_eq!(rt;
-        torn.as_slice(),
-        halves(rt.alloc(), &[0x55, 0x12])?.as_slice()
-    );
-    assert_eq!(rt; bytes, filled(0xaa));
-    assert_eq!(rt; cache.image().flushes(), 1);
     Ok(())
 }
 

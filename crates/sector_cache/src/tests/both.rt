@@ -1,10 +1,12 @@
 //! The cache beside the one that keeps nothing, over the same calls: what is kept makes no difference.
 
 use crate::tests::plain::PlainCache;
-use crate::tests::sectors::{Call, call_of};
+use crate::tests::same;
+use crate::tests::sectors::{Call, Given, call_of};
 use crate::tests::switched::SwitchedImage;
 use crate::{MemoryImage, SectorCache};
 use std::alloc::Global;
+use std::process::Abort;
 use std::test::Fail;
 
 /// Sixty-four sectors of zeros.
@@ -40,40 +42,70 @@ fn next_call(numbers: &mut Numbers) -> Call {
     }
 }
 
-/// A hundred thousand calls, of which one in eight meets images that fail.
+/// The cache and the one that keeps nothing, and how often a read of what is kept succeeded where the image failed.
+#[derive(Drop)]
+struct Both {
+    cache: SectorCache<SwitchedImage>,
+    plain: PlainCache<SwitchedImage>,
+    kept: u64,
+}
+
+impl Both {
+    fn new(alloc: Global) -> Result<Both, Fail> {
+        let cache = SectorCache::new(alloc, zeros(alloc)?, 7).map_err(|refused| refused.why)?;
+        let plain = PlainCache {
+            image: zeros(alloc)?,
+        };
+        Ok(Both {
+            cache,
+            plain,
+            kept: 0,
+        })
+    }
+
+    /// Makes a call of both, of which the images may fail. Where only the read of what is kept succeeds, the other
+    /// is called once more, over an image that doesn't fail.
+    fn call(&mut self, call: Call, fails: bool) -> (Given, Given) {
+        self.cache.image().fails.set(fails);
+        self.plain.image.fails.set(fails);
+        let given = call_of(&mut self.cache, call);
+        let wanted = self.plain.call_of(call);
+        let is_read = matches!(call, Call::Read(_));
+        if !(fails && is_read && given.is_some() && wanted.is_none()) {
+            return (given, wanted);
+        }
+        self.kept = self.kept.wrapping_add(1);
+        self.plain.image.fails.set(false);
+        (given, self.plain.call_of(call))
+    }
+}
+
+/// Makes one call, which in one of eight cases meets images that fail.
+fn check_call(rt: &impl Abort, both: &mut Both, numbers: &mut Numbers) {
+    let call = next_call(numbers);
+    let (given, wanted) = both.call(call, numbers.of_bits(3) == 0);
+    same(rt, &call, &given, &wanted);
+}
+
+/// A hundred thousand calls.
 #[test]
 fn what_is_kept_makes_no_difference(rt: HostRuntime) -> Result<(), Fail> {
-    let image = zeros(rt.alloc())?;
-    let mut cache = SectorCache::new(rt.alloc(), image, 7).map_err(|refused| refused.why)?;
-    let mut plain = PlainCache {
-        image: zeros(rt.alloc())?,
-    };
+    let mut both = Both::new(rt.alloc())?;
     let mut numbers = Numbers { state: 20_261_122 };
-    let mut kept = 0u64;
-    for number in 0..100_000 {
-        let call = next_call(&mut numbers);
-        let fails = numbers.of_bits(3) == 0;
-        cache.image().fails.set(fails);
-        plain.image.fails.set(fails);
-        let given = call_of(&mut cache, call);
-        let mut want = plain.call_of(call);
-        if given.is_some() && want.is_none() {
-            // Only a read of what is kept succeeds where the image fails.
-            assert!(rt;
-                fails && matches!(call, Call::Read(_)),
-                "call {number}: {call:?}"
-            );
-            kept = kept.wrapping_add(1);
-            plain.image.fails.set(false);
-            want = plain.call_of(call);
-        }
-        assert_eq!(rt; given, want, "call {number}: {call:?}");
+    for _ in 0..100_000 {
+        check_call(&rt, &mut both, &mut numbers);
     }
-    assert!(rt; cache.image().memory.bytes() == plain.image.memory.bytes());
-    assert_eq!(rt;
-        cache.image().failures.wrapping_add(kept),
-        plain.image.failures
+    let image = both.cache.image();
+    let found = (
+        image.memory.bytes() == both.plain.image.memory.bytes(),
+        image.failures.wrapping_add(both.kept),
+        both.kept > 100,
     );
-    assert!(rt; kept > 100);
+    same(
+        &rt,
+        &"at the end",
+        &found,
+        &(true, both.plain.image.failures, true),
+    );
     Ok(())
 }
