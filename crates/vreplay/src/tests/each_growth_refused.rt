@@ -21,7 +21,7 @@ r 0 b 000 4
 /// An end: what is written, and the status.
 type End = (&'static [u8], u8);
 
-const AMPLE: End = (
+static AMPLE: End = (
     b"0 v:00000003 - 0 0
 0 b:0000 - 0 0
 0 done 41 0 0
@@ -33,7 +33,7 @@ const AMPLE: End = (
 
 /// The ends where one request is refused, in their order: one of those before the second record, the bytes that are
 /// read, the byte that is put out, and the room for the fifth record.
-const ALONE: [End; 4] = [
+static ALONE: [End; 4] = [
     (b"fault memory\n", 3),
     (
         b"0 v:00000003 - 0 0
@@ -65,7 +65,7 @@ fault memory
 ];
 
 /// The same where all that come after it are refused too.
-const LASTING: [End; 4] = [
+static LASTING: [End; 4] = [
     (b"fault memory\n", 3),
     (
         b"0 v:00000003 - 0 0

@@ -123,7 +123,7 @@ const INPUT: &[u8] = b"fault input\n";
 type Row = (Names<'static>, &'static [u8], u8);
 
 /// `.` is the folder, and no file is called `missing`.
-const ENDS: [Row; 19] = [
+static ENDS: [Row; 19] = [
     (("trace", "image", PLAIN), RECORDS, 0),
     (("trace", "empty", PLAIN), b"fault board ExtentOutside\n", 1),
     (("trace", "ragged", SAVED), INPUT, 3),

@@ -8,7 +8,7 @@ use std::test::Fail;
 
 /// A driver sets a split queue of four up and writes sector 2 from its memory: a header of 16 bytes, 512 bytes
 /// of data of which the first four and the last are no zeros, and the status.
-pub const WRITING: &[u8] = b"vreplay 1\n\
+pub static WRITING: &[u8] = b"vreplay 1\n\
 cache 8\n\
 slot 80000000 10000 0 8 rw 50 19\n\
 w 0 b 070 4 00000000\n\
@@ -43,7 +43,7 @@ mr 0 80006000 1\n";
 
 /// Its records: what was set up and filled in, the notification, the used ring with one byte written, and the
 /// status.
-pub const WRITTEN: &[u8] = b"0 done - 0 0\n\
+pub static WRITTEN: &[u8] = b"0 done - 0 0\n\
 0 done - 0 0\n\
 0 done - 0 0\n\
 0 done - 0 0\n\
@@ -132,7 +132,7 @@ fn the_image_itself_is_saved_to(rt: HostRuntime) -> Result<(), Fail> {
 
 /// A driver sets a split queue of four up and reads sector 0 into its memory: a header of 16 zero bytes, room for
 /// 512 bytes, and the status.
-const READING: &[u8] = b"vreplay 1\n\
+static READING: &[u8] = b"vreplay 1\n\
 cache 8\n\
 slot 80000000 10000 0 8 rw 50 19\n\
 w 0 b 070 4 00000000\n\
@@ -166,7 +166,7 @@ r 0 b 060 4\n";
 
 /// Its records: what was set up and filled in, the notification, the used ring with 513 bytes written, the status, the
 /// first bytes of the sector, and the interrupt.
-const READ: &[u8] = b"0 done - 0 0\n\
+static READ: &[u8] = b"0 done - 0 0\n\
 0 done - 0 0\n\
 0 done - 0 0\n\
 0 done - 0 0\n\
