@@ -66,7 +66,7 @@ fn expect_row(
 
 /// A driver that sets a split queue of four up, reads the last sector into its memory, puts four other bytes in
 /// front of what it read, and writes that back.
-pub(super) static LAST_SECTOR: &[u8] = b"vreplay 1\n\
+pub(super) const LAST_SECTOR: &[u8] = b"vreplay 1\n\
 cache 8\n\
 slot 80000000 10000 0 8 rw 50 19\n\
 w 0 b 070 4 00000003\n\
@@ -99,7 +99,7 @@ mr 0 80006000 1\n";
 
 /// Its records: the last bytes of the sector and the byte after them, the status, the used ring with 513 bytes and
 /// then one byte written, and the status.
-pub(super) static LAST_RECORDS: &[u8] = b"0 done - 0 0\n\
+pub(super) const LAST_RECORDS: &[u8] = b"0 done - 0 0\n\
 0 done - 0 0\n\
 0 done - 0 0\n\
 0 done - 0 0\n\
