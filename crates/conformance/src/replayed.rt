@@ -2,9 +2,10 @@
 
 use crate::finding::Finding;
 use crate::scenario::{AFTER, BEFORE, RECORDS, Scenario};
-use sector_cache::ScriptedImage;
+use sector_cache::{Image, ScriptedImage};
 use std::alloc::{AllocError, Global};
-use trace::{finish, replay};
+use std::io::{Read, Write};
+use trace::{ReplayFault, finish, replay};
 
 /// A part that says what must be found, and what was found.
 #[derive(Drop)]
@@ -46,13 +47,23 @@ fn image_of(alloc: Global, scenario: &Scenario, before: &[u8]) -> Result<Scripte
 fn replay_over(alloc: Global, trace: &[u8], image: ScriptedImage) -> Replayed {
     let mut output = Vec::new(alloc);
     let mut reader = trace;
-    let (image, outcome) = replay(alloc, &mut reader, &mut output, image);
+    let (image, outcome) = replay_any(alloc, &mut reader, &mut output, image);
     let status = finish(&outcome, &mut output);
     Replayed {
         output,
         status,
         image,
     }
+}
+
+// Replays over any streams and any image. What `replay` promises of them isn't needed here, and is dear to prove of these.
+fn replay_any<R: Read, W: Write, I: Image>(
+    alloc: Global,
+    reader: &mut R,
+    writer: &mut W,
+    image: I,
+) -> (I, Result<(), ReplayFault>) {
+    replay(alloc, reader, writer, image)
 }
 
 // What was replayed, in the words of a scenario's files and beside them.

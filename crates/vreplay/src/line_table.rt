@@ -36,7 +36,7 @@ const COLUMNS: Shape = Shape::Number("a number of columns", 16);
 const ROWS: Shape = Shape::Number("a number of rows", 16);
 
 /// The lines from the second on.
-const TABLE: [Row; 8] = [
+static TABLE: [Row; 8] = [
     Row {
         word: "cache",
         shapes: &[Shape::Number("a number of sectors", 32)],

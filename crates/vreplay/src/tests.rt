@@ -8,7 +8,6 @@ mod input;
 mod machine;
 mod order;
 mod over_files;
-mod refused;
 mod stopped;
 mod told;
 mod word_lists;

@@ -88,18 +88,16 @@ fn parse<'a>(alloc: Global, words: &'a [String]) -> Result<ArgMatches<'a>, Error
     ensures matches { IfOk result (HasMatchesOf vreplay (texts_of words.now)) }
     ensures kinds { FailsBy (fault_of vreplay (texts_of words.now)) result }
 {
-    let trace = Arg::new(alloc, "trace");
-    let image = Arg::new(alloc, "image");
-    let save = Arg::new(alloc, "save").long("save");
-    let in_place = Arg::new(alloc, "in-place")
-        .long("in-place")
-        .action(ArgAction::SetTrue);
     Command::new(alloc, "vreplay")
         .no_binary_name(true)
-        .arg(trace)?
-        .arg(image)?
-        .arg(save)?
-        .arg(in_place)?
+        .arg(Arg::new(alloc, "trace"))?
+        .arg(Arg::new(alloc, "image"))?
+        .arg(Arg::new(alloc, "save").long("save"))?
+        .arg(
+            Arg::new(alloc, "in-place")
+                .long("in-place")
+                .action(ArgAction::SetTrue),
+        )?
         .try_get_matches_from(words)
 }
 

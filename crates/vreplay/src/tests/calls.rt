@@ -33,7 +33,7 @@ pub enum Image {
 }
 
 /// A replay over files that saves, of which nothing fails.
-pub const SAVING: Call<'static> = Call {
+pub static SAVING: Call<'static> = Call {
     words: &["trace", "image", "--save", "saved"],
     input: b"",
     trace: TRACE,

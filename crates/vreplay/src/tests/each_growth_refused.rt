@@ -1,7 +1,7 @@
 //! Each request for memory refused in turn, alone and with all that come after it, where guests' bytes take memory too.
 
 use super::calls::{Call, Done, SAVING, made};
-use super::numbered_image;
+use super::{numbered_image, same};
 use refusing::RefusingHeap;
 use std::process::Abort;
 use std::test::Fail;
@@ -21,7 +21,7 @@ r 0 b 000 4
 /// An end: what is written, and the status.
 type End = (&'static [u8], u8);
 
-const AMPLE: End = (
+static AMPLE: End = (
     b"0 v:00000003 - 0 0
 0 b:0000 - 0 0
 0 done 41 0 0
@@ -33,7 +33,7 @@ const AMPLE: End = (
 
 /// The ends where one request is refused, in their order: one of those before the second record, the bytes that are
 /// read, the byte that is put out, and the room for the fifth record.
-const ALONE: [End; 4] = [
+static ALONE: [End; 4] = [
     (b"fault memory\n", 3),
     (
         b"0 v:00000003 - 0 0
@@ -65,7 +65,7 @@ fault memory
 ];
 
 /// The same where all that come after it are refused too.
-const LASTING: [End; 4] = [
+static LASTING: [End; 4] = [
     (b"fault memory\n", 3),
     (
         b"0 v:00000003 - 0 0
@@ -96,55 +96,68 @@ fault memory
     ),
 ];
 
-/// The end of a call, where FILE was written exactly with status 0 and the image's own file is as it was.
+/// A call, whether it saves, and whether all requests after the refused one are refused too.
+#[derive(Clone, Copy)]
+struct Case {
+    call: Call<'static>,
+    saves: bool,
+    lasts: bool,
+}
+
+/// The end of a call, where FILE was written exactly with status 0, the image's own file is as it was, and a person is
+/// told of the want of memory exactly with another status.
 fn end_of<'a>(done: &'a Done, saves: bool, image: &[u8]) -> Option<(&'a [u8], u8)> {
-    let saved = if saves && done.status == 0 {
-        image
+    let is_done = done.status == 0;
+    let saved = if saves && is_done { image } else { b"kept" };
+    let is_told = if is_done {
+        done.told.is_empty()
     } else {
-        b"kept"
+        done.told.starts_with(b"no memory for the ")
     };
-    if done.held.saved.as_slice() == saved && done.held.image.as_slice() == image {
+    let is_held = done.held.saved.as_slice() == saved && done.held.image.as_slice() == image;
+    if is_told && is_held {
         Some((done.output.as_slice(), done.status))
     } else {
         None
     }
 }
 
-/// How often each end is found as each request is refused in turn, alone or with all that come after it, until a call
-/// meets none. The ends are found in their order.
-fn times(
+/// Which of the ends a call comes to where this request is refused, and none where it meets no refusal.
+fn place_of(
     rt: &(impl Abort + AllocGlobal),
-    words: &'static [&'static str],
-    saves: bool,
-    lasts: bool,
-) -> Result<[u32; 4], Fail> {
-    let heap = RefusingHeap::new(rt.alloc());
+    heap: &RefusingHeap,
+    case: &Case,
+    n: u64,
+) -> Result<Option<usize>, Fail> {
+    if case.lasts {
+        heap.refuse_from(n)
+    } else {
+        heap.refuse_only(n)
+    }
+    let done = made(rt, heap, case.call)?;
     let image = numbered_image(rt.alloc())?;
-    let call = Call {
-        words,
-        input: TRACE,
-        trace: TRACE,
-        ..SAVING
-    };
-    let mut times = [0; 4];
+    let end = end_of(&done, case.saves, &image);
+    if !heap.has_refused() {
+        same(rt, &n, &end, &Some(AMPLE));
+        return Ok(None);
+    }
+    let ends = if case.lasts { &LASTING } else { &ALONE };
+    Ok(Some(ends.iter().position(|it| end == Some(*it)).unwrap_or(4)))
+}
+
+/// How often each end is found as each request is refused in turn, until a call meets none. The ends are found in their
+/// order.
+fn times(rt: &(impl Abort + AllocGlobal), case: &Case) -> Result<[u32; 4], Fail> {
+    let heap = RefusingHeap::new(rt.alloc());
+    let mut times = [0u32; 4];
     let mut place = 0;
     for n in 1..100 {
-        if lasts {
-            heap.refuse_from(n)
-        } else {
-            heap.refuse_only(n)
-        }
-        let done = made(rt, &heap, call)?;
-        let end = end_of(&done, saves, &image);
-        if !heap.has_refused() {
-            assert!(rt; end == Some(AMPLE));
+        let Some(next) = place_of(rt, &heap, case, n)? else {
             return Ok(times);
-        }
-        let ends = if lasts { &LASTING } else { &ALONE };
-        match ends.iter().position(|it| end == Some(*it)) {
-            Some(it) if it >= place => place = it.min(3),
-            _ => panic!(rt; "request {n} of {words:?}, lasting: {lasts}"),
-        }
+        };
+        let row = (n, case.call.words, case.lasts);
+        same(rt, &row, &(place <= next && next < 4), &true);
+        place = next.min(3);
         times[place] = times[place].saturating_add(1);
     }
     panic!(rt; "memory was never ample")
@@ -152,15 +165,32 @@ fn times(
 
 /// The trace's text, its slot and its events twice, the slots, a memory, the room for what is typed, the cache, the
 /// records' text and the room for the first record are asked for before the guest's bytes.
+fn check_case(rt: &(impl Abort + AllocGlobal), case: &Case) -> Result<(), Fail> {
+    let [before, read, put_out, more] = times(rt, case)?;
+    let row = (case.call.words, case.lasts);
+    same(
+        rt,
+        &row,
+        &(before > 9, [read, put_out, more]),
+        &(true, [1; 3]),
+    );
+    Ok(())
+}
+
+/// The call with these words, with one request refused, and with all that come after it.
 fn check_call(
     rt: &(impl Abort + AllocGlobal),
     words: &'static [&'static str],
     saves: bool,
 ) -> Result<(), Fail> {
+    let call = Call {
+        words,
+        input: TRACE,
+        trace: TRACE,
+        ..SAVING
+    };
     for lasts in [false, true] {
-        let [before, read, put_out, more] = times(rt, words, saves, lasts)?;
-        assert!(rt; before > 9);
-        assert_eq!(rt; [read, put_out, more], [1; 3]);
+        check_case(rt, &Case { call, saves, lasts })?;
     }
     Ok(())
 }

@@ -12,7 +12,7 @@ use std::test::Fail;
 /// sector, sync it. A guest whose request failed finds the status 01.
 type Row = (u32, usize, &'static [u8], u8, u32, usize);
 
-const ROWS: [Row; 10] = [
+static ROWS: [Row; 10] = [
     (0, 512, b"fault input\n", 3, 1, 0),
     (1, 512, b"fault input\n", 3, 2, 0),
     (2, 512, b"fault input\n", 3, 3, 0),

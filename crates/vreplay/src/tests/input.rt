@@ -18,7 +18,7 @@ const CUT: &[u8] = b"vreplay 1\ncache 1\nslot 80000000 1000 0 8 rw 50 19\nr 0 c 
 /// An input of a call without words and a room for its output, with what is written and the status.
 type Row = (&'static [u8], usize, &'static [u8], u8);
 
-const INPUTS: [Row; 8] = [
+static INPUTS: [Row; 8] = [
     (TRACE, 1000, RECORDS, 0),
     (NINTH, 1000, b"fault board ExtentOutside\n", 1),
     (b"", 1000, b"fault trace 1 Cut\n", 1),
@@ -51,7 +51,7 @@ fn expect_output(rt: &(impl Abort + AllocGlobal), row: &Row) -> Result<(), Fail>
 }
 
 /// Errors of reading the words, each with its last line and what a person is told.
-const ERRORS: [(ErrorKind, &[u8], &[u8]); 2] = [
+static ERRORS: [(ErrorKind, &[u8], &[u8]); 2] = [
     (
         ErrorKind::InvalidData,
         b"fault input\n",

@@ -16,7 +16,7 @@ type Row = (&'static [&'static str], &'static [u8], Image, End<'static>);
 /// The words come before the image, the image before the
 /// trace, the trace before its board, and that before the file to save to, which is not touched. Both files
 /// are opened, read and read to their end by three calls each.
-const ENDS: [Row; 18] = [
+static ENDS: [Row; 18] = [
     (
         &["trace", "none", "--save"],
         TRACE,

@@ -1,7 +1,7 @@
-//! Replays over real files, in a new folder for each test.
+//! Replays over real files, each in a new folder.
 
 use super::in_place::{LAST_RECORDS, LAST_SECTOR};
-use super::written::{WRITING, WRITTEN, written_image};
+use super::written::{Left, WRITING, WRITTEN, expect_bytes};
 use super::{RECORDS, TRACE, UNSAVED, numbered_image, same};
 use crate::fault::Fault;
 use crate::files::replay_files;
@@ -44,15 +44,10 @@ fn put(
     Ok(fs::write(rt, &path, bytes)?)
 }
 
-/// Writes the trace, the image and the other files of which a test needs some.
-fn make_files(
-    rt: &(impl AllocGlobal + Files),
-    folder: &str,
-    trace: &[u8],
-    image: &[u8],
-) -> Result<(), Fail> {
+/// Writes the trace, the numbered image and the other files of which a call needs some.
+fn make_files(rt: &(impl AllocGlobal + Files), folder: &str, trace: &[u8]) -> Result<(), Fail> {
     put(rt, folder, "trace", trace)?;
-    put(rt, folder, "image", image)?;
+    put(rt, folder, "image", &numbered_image(rt.alloc())?)?;
     put(rt, folder, "no_text", b"vreplay 1\ncache 1\n\xff\xfe\n")?;
     put(rt, folder, "ragged", &[0; 513])?;
     put(rt, folder, "short", &[0; 511])?;
@@ -99,16 +94,15 @@ where
     Ok(())
 }
 
-/// The file holds these bytes.
+/// The file holds this.
 fn expect_held(
     rt: &(impl Abort + AllocGlobal + Files),
     folder: &str,
     name: &str,
-    bytes: &[u8],
+    left: Left,
 ) -> Result<(), Fail> {
     let held = fs::read(rt, &path_of(rt, folder, name)?)?;
-    same(rt, &name, &held.as_slice(), &bytes);
-    Ok(())
+    expect_bytes(rt, name, &held, left)
 }
 
 const PLAIN: Keeping<'static> = Keeping::Unchanged;
@@ -120,10 +114,10 @@ const IN_PLACE: Keeping<'static> = Keeping::InPlace;
 const INPUT: &[u8] = b"fault input\n";
 
 /// Files that save nothing, with the end.
-type Row = (Names<'static>, &'static [u8], u8);
+type End = (Names<'static>, &'static [u8], u8);
 
 /// `.` is the folder, and no file is called `missing`.
-const ENDS: [Row; 19] = [
+static ENDS: [End; 19] = [
     (("trace", "image", PLAIN), RECORDS, 0),
     (("trace", "empty", PLAIN), b"fault board ExtentOutside\n", 1),
     (("trace", "ragged", SAVED), INPUT, 3),
@@ -156,84 +150,114 @@ const ENDS: [Row; 19] = [
 
 #[test]
 fn ends_that_save_nothing(rt: HostRuntime) -> Result<(), Fail> {
-    let folder = new_folder(&rt)?;
-    let image = numbered_image(rt.alloc())?;
-    make_files(&rt, &folder, TRACE, &image)?;
-    for row in &ENDS {
-        expect_nothing_saved(&rt, &folder, &image, row)?;
+    for end in &ENDS {
+        expect_nothing_saved(&rt, end)?;
     }
-    Ok(fs::remove_dir_all(&rt, &folder)?)
+    Ok(())
 }
 
 /// The call ends so, and the image and the file to save to are as they were.
-fn expect_nothing_saved<R: Abort + AllocGlobal + Eprint + Files>(
+fn expect_nothing_saved<R: Abort + AllocGlobal + Env + Eprint + Files>(
     rt: &R,
-    folder: &str,
-    image: &[u8],
-    row: &Row,
+    end: &End,
 ) -> Result<(), Fail>
 where
     R::File: BackingFile,
 {
-    let (names, output, status) = *row;
-    expect_end(rt, folder, names, output, status)?;
-    expect_held(rt, folder, "saved", b"kept")?;
-    expect_held(rt, folder, "image", image)
+    let (names, output, status) = *end;
+    let (saved, image) = (Left::Kept, Left::Numbered);
+    expect_row(rt, &(TRACE, names, output, status, "saved", saved, image))
 }
 
-/// A file is made, one that was longer is made anew, and the image's own is.
+/// A trace, the names and the end of a call over it, a file and what it then holds, and what the image does.
+type Row = (
+    &'static [u8],
+    Names<'static>,
+    &'static [u8],
+    u8,
+    &'static str,
+    Left,
+    Left,
+);
+
+static LEFT: [Row; 6] = [
+    // a file is made, one that was longer is made anew, and the image's own is
+    (
+        TRACE,
+        ("trace", "image", Keeping::Saved("made")),
+        RECORDS,
+        0,
+        "made",
+        Left::Numbered,
+        Left::Numbered,
+    ),
+    (
+        TRACE,
+        ("trace", "image", Keeping::Saved("longer")),
+        RECORDS,
+        0,
+        "longer",
+        Left::Numbered,
+        Left::Numbered,
+    ),
+    (
+        TRACE,
+        ("trace", "image", Keeping::Saved("image")),
+        RECORDS,
+        0,
+        "saved",
+        Left::Kept,
+        Left::Numbered,
+    ),
+    // what a guest wrote stands in the file that is saved to, and in the image's own only where that is the one
+    (
+        WRITING,
+        ("trace", "image", Keeping::Saved("made")),
+        WRITTEN,
+        0,
+        "made",
+        Left::Written,
+        Left::Numbered,
+    ),
+    (
+        WRITING,
+        ("trace", "image", Keeping::Saved("image")),
+        WRITTEN,
+        0,
+        "saved",
+        Left::Kept,
+        Left::Written,
+    ),
+    // the last sector of a file is read and written in place, and no other byte of it changes
+    (
+        LAST_SECTOR,
+        ("trace", "image", IN_PLACE),
+        LAST_RECORDS,
+        0,
+        "saved",
+        Left::Kept,
+        Left::LastWritten,
+    ),
+];
+
 #[test]
-fn an_image_that_no_guest_wrote_is_saved_as_it_was(rt: HostRuntime) -> Result<(), Fail> {
-    let folder = new_folder(&rt)?;
-    let image = numbered_image(rt.alloc())?;
-    make_files(&rt, &folder, TRACE, &image)?;
-    for name in &["made", "longer", "image"] {
-        expect_saved(&rt, &folder, name, RECORDS, &image)?;
+fn what_is_left(rt: HostRuntime) -> Result<(), Fail> {
+    for row in &LEFT {
+        expect_row(&rt, row)?;
     }
-    Ok(fs::remove_dir_all(&rt, &folder)?)
+    Ok(())
 }
 
-/// The call saves these bytes.
-fn expect_saved<R: Abort + AllocGlobal + Eprint + Files>(
-    rt: &R,
-    folder: &str,
-    name: &str,
-    records: &[u8],
-    image: &[u8],
-) -> Result<(), Fail>
+/// The call in a new folder ends so and leaves this.
+fn expect_row<R: Abort + AllocGlobal + Env + Eprint + Files>(rt: &R, row: &Row) -> Result<(), Fail>
 where
     R::File: BackingFile,
 {
-    let names = ("trace", "image", Keeping::Saved(name));
-    expect_end(rt, folder, names, records, 0)?;
-    expect_held(rt, folder, name, image)
-}
-
-/// What a guest wrote stands in the file that is saved to, and in the image's own only where that is the
-/// one.
-#[test]
-fn a_sector_that_a_guest_wrote_is_saved(rt: HostRuntime) -> Result<(), Fail> {
-    let folder = new_folder(&rt)?;
-    let image = numbered_image(rt.alloc())?;
-    let after = written_image(rt.alloc())?;
-    make_files(&rt, &folder, WRITING, &image)?;
-    expect_saved(&rt, &folder, "made", WRITTEN, &after)?;
-    expect_held(&rt, &folder, "image", &image)?;
-    expect_saved(&rt, &folder, "image", WRITTEN, &after)?;
-    Ok(fs::remove_dir_all(&rt, &folder)?)
-}
-
-/// The last sector of a file is read and written in place, and no other byte of it changes.
-#[test]
-fn a_file_is_served_in_place(rt: HostRuntime) -> Result<(), Fail> {
-    let folder = new_folder(&rt)?;
-    let image = numbered_image(rt.alloc())?;
-    let mut after = numbered_image(rt.alloc())?;
-    after.truncate(7 * 512);
-    after.extend_from_slice(b"ABCD")?;
-    after.extend_from_slice(&[0x17; 508])?;
-    make_files(&rt, &folder, LAST_SECTOR, &image)?;
-    expect_end(&rt, &folder, ("trace", "image", IN_PLACE), LAST_RECORDS, 0)?;
-    expect_held(&rt, &folder, "image", &after)?;
-    Ok(fs::remove_dir_all(&rt, &folder)?)
+    let (trace, names, output, status, file, left, image) = *row;
+    let folder = new_folder(rt)?;
+    make_files(rt, &folder, trace)?;
+    expect_end(rt, &folder, names, output, status)?;
+    expect_held(rt, &folder, file, left)?;
+    expect_held(rt, &folder, "image", image)?;
+    Ok(fs::remove_dir_all(rt, &folder)?)
 }

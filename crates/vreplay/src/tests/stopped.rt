@@ -13,7 +13,7 @@ const CALLS: u32 = 9;
 /// file to save to then holds; it holds the text `kept` where it wasn't opened.
 type Stop = (u32, &'static [u8], u8, Option<usize>);
 
-const STOPS: [Stop; 10] = [
+static STOPS: [Stop; 10] = [
     (0, b"fault input\n", 3, None),
     (1, b"fault input\n", 3, None),
     (2, b"fault input\n", 3, None),

@@ -15,7 +15,7 @@ fn expect_told(rt: &(impl Abort + AllocGlobal), call: Call<'_>, line: &str) -> R
 /// A trace of a call without words, and what is told of it.
 type Text = (&'static [u8], &'static str);
 
-const TEXTS: [Text; 13] = [
+static TEXTS: [Text; 13] = [
     (TRACE, ""),
     (
         b"",
@@ -90,10 +90,10 @@ fn expect_told_of(rt: &(impl Abort + AllocGlobal), input: &[u8], line: &str) -> 
 }
 
 /// What stands before each line of the next table.
-const HEAD: &[u8] = b"vreplay 1\ncache 1\nslot 80000000 1000 0 8 rw 50 19\nr 0 c 008 4\n";
+static HEAD: &[u8] = b"vreplay 1\ncache 1\nslot 80000000 1000 0 8 rw 50 19\nr 0 c 008 4\n";
 
 /// A fifth line, and what is told of it.
-const LINES: [Text; 20] = [
+static LINES: [Text; 20] = [
     (
         b"",
         "line 5: a line begins with slot, r, w, mr, mw, in or sz; found \"\"\n",
@@ -197,7 +197,7 @@ type Words = (&'static [&'static str], Image, u32, usize, &'static str);
 
 const ALL: u32 = u32::MAX;
 
-const FILES: [Words; 13] = [
+static FILES: [Words; 13] = [
     (&["trace", "image"], Image::Numbered, ALL, 1000, ""),
     (
         &["trace", "--sav", "\u{e9}"],
@@ -308,7 +308,7 @@ fn expect_told_of_files(rt: &(impl Abort + AllocGlobal), row: &Words) -> Result<
 /// Words and an input, and the end of the call, where standard error fails: it is the same.
 type Silent = (&'static [&'static str], &'static [u8], End<'static>);
 
-const SILENT: [Silent; 4] = [
+static SILENT: [Silent; 4] = [
     (&[], b"vreplay 2\n", (b"fault trace 1 Header\n", 1, 0)),
     (&["trace"], TRACE, (b"fault usage\n", 2, 0)),
     (&["trace", "none"], TRACE, (b"fault input\n", 3, 1)),

@@ -22,7 +22,7 @@ type Row = (
 );
 
 /// Every order.
-const CALLS: [Row; 27] = [
+static CALLS: [Row; 27] = [
     (&["t", "i"], "t", "i", PLAIN),
     (&["--", "t", "i"], "t", "i", PLAIN),
     (&["t", "--", "i"], "t", "i", PLAIN),
@@ -108,7 +108,7 @@ fn expect_read(
 
 /// Words that leave out a file, that the command refuses, that ask for help or a version, and that ask to save an
 /// image that is served in place.
-const REFUSED: [&[&str]; 51] = [
+static REFUSED: [&[&str]; 51] = [
     &["t"],
     &[""],
     &["--"],
@@ -174,7 +174,7 @@ fn words_that_name_no_call(rt: HostRuntime) -> Result<(), Fail> {
 type Line = (&'static [&'static str], usize, &'static [u8], u8);
 
 /// The last line is the program's own.
-const LINES: [Line; 15] = [
+static LINES: [Line; 15] = [
     (&["--help"], 1000, b"fault usage\n", 2),
     (&["--help"], 11, b"", 3),
     (&["--help"], 0, b"", 3),

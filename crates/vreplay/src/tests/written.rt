@@ -87,47 +87,13 @@ pub(super) fn written_image(heap: Global) -> Result<Vec<u8>, AllocError> {
     Ok(bytes)
 }
 
-/// FILE holds the image as the guest left it, and IMAGE what it held before.
-#[test]
-fn what_a_guest_wrote_is_saved(rt: HostRuntime) -> Result<(), Fail> {
-    let call = Call {
-        trace: WRITING,
-        ..SAVING
-    };
-    let before = numbered_image(rt.alloc())?;
-    let after = written_image(rt.alloc())?;
-    expect_left(&rt, call, WRITTEN, (&after, &before))
-}
-
-/// The call succeeds with these records, and this then stands in `saved` and in the image.
-fn expect_left(
-    rt: &(impl Abort + AllocGlobal),
-    call: Call<'_>,
-    records: &[u8],
-    files: (&[u8], &[u8]),
-) -> Result<(), Fail> {
-    let done = made(rt, rt.alloc(), call)?;
-    let found = (done.held.saved.as_slice(), done.held.image.as_slice());
-    same(
-        rt,
-        &call.words,
-        &(done.output.as_slice(), done.status),
-        &(records, 0),
-    );
-    same(rt, &call.words, &found, &files);
-    Ok(())
-}
-
-/// FILE may be IMAGE.
-#[test]
-fn the_image_itself_is_saved_to(rt: HostRuntime) -> Result<(), Fail> {
-    let call = Call {
-        words: &["trace", "image", "--save", "image"],
-        trace: WRITING,
-        ..SAVING
-    };
-    let after = written_image(rt.alloc())?;
-    expect_left(&rt, call, WRITTEN, (b"kept", &after))
+/// The numbered image with four other bytes in front of its last sector.
+fn last_written_image(heap: Global) -> Result<Vec<u8>, AllocError> {
+    let mut bytes = numbered_image(heap)?;
+    bytes.truncate(7 * 512);
+    bytes.extend_from_slice(b"ABCD")?;
+    bytes.extend_from_slice(&[0x17; 508])?;
+    Ok(bytes)
 }
 
 /// A driver sets a split queue of four up and reads sector 0 into its memory: a header of 16 zero bytes, room for
@@ -195,13 +161,86 @@ const READ: &[u8] = b"0 done - 0 0\n\
 0 b:10101010 - 1 0\n\
 0 v:00000001 - 1 0\n";
 
-/// What a guest reads leaves the image as it was, and so it is saved.
+/// What a file holds after a call.
+#[derive(Clone, Copy)]
+pub(super) enum Left {
+    /// What the file to save to held before.
+    Kept,
+    /// The numbered image.
+    Numbered,
+    /// The same with the sector of `WRITING`.
+    Written,
+    /// The same with the front of the last sector that a guest writes in place.
+    LastWritten,
+}
+
+impl Left {
+    pub(super) fn bytes(self, heap: Global) -> Result<Vec<u8>, AllocError> {
+        match self {
+            Left::Kept => b"kept".to_vec(heap),
+            Left::Numbered => numbered_image(heap),
+            Left::Written => written_image(heap),
+            Left::LastWritten => last_written_image(heap),
+        }
+    }
+}
+
+/// The words of a call that succeeds, its trace and its records, and what then stands in `saved` and in the image.
+type Row = (
+    &'static [&'static str],
+    &'static [u8],
+    &'static [u8],
+    Left,
+    Left,
+);
+
+const SAVED: &[&str] = &["trace", "image", "--save", "saved"];
+
+static ROWS: [Row; 3] = [
+    // FILE holds the image as the guest left it, and IMAGE what it held before
+    (SAVED, WRITING, WRITTEN, Left::Written, Left::Numbered),
+    // FILE may be IMAGE
+    (
+        &["trace", "image", "--save", "image"],
+        WRITING,
+        WRITTEN,
+        Left::Kept,
+        Left::Written,
+    ),
+    // what a guest reads leaves the image as it was, and so it is saved
+    (SAVED, READING, READ, Left::Numbered, Left::Numbered),
+];
+
 #[test]
-fn an_image_that_was_read_is_saved(rt: HostRuntime) -> Result<(), Fail> {
+fn what_is_saved(rt: HostRuntime) -> Result<(), Fail> {
+    for row in &ROWS {
+        expect_left(&rt, row)?;
+    }
+    Ok(())
+}
+
+fn expect_left(rt: &(impl Abort + AllocGlobal), row: &Row) -> Result<(), Fail> {
+    let (words, trace, records, saved, image) = *row;
     let call = Call {
-        trace: READING,
+        words,
+        trace,
         ..SAVING
     };
-    let before = numbered_image(rt.alloc())?;
-    expect_left(&rt, call, READ, (&before, &before))
+    let done = made(rt, rt.alloc(), call)?;
+    let end = (done.output.as_slice(), done.status);
+    same(rt, &words, &end, &(records, 0));
+    expect_bytes(rt, "saved", &done.held.saved, saved)?;
+    expect_bytes(rt, "image", &done.held.image, image)
+}
+
+/// The file holds this.
+pub(super) fn expect_bytes(
+    rt: &(impl Abort + AllocGlobal),
+    name: &str,
+    found: &[u8],
+    left: Left,
+) -> Result<(), Fail> {
+    let wanted = left.bytes(rt.alloc())?;
+    same(rt, &name, &found, &wanted.as_slice());
+    Ok(())
 }

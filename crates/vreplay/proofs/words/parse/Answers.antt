@@ -7,12 +7,12 @@ use Rattle.vreplay.proofs.words.parse.Goals as goal
 
 pub returns : goal.returns
 returns c =
-    let trace_is : rule_of c.new-trace.result ≡ new_rule (codes "trace") = c.new-trace.ensures.rule in
-    let image_is : rule_of c.new-image.result ≡ new_rule (codes "image") = c.new-image.ensures.rule in
-    let save_is : rule_of c.long-save.result ≡ save_rule = search rules in
-    let in_place_is : rule_of c.action-in_place.result ≡ in_place_rule = search rules in
+    let trace_is : rule_of c.new-2.result ≡ new_rule (codes "trace") = c.new-2.ensures.rule in
+    let image_is : rule_of c.new-3.result ≡ new_rule (codes "image") = c.new-3.ensures.rule in
+    let save_is : rule_of c.long.result ≡ save_rule = search rules in
+    let in_place_is : rule_of c.action.result ≡ in_place_rule = search rules in
     let bare_is : app_of c.no_binary_name.result ≡ bare =
-    ap app_of_fields c.no_binary_name.ensures ∙ ap (on_top (λ s. record s { no_binary_name = true })) c.new-3.ensures.app in
+    ap app_of_fields c.no_binary_name.ensures ∙ ap (on_top (λ s. record s { no_binary_name = true })) c.new.ensures.app in
     let one : app_of c.in_ok-arg.field-0 ≡ with_rule bare (new_rule (codes "trace")) = c.in_ok-arg.ensures.shape (search rules) ∙ ap₂ with_rule bare_is trace_is in
     let two : app_of c.in_ok-arg-2.field-0 ≡ with_rule (with_rule bare (new_rule (codes "trace"))) (new_rule (codes "image")) = c.in_ok-arg-2.ensures.shape (search rules) ∙ ap₂ with_rule one image_is in
     let three : app_of c.in_ok-arg-3.field-0 ≡ with_rule (with_rule (with_rule bare (new_rule (codes "trace"))) (new_rule (codes "image"))) save_rule = c.in_ok-arg-3.ensures.shape (search rules) ∙ ap₂ with_rule two save_is in
