@@ -28,10 +28,11 @@ pub enum Reply<A: Allocator = Global> {
 #[derive(Drop)]
 #[derive_where(Debug, PartialEq, Eq)]
 pub struct Record<A: Allocator = Global> {
-    pub slot: u8,
     pub reply: Reply<A>,
     /// What the slot's console put out during the event.
     pub output: Bytes<A>,
+    // beside the two words, without padding
+    pub slot: u8,
     /// The block window's InterruptStatus after the event, and 0 where there is no such slot
     /// (4.2.2).
     pub block_irq: u8,

@@ -1,7 +1,7 @@
 //! Boards that are made, and boards that are refused.
 
 use super::{Act, board, eight_sectors, event, image, same, slot, step};
-use crate::{Board, BoardFault, Bytes, DeviceKind, Reply, SlotSpec};
+use crate::{Board, BoardFault, Bytes, DeviceKind, Record, Reply, SlotSpec};
 use guest_memory::MemoryFault;
 use sector_cache::{CacheFault, MemoryImage};
 use std::alloc::{AllocError, Global};
@@ -97,6 +97,11 @@ fn refusal(
         Ok(_) => None,
         Err(refused) => Some((refused.why, refused.image.bytes() == bytes.as_slice())),
     })
+}
+
+#[test]
+fn a_record_takes_64_bytes(rt: HostRuntime) {
+    assert_eq!(rt; size_of::<Record>(), 64);
 }
 
 #[test]
