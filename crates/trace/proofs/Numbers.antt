@@ -1,5 +1,5 @@
 -- Numbers spelled by digits: what their spelling looks like, and how it grows by one digit.
-use Rattle.std.proofs.Common.{◌≡◌, ℕ, zero, suc, ◌+◌, ◌-◌, ◌*◌, ◌/◌, ◌%◌, ◌^◌, ◌<◌, ◌≤◌, List, [], ◌∷◌, ◌++◌, length, get_or, take, map, refl, sym, ap, ◌∙◌, arith, inl, inr, add-one}
+use Rattle.std.proofs.Common.{◌≡◌, ℕ, zero, suc, ◌+◌, ◌-◌, ◌*◌, ◌/◌, ◌%◌, ◌^◌, ◌<◌, ◌≤◌, List, [], ◌∷◌, ◌++◌, length, get_or, take, drop, map, refl, sym, ap, ◌∙◌, arith, inl, inr, add-one}
 use Rattle.std.proofs.lemmas.Bool.{cases_eq}
 use Rattle.std.proofs.lemmas.List.{map-append, length-map, take_more, get_or-map, length-append, get_or-take, take_all, same_from_push}
 use Rattle.std.proofs.lemmas.Int.Digits.{digits_of_step, length-digits_of-le, all_below_base_digits_of, first_digits_of, same_from_digits_of, length-digits_of_step}
@@ -8,6 +8,7 @@ use Rattle.std.specs.List.{AllByRecursion}
 use Rattle.std.proofs.Math.Nat.{pow-le-pow_right}
 use Rattle.trace.specs.Spelling.{digit, num, fixed}
 use Rattle.trace.specs.Words.{IsNum, IsDigit}
+use Rattle.trace.proofs.Cutting.{around}
 use Rattle.trace.proofs.Digits.{same_digit}
 
 abbrev pub AreDigits : List ℕ → Type 0
@@ -240,6 +241,13 @@ number_done field i n r le pos most short =
       fits = let b = r.below in let more : 16 ^ i ≤ 16 ^ 16 = sixteen i 16 (omega arith) in omega arith;
       spelled = sym (take_all i field le) ∙ r.spelled (omega arith);
     }
+
+-- a number at the front of a line, up to a space
+pub number_taken : (line : List ℕ) (i n : ℕ) → Reads line i n → 0 < i → i < length line → get_or line i 0 ≡ 32 → line ≡ num n ++ 32 ∷ drop (i + 1) line
+number_taken line i n r pos lt space =
+    around line i lt
+    ∙ ap (λ (xs : List ℕ). xs ++ get_or line i 0 ∷ drop (i + 1) line) (r.spelled pos)
+    ∙ ap (λ (c : ℕ). num n ++ c ∷ drop (i + 1) line) space
 
 -- a field that spells a wider number spells no narrower one
 pub no_narrower : (field : List ℕ) (bits limit n : ℕ) → 2 ^ bits ≡ limit → limit ≤ n → IsNum 64 field n → (m : ℕ) → IsNum bits field m → ⊥

@@ -1,5 +1,5 @@
 -- A line that is refused for its fields is refused.
-use Rattle.std.proofs.Common.{◌≡◌, ℕ, [], ◌∷◌, Bool, true, List, get_or, drop, refl, sym, ap, subst, ◌∙◌, arith, ◌<◌, not, nat_lt, ◌==◌}
+use Rattle.std.proofs.Common.{◌≡◌, ℕ, [], ◌∷◌, ◌++◌, Bool, true, List, get_or, drop, refl, sym, ap, subst, ◌∙◌, arith, ◌<◌, not, nat_lt, ◌==◌}
 use Rattle.std.proofs.lemmas.Bool.{ltb-true, ne_eqb}
 use Rattle.trace.specs.declared.fault.FaultKind.{FaultKind}
 use Rattle.trace.specs.declared.fault.FaultKind.TheVariants as kind
@@ -58,6 +58,12 @@ no_room begun said line (entry.Slot s) same is fine = after begun line Slot kind
 no_room begun said line (entry.Event e) same is fine =
     let has = of_what e.slot e.what in
     after begun line has.word kind.NoMemory (drop 1 (what_fields e.slot e.what)) has.may (is ∙ has.is) (λ _ slot. has.other slot) tt
+
+-- there was no memory for the bytes of a line
+pub no_room_for_bytes : (begun : Bool) (rest : List ℕ) → RefusesLine begun (spelled MemWrite ++ 32 ∷ rest) kind.NoMemory
+unfolding fields_of
+no_room_for_bytes begun rest =
+    after begun (spelled MemWrite ++ 32 ∷ rest) MemWrite kind.NoMemory (fields_of rest) (omega arith) refl (λ _ slot. absurd cc) tt
 
 pub has_some : (n m : ℕ) (empty : Bool) → m ≡ n → empty ≡ (m == 0) → nat_lt 0 n ≡ true → not empty ≡ true
 has_some n m empty same is some =

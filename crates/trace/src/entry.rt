@@ -13,6 +13,8 @@ ghost use Rattle.trace.specs.Words.{spelled};
 use crate::cut::{five, four, seven, take_field, three, two};
 use crate::fault::FaultKind;
 use crate::fields::{input_of, mem_read_of, mem_write_of, read_of, resize_of, slot_of, write_of};
+use crate::frequent::frequent;
+use crate::no_memory::NoMemory;
 use crate::word::{Word, word_of};
 use board::{Event, SlotSpec};
 use std::alloc::Allocator;
@@ -25,11 +27,24 @@ pub(crate) enum Entry<A: Allocator> {
 }
 
 /// The slot or the event that a line is, where events may have `begun` before it.
-pub(crate) fn entry_of<A: Allocator>(
+pub(crate) fn entry_of<A: Allocator + Copy>(
     alloc: A,
     line: &[u8],
     begun: bool,
 ) -> Result<Entry<A>, FaultKind>
+    ensures ok { IfOk result (λ entry. fields_of line.now ≡ entry_fields entry) }
+    ensures fine { IfOk result (IsFineEntry begun) }
+    ensures err { IfErr result (λ fault. RefusesLine begun line.now fault) }
+{
+    match frequent(alloc, line) {
+        Ok(Some(event)) => Ok(Entry::Event(event)),
+        Ok(None) => by_fields(alloc, line, begun),
+        Err(NoMemory) => Err(FaultKind::NoMemory),
+    }
+}
+
+// The same of any line, field by field.
+fn by_fields<A: Allocator>(alloc: A, line: &[u8], begun: bool) -> Result<Entry<A>, FaultKind>
     ensures ok { IfOk result (λ entry. fields_of line.now ≡ entry_fields entry) }
     ensures fine { IfOk result (IsFineEntry begun) }
     ensures err { IfErr result (λ fault. RefusesLine begun line.now fault) }

@@ -2,8 +2,8 @@
 //!
 //! A trace says which board there is and what its guests do. It is ASCII text of lines, and each trace has
 //! one text. `read` has the way from a text to its trace: `cut` takes lines and fields off, `word` says
-//! what a line is, `entry` and `fields` read one line, and `number`, `choice`, `value` and `bytes` one
-//! field. `print` has the way back, with `push` for one field and `range` for the bounds of its numbers, and
+//! what a line is, `entry` and `fields` read one line, `frequent` those that come most often, and `number`, `choice`,
+//! `value` and `bytes` one field. `print` has the way back, with `push` for one field and `range` for the bounds of its numbers, and
 //! `round_trip` goes both ways. `digit` is one digit, and `pairs` the two that spell a byte, there and back.
 //! `fault` has what is answered for a text that isn't a trace, and `laws` says that a text has one meaning or one
 //! fault. `records` puts the records of a run, `buffer` stands before the writer, `input` gathers what a reader
@@ -19,6 +19,7 @@ mod digit;
 mod entry;
 mod fault;
 mod fields;
+mod frequent;
 mod input;
 mod last_line;
 mod laws;

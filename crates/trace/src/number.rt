@@ -1,6 +1,7 @@
 //! Fields that spell numbers.
 
-ghost use Rattle.std.specs.Prelude.{◌≤◌, ◌^◌, ℕ, IfSome, IfNone, OnSome};
+ghost use Rattle.std.specs.Prelude.{◌≡◌, ◌≤◌, ◌^◌, ◌++◌, ◌∷◌, ℕ, IfSome, IfNone, OnSome};
+ghost use Rattle.trace.specs.Spelling.{num};
 ghost use Rattle.trace.specs.Words.{IsNum, IsFixed, Says, Num, Offset};
 
 use crate::digit::value_of;
@@ -90,4 +91,25 @@ pub(crate) fn offset_of(field: &[u8]) -> Option<u16>
 {
     let n = fixed_number(field, 3)?;
     Some(n as u16)
+}
+
+/// The number of at most 64 bits that stands before the first space of a line, and what follows that space.
+pub(crate) fn take_number(line: &[u8]) -> Option<(u64, &[u8])>
+    ensures { IfSome result (λ x. line.now ≡ num x.0 ++ 32 ∷ x.1.now) }
+{
+    let mut n: u64 = 0;
+    for (i, c) in line.iter().enumerate() {
+        let Some(digit) = value_of(*c) else {
+            return if i > 0 && *c == b' ' {
+                Some((n, &line[i + 1..]))
+            } else {
+                None
+            };
+        };
+        if i >= MOST_DIGITS || i > 0 && n == 0 {
+            return None;
+        }
+        n = n * 16 + u64::from(digit);
+    }
+    None
 }

@@ -1,0 +1,130 @@
+//! The lines that come most often: accesses to registers and to memory, of a slot that has one digit.
+//!
+//! Each is read from its front to its end, and no fault is looked for. What isn't spelled so is `None` here, and
+//! `entry` reads it field by field: it may have a fault, or be a line of another kind.
+
+ghost use Rattle.std.specs.Prelude.{◌≡◌, ◌++◌, ◌∷◌, ◌^◌, ◌<◌, Bool, IfOk, IfSome, OnErr};
+ghost use Rattle.trace.specs.Refusals.{IsFine, RefusesLine};
+ghost use Rattle.trace.specs.Spelling.{fixed, num, width_digit, window};
+ghost use Rattle.trace.specs.Text.{event_line};
+ghost use Rattle.trace.specs.Words.{IsWidth, spelled};
+
+use crate::bytes::bytes_of;
+use crate::choice::{width_of, window_of};
+use crate::fault::FaultKind;
+use crate::no_memory::NoMemory;
+use crate::number::{fixed_number, number_u8, number_u32, offset_of, take_number};
+use crate::word::Word;
+use board::{DeviceKind, Event, EventKind};
+use std::alloc::Allocator;
+
+/// The event of a line that is spelled so. Where its bytes are, but there is no memory for them, that is the fault.
+pub(crate) fn frequent<A: Allocator>(alloc: A, line: &[u8]) -> Result<Option<Event<A>>, NoMemory>
+    ensures line { IfOk result (λ found. IfSome found (λ e. line.now ≡ event_line e)) }
+    ensures fine { IfOk result (λ found. IfSome found IsFine) }
+    ensures err { OnErr result ((begun : Bool) → RefusesLine begun line.now FaultKind.NoMemory) }
+{
+    match line {
+        [b'r', b' ', rest @ ..] => Ok(read_in(rest)),
+        [b'w', b' ', rest @ ..] => Ok(write_in(rest)),
+        [b'm', b'r', b' ', rest @ ..] => Ok(mem_read_in(rest)),
+        [b'm', b'w', b' ', rest @ ..] => mem_write_in(alloc, rest),
+        _ => Ok(None),
+    }
+}
+
+// The event that these bytes after its word and a space say.
+#[tactic(auto, unfolding(crate::specs::Text::event_line))]
+fn read_in<A: Allocator>(rest: &[u8]) -> Option<Event<A>>
+    ensures line { IfSome result (λ e. spelled Word.Read ++ 32 ∷ rest.now ≡ event_line e) }
+    ensures fine { IfSome result IsFine }
+{
+    let (slot, window, offset, width, rest) = access(rest)?;
+    if !rest.is_empty() {
+        return None;
+    }
+    let what = EventKind::Read {
+        window,
+        offset,
+        width,
+    };
+    Some(Event { slot, what })
+}
+
+#[tactic(auto, unfolding(crate::specs::Text::event_line))]
+fn write_in<A: Allocator>(rest: &[u8]) -> Option<Event<A>>
+    ensures line { IfSome result (λ e. spelled Word.Write ++ 32 ∷ rest.now ≡ event_line e) }
+    ensures fine { IfSome result IsFine }
+{
+    let (slot, window, offset, width, rest) = access(rest)?;
+    let [b' ', value @ ..] = rest else {
+        return None;
+    };
+    let value = fixed_number(value, 2 * width as usize)?;
+    let what = EventKind::Write {
+        window,
+        offset,
+        width,
+        value,
+    };
+    Some(Event { slot, what })
+}
+
+#[tactic(auto, unfolding(crate::specs::Text::event_line))]
+fn mem_read_in<A: Allocator>(rest: &[u8]) -> Option<Event<A>>
+    ensures line { IfSome result (λ e. spelled Word.MemRead ++ 32 ∷ rest.now ≡ event_line e) }
+    ensures fine { IfSome result IsFine }
+{
+    let (slot, addr, len) = place(rest)?;
+    let len = number_u32(len)?;
+    let what = EventKind::MemRead { addr, len };
+    Some(Event { slot, what })
+}
+
+#[tactic(auto, unfolding(crate::specs::Text::event_line), using(crate::proofs::Refused::no_room_for_bytes))]
+fn mem_write_in<A: Allocator>(alloc: A, rest: &[u8]) -> Result<Option<Event<A>>, NoMemory>
+    ensures line { IfOk result (λ found. IfSome found (λ e. spelled Word.MemWrite ++ 32 ∷ rest.now ≡ event_line e)) }
+    ensures fine { IfOk result (λ found. IfSome found IsFine) }
+    ensures err { OnErr result ((begun : Bool) → RefusesLine begun (spelled Word.MemWrite ++ 32 ∷ rest.now) FaultKind.NoMemory) }
+{
+    let Some((slot, addr, bytes)) = place(rest) else {
+        return Ok(None);
+    };
+    match bytes_of(alloc, bytes) {
+        Ok(bytes) => {
+            let what = EventKind::MemWrite { addr, bytes };
+            Ok(Some(Event { slot, what }))
+        }
+        Err(FaultKind::NoMemory) => Err(NoMemory),
+        Err(_) => Ok(None),
+    }
+}
+
+/// The slot, the window, the offset and the width of a register access, which stand in fixed columns, and what
+/// follows the width.
+fn access(line: &[u8]) -> Option<(u8, DeviceKind, u16, u8, &[u8])>
+    ensures line { IfSome result (λ x. line.now ≡ num x.0 ++ 32 ∷ window x.1 ++ 32 ∷ fixed 3 x.2 ++ 32 ∷ width_digit x.3 ++ x.4.now) }
+    ensures offset { IfSome result (λ x. x.2 < 16 ^ 3) }
+    ensures width { IfSome result (λ x. IsWidth x.3) }
+{
+    if line.len() < 9 || line[1] != b' ' || line[3] != b' ' || line[7] != b' ' {
+        return None;
+    }
+    let slot = number_u8(&line[..1])?;
+    let window = window_of(&line[2..3])?;
+    let offset = offset_of(&line[4..7])?;
+    let width = width_of(&line[8..9])?;
+    Some((slot, window, offset, width, &line[9..]))
+}
+
+/// The slot and the address of an access to memory, and the field after them.
+fn place(line: &[u8]) -> Option<(u8, u64, &[u8])>
+    ensures { IfSome result (λ x. line.now ≡ num x.0 ++ 32 ∷ num x.1 ++ 32 ∷ x.2.now) }
+{
+    if line.len() < 2 || line[1] != b' ' {
+        return None;
+    }
+    let slot = number_u8(&line[..1])?;
+    let (addr, rest) = take_number(&line[2..])?;
+    Some((slot, addr, rest))
+}
