@@ -2,7 +2,6 @@
 //!
 //! What a test compares stands in tables of plain values, a row for each case.
 
-mod disturbed;
 mod each_growth_of_calls;
 mod each_growth_of_replays;
 mod each_growth_refused;
@@ -10,18 +9,24 @@ mod each_image_call_refused;
 mod faults;
 mod last_lines;
 mod printed;
-mod refused;
 mod refused_chain;
 mod replayed;
 mod spellings;
 mod two_guests;
 
 use crate::{FaultKind, TraceFault, is_printable, print_trace, read_trace};
+use std::fmt::Debug;
 use std::process::Abort;
 use std::test::Fail;
 
 /// Three lines that a trace begins with.
 const FRONT: &[u8] = b"vreplay 1\ncache 8\nslot 80000000 10000 0 8 rw 50 19\n";
+
+/// Tells of which row something else was found than what is wanted. The one assertion with a message: a message is
+/// dear to prove.
+fn same<R: Debug, T: PartialEq + Debug>(rt: &impl Abort, row: &R, found: &T, wanted: &T) {
+    assert_eq!(rt; found, wanted, "{row:?}");
+}
 
 /// The fault of a text, if it has one.
 fn fault_of(rt: &impl AllocGlobal, text: &[u8]) -> Option<TraceFault> {
@@ -38,6 +43,6 @@ fn expect_trace(rt: &(impl Abort + AllocGlobal), text: &[u8]) -> Result<(), Fail
     let trace = read_trace(rt.alloc(), text)?;
     assert!(rt; is_printable(&trace));
     let printed = print_trace(rt.alloc(), &trace)?;
-    assert_eq!(rt; printed.as_slice(), text);
+    assert!(rt; printed.as_slice() == text);
     Ok(())
 }

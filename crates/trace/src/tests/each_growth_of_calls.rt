@@ -1,11 +1,13 @@
 //! Each request for memory of each call refused in turn, alone and with all that come after it.
 
 use super::two_guests::{
-    Guests, Piecewise, RECORDS, Request, TRACE, eight_sectors, read_guests, refuse, text_of_records,
+    Guests, LINES, Piecewise, RECORDS, Request, TRACE, eight_sectors, read_guests, refuse,
+    text_of_records,
 };
+use super::{fault_at, same};
 use crate::{
-    FaultKind, NoMemory, ReplayFault, Trace, TraceFault, gather, is_printable, print_trace,
-    read_back, read_trace,
+    FaultKind, NoMemory, ReplayFault, Trace, gather, is_printable, print_trace, read_back,
+    read_trace,
 };
 use board::{Board, BoardFault, MemoryImage, SlotSpec};
 use refusing::RefusingHeap;
@@ -99,8 +101,10 @@ fn answer_of<'h>(
         Call::PrintTrace => Ok(printed(heap, &guests.whole)),
         Call::ReadBack => Ok(read_again(heap, &guests.whole)),
         Call::PrintRecords => {
-            let text = text_of_records(rt, heap, guests, request)?;
-            Ok(text.map(|text| text.ends_with(RECORDS.as_bytes())))
+            match text_of_records(rt, heap, guests, request)? {
+                Some(text) => Ok(Some(text.ends_with(RECORDS.as_bytes()))),
+                None => Ok(None),
+            }
         }
         Call::MakeBoard => made(rt.alloc(), heap, &guests.whole.slots),
     }
@@ -118,8 +122,21 @@ fn is_refused<'h>(
     let is_refused = heap.has_refused();
     heap.refuse_from(0);
     let wanted = if is_refused { None } else { Some(true) };
-    assert_eq!(rt; answer, wanted, "{call:?}, {request:?}");
+    same(rt, &(call, request), &answer, &wanted);
     Ok(is_refused)
+}
+
+/// Whether the call was refused memory where the nth request is refused, alone or with all that come after it.
+fn is_refused_at<'h>(
+    rt: &(impl Abort + AllocGlobal),
+    heap: &'h RefusingHeap,
+    guests: &Guests<&'h RefusingHeap>,
+    call: Call,
+    n: u64,
+) -> Result<bool, Fail> {
+    let alone = is_refused(rt, heap, guests, call, Request::Only(n))?;
+    let lasting = is_refused(rt, heap, guests, call, Request::From(n))?;
+    Ok(alone || lasting)
 }
 
 /// How many requests for memory the call makes.
@@ -127,9 +144,7 @@ fn requests_of(rt: &(impl Abort + AllocGlobal), call: Call) -> Result<u64, Fail>
     let heap = RefusingHeap::new(rt.alloc());
     let guests = read_guests(&heap)?;
     for n in 0..1000 {
-        let alone = is_refused(rt, &heap, &guests, call, Request::Only(n + 1))?;
-        let lasting = is_refused(rt, &heap, &guests, call, Request::From(n + 1))?;
-        if !alone && !lasting {
+        if !is_refused_at(rt, &heap, &guests, call, n + 1)? {
             return Ok(n);
         }
     }
@@ -140,8 +155,9 @@ fn requests_of(rt: &(impl Abort + AllocGlobal), call: Call) -> Result<u64, Fail>
 /// 5th, the events with the 1st, the 5th, the 9th, the 17th, the 33rd and the 65th, and 30 lines for their bytes.
 #[test]
 fn reading(rt: HostRuntime) -> Result<(), Fail> {
-    assert_eq!(rt; requests_of(&rt, Call::Gather)?, 4);
-    assert_eq!(rt; requests_of(&rt, Call::ReadTrace)?, 38);
+    let gathering = requests_of(&rt, Call::Gather)?;
+    let reading = requests_of(&rt, Call::ReadTrace)?;
+    assert!(rt; (gathering, reading) == (4, 38));
     Ok(())
 }
 
@@ -149,9 +165,9 @@ fn reading(rt: HostRuntime) -> Result<(), Fail> {
 #[test]
 fn printing(rt: HostRuntime) -> Result<(), Fail> {
     let text = requests_of(&rt, Call::PrintTrace)?;
-    assert!(rt; text > 1);
-    assert_eq!(rt; requests_of(&rt, Call::ReadBack)?, text.saturating_add(38));
-    assert!(rt; requests_of(&rt, Call::PrintRecords)? > 0);
+    let again = requests_of(&rt, Call::ReadBack)?;
+    let records = requests_of(&rt, Call::PrintRecords)?;
+    assert!(rt; text > 1 && again == text.saturating_add(38) && records > 0);
     Ok(())
 }
 
@@ -162,37 +178,19 @@ fn making_a_board(rt: HostRuntime) -> Result<(), Fail> {
     Ok(())
 }
 
-/// The lines of the 1st and the 5th slot, and of the 1st, the 5th, the 9th, the 17th, the 33rd and the 65th event.
-const LISTS: [u64; 8] = [3, 7, 9, 13, 17, 25, 41, 73];
-
-/// Whether reading this line takes memory, for a list or for its own bytes.
-fn takes_memory(number: u64, line: &[u8]) -> bool {
-    LISTS.contains(&number) || line.starts_with(b"mw ") || line.starts_with(b"in ")
-}
-
-/// The fault where a request for memory is refused while the text is read.
-fn fault_of(heap: &RefusingHeap, request: Request) -> Option<TraceFault> {
+/// The line is named where this request for memory is refused.
+fn check_line(rt: &impl Abort, heap: &RefusingHeap, request: Request, line: u64) {
     refuse(heap, request);
-    read_trace(heap, TRACE.as_bytes()).err()
+    let fault = read_trace(heap, TRACE.as_bytes()).err();
+    same(rt, &request, &fault, &fault_at(line, FaultKind::NoMemory));
 }
 
-/// Each line that takes memory takes it once, and is named where there is none.
+/// Each line that takes memory is named where there is none.
 #[test]
 fn the_line_that_finds_no_memory(rt: HostRuntime) {
     let heap = RefusingHeap::new(rt.alloc());
-    let mut number = 0u64;
-    let mut n = 0u64;
-    for line in TRACE.as_bytes().split(|byte| *byte == b'\n') {
-        number = number.saturating_add(1);
-        if takes_memory(number, line) {
-            n = n.saturating_add(1);
-            let fault = Some(TraceFault {
-                line: number,
-                kind: FaultKind::NoMemory,
-            });
-            assert_eq!(rt; fault_of(&heap, Request::Only(n)), fault);
-            assert_eq!(rt; fault_of(&heap, Request::From(n)), fault);
-        }
+    for i in 0..LINES.len() {
+        check_line(&rt, &heap, Request::Only(i as u64 + 1), LINES[i]);
+        check_line(&rt, &heap, Request::From(i as u64 + 1), LINES[i]);
     }
-    assert_eq!(rt; n, 38);
 }

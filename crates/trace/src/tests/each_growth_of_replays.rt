@@ -1,6 +1,7 @@
 //! Each request for memory of a whole replay refused in turn, alone and with all that come after it.
 
-use super::two_guests::{Piecewise, RECORDS, Request, TRACE, eight_sectors, refuse};
+use super::same;
+use super::two_guests::{LINES, Piecewise, RECORDS, Request, TRACE, eight_sectors, refuse};
 use crate::{FaultKind, ReplayFault, TraceFault, replay};
 use board::{BoardFault, MemoryImage};
 use refusing::RefusingHeap;
@@ -43,7 +44,7 @@ fn replay_text(
 #[derive(Clone, Copy, Debug, PartialEq, PartialOrd)]
 enum Place {
     Input,
-    Line,
+    Line(u64),
     Board,
     Text,
     Run,
@@ -59,7 +60,13 @@ fn place_of(outcome: Result<(), ReplayFault>) -> Option<Place> {
                     kind: FaultKind::NoMemory,
                 },
             ),
-        ) => { Some(if line == 1 { Place::Input } else { Place::Line }) }
+        ) => {
+            Some(if line == 1 {
+                Place::Input
+            } else {
+                Place::Line(line)
+            })
+        }
         Err(ReplayFault::Board(BoardFault::NoMemory)) => Some(Place::Board),
         Err(ReplayFault::NoMemory) => Some(Place::Text),
         Err(ReplayFault::Run(_)) | Ok(()) => Some(Place::Run),
@@ -108,6 +115,24 @@ fn place_told(found: &Replayed, ample: &Replayed, untouched: &[u8]) -> Option<Pl
     }
 }
 
+/// The place that is answered where this request is refused, if a replay meets it.
+fn place_at(
+    rt: &(impl Abort + AllocGlobal),
+    heap: &RefusingHeap,
+    request: Request,
+    ample: &Replayed,
+    untouched: &[u8],
+) -> Result<Option<Place>, Fail> {
+    let found = replay_text(rt, heap, TRACE, request)?;
+    if !found.has_refused {
+        assert!(rt; found.written == ample.written);
+        return Ok(None);
+    }
+    let place = place_told(&found, ample, untouched);
+    same(rt, &(request, found.outcome), &place.is_some(), &true);
+    Ok(place)
+}
+
 /// The places that are answered as each request is refused in turn, alone or with all that come after it, until a
 /// replay meets none.
 fn places(rt: &(impl Abort + AllocGlobal), lasts: bool) -> Result<Vec<Place>, Fail> {
@@ -117,19 +142,9 @@ fn places(rt: &(impl Abort + AllocGlobal), lasts: bool) -> Result<Vec<Place>, Fa
     assert!(rt; ample.written.ends_with(RECORDS.as_bytes()));
     let mut places = Vec::new(rt.alloc());
     for n in 1..1000 {
-        let request = if lasts {
-            Request::From(n)
-        } else {
-            Request::Only(n)
-        };
-        let found = replay_text(rt, &heap, TRACE, request)?;
-        if !found.has_refused {
-            assert!(rt; found.written == ample.written);
-            return Ok(places);
-        }
-        match place_told(&found, &ample, &untouched) {
+        match place_at(rt, &heap, Request::nth(n, lasts), &ample, &untouched)? {
             Some(place) => places.push(place)?,
-            None => panic!(rt; "{:?} where {request:?} is refused", found.outcome),
+            None => return Ok(places),
         }
     }
     panic!(rt; "memory was never ample")
@@ -140,21 +155,40 @@ fn times(places: &[Place], place: Place) -> usize {
     places.iter().filter(|found| **found == place).count()
 }
 
-/// The places are answered in their order: four times the input, 38 times a line, the board, once the text, and then
+/// Whether the places are answered in their order.
+fn are_in_order(places: &[Place]) -> bool {
+    places
+        .iter()
+        .zip(places.iter().skip(1))
+        .all(|(one, next)| one <= next)
+}
+
+/// The lines that are named, one after another.
+fn named(alloc: Global, places: &[Place]) -> Result<Vec<u64>, AllocError> {
+    let mut lines = Vec::new(alloc);
+    for place in places {
+        if let Place::Line(line) = place {
+            lines.push(*line)?;
+        }
+    }
+    Ok(lines)
+}
+
+/// Whether the places are answered in their order: four times the input, the lines, the board, once the text, and then
 /// the room for a record or its bytes.
+fn are_all(places: &[Place]) -> bool {
+    are_in_order(places)
+        && times(places, Place::Input) == 4
+        && times(places, Place::Board) > 13
+        && times(places, Place::Text) == 1
+        && times(places, Place::Run) > 34
+}
+
+/// All places are answered, and each line that takes memory is named once.
 fn check_places(rt: &(impl Abort + AllocGlobal), lasts: bool) -> Result<(), Fail> {
     let places = places(rt, lasts)?;
-    assert!(rt;
-        places
-            .iter()
-            .zip(places.iter().skip(1))
-            .all(|(one, next)| one <= next)
-    );
-    assert_eq!(rt; times(&places, Place::Input), 4);
-    assert_eq!(rt; times(&places, Place::Line), 38);
-    assert!(rt; times(&places, Place::Board) > 13);
-    assert_eq!(rt; times(&places, Place::Text), 1);
-    assert!(rt; times(&places, Place::Run) > 34);
+    let lines = named(rt.alloc(), &places)?;
+    assert!(rt; are_all(&places) && lines.as_slice() == LINES.as_slice());
     Ok(())
 }
 
@@ -229,9 +263,8 @@ fn stops(rt: &(impl Abort + AllocGlobal)) -> Result<Vec<(usize, bool, bool)>, Fa
 #[test]
 fn what_was_written_before_a_stop_stands(rt: HostRuntime) -> Result<(), Fail> {
     let stops = stops(&rt)?;
-    assert_eq!(rt;
-        stops.as_slice(),
-        [(0, true, false), (4, true, false), (8, false, true)].as_slice()
+    assert!(rt;
+        stops.as_slice() == [(0, true, false), (4, true, false), (8, false, true)].as_slice()
     );
     Ok(())
 }

@@ -1,18 +1,13 @@
 //! Each request for memory refused in turn, alone and with all that come after it, while two guests do all that there
 //! is to do.
 
+use super::same;
 use super::two_guests::{Case, Guests, Ran, Request, agree, read_guests, run_guests};
 use board::{DeviceKind, Event, EventKind, Record, Reply};
 use refusing::RefusingHeap;
 use std::alloc::{AllocError, Allocator};
-use std::fmt::Debug;
 use std::process::Abort;
 use std::test::Fail;
-
-/// Tells of which request something else was found than what is wanted.
-fn same<T: PartialEq + Debug>(rt: &impl Abort, request: Request, found: &T, wanted: &T) {
-    assert_eq!(rt; found, wanted, "{request:?} refused");
-}
 
 /// A run over an image that never fails.
 fn case(request: Request) -> Case<'static> {
@@ -104,20 +99,14 @@ fn check_slot<A: Allocator>(
     ample: &Ran<A>,
 ) -> Result<(), Fail> {
     let lacks = lacking(slot, &found.records) > 0;
-    same(
-        rt,
-        request,
-        &found.disturbed.get(slot as usize),
-        &Some(&Some(lacks)),
+    let told = (
+        found.disturbed.get(slot as usize) == Some(&Some(lacks)),
+        lacks || agree(slot, &found.last, &ample.last),
     );
-    same(
-        rt,
-        request,
-        &(lacks || agree(slot, &found.last, &ample.last)),
-        &true,
-    );
+    same(rt, &(request, slot), &told, &(true, true));
     let out = output_of(rt, slot, guests, found)?;
-    same(rt, request, &out, &output_of(rt, slot, guests, ample)?);
+    let wanted = output_of(rt, slot, guests, ample)?;
+    same(rt, &(request, slot), &(out == wanted), &true);
     Ok(())
 }
 
@@ -130,9 +119,12 @@ fn check_run<A: Allocator>(
     found: &Ran<A>,
     ample: &Ran<A>,
 ) -> Result<(), Fail> {
-    same(rt, request, &fit(&found.records, &ample.records), &true);
-    same(rt, request, &answer_alike(&found.last, &ample.last), &true);
-    same(rt, request, &(found.image == ample.image), &true);
+    let alike = (
+        fit(&found.records, &ample.records),
+        answer_alike(&found.last, &ample.last),
+        found.image == ample.image,
+    );
+    same(rt, &request, &alike, &(true, true, true));
     check_slot(rt, request, 0, guests, found, ample)?;
     check_slot(rt, request, 1, guests, found, ample)
 }
@@ -156,6 +148,30 @@ fn count<A: Allocator>(shown: &mut Shown, found: &Ran<A>) {
     *times = times.saturating_add(1);
 }
 
+/// Runs with this refused, and counts the run where it met a refusal. Whether it did: ample memory is asked for just as
+/// often.
+fn counts<'h>(
+    rt: &(impl Abort + AllocGlobal),
+    heap: &'h RefusingHeap,
+    guests: &Guests<&'h RefusingHeap>,
+    request: Request,
+    ample: &Ran<&'h RefusingHeap>,
+    shown: &mut Shown,
+) -> Result<bool, Fail> {
+    let found = run_guests(rt, heap, guests, case(request))?;
+    check_run(rt, request, guests, &found, ample)?;
+    if found.has_refused {
+        count(shown, &found);
+    } else {
+        let is_ample = (
+            found.requests == ample.requests,
+            fit(&ample.records, &found.records),
+        );
+        same(rt, &request, &is_ample, &(true, true));
+    }
+    Ok(found.has_refused)
+}
+
 /// Runs with each request for memory refused in turn, alone or with all that come after it, until a run meets none.
 fn counted<'h>(
     rt: &(impl Abort + AllocGlobal),
@@ -170,23 +186,10 @@ fn counted<'h>(
         by_nothing: 0,
     };
     for n in 1..1000 {
-        let request = if lasts {
-            Request::From(n)
-        } else {
-            Request::Only(n)
-        };
-        let found = run_guests(rt, heap, guests, case(request))?;
-        check_run(rt, request, guests, &found, &ample)?;
-        if !found.has_refused {
-            same(
-                rt,
-                request,
-                &(n - 1, fit(&ample.records, &found.records)),
-                &(ample.requests, true),
-            );
+        if !counts(rt, heap, guests, Request::nth(n, lasts), &ample, &mut shown)? {
+            assert!(rt; n.saturating_sub(1) == ample.requests);
             return Ok(shown);
         }
-        count(&mut shown, &found);
     }
     panic!(rt; "memory was never ample")
 }
@@ -199,8 +202,7 @@ fn a_run_of_which_one_request_is_refused(rt: HostRuntime) -> Result<(), Fail> {
     let heap = RefusingHeap::new(rt.alloc());
     let guests = read_guests(&heap)?;
     let shown = counted(&rt, &heap, &guests, false)?;
-    assert_eq!(rt; (shown.by_stop, shown.by_record), (6, 28));
-    assert!(rt; shown.by_nothing > 0);
+    assert!(rt; (shown.by_stop, shown.by_record) == (6, 28) && shown.by_nothing > 0);
     Ok(())
 }
 
@@ -211,7 +213,6 @@ fn a_run_that_finds_no_more_memory(rt: HostRuntime) -> Result<(), Fail> {
     let heap = RefusingHeap::new(rt.alloc());
     let guests = read_guests(&heap)?;
     let shown = counted(&rt, &heap, &guests, true)?;
-    assert!(rt; shown.by_stop > 5 && shown.by_record > 20);
-    assert_eq!(rt; shown.by_nothing, 0);
+    assert!(rt; shown.by_stop > 5 && shown.by_record > 20 && shown.by_nothing == 0);
     Ok(())
 }

@@ -1,11 +1,11 @@
 //! Each call of the image refused in turn, and each two of them, between two guests that read and write in turns; and
 //! memory refused beside.
 
+use super::same;
 use super::two_guests::{Case, Guests, Ran, Request, agree, read_guests, run_guests};
 use board::Reply;
 use refusing::RefusingHeap;
 use std::alloc::Allocator;
-use std::fmt::Debug;
 use std::process::Abort;
 use std::test::Fail;
 
@@ -35,11 +35,6 @@ struct Two {
     second: u64,
 }
 
-/// Tells of which calls something else was found than what is wanted.
-fn same<R: Debug + Copy, T: PartialEq + Debug>(rt: &impl Abort, row: R, found: &T, wanted: &T) {
-    assert_eq!(rt; found, wanted, "{row:?}");
-}
-
 /// Runs with two calls of the image failing. The slot whose call the first is was disturbed, where it is the only one
 /// no other was, and whoever wasn't saw nothing.
 fn check_two<'h>(
@@ -56,17 +51,28 @@ fn check_two<'h>(
         request: Request::None,
     };
     let found = run_guests(rt, heap, guests, case)?;
-    let alone = is_alone(0, &found, quiet) && is_alone(1, &found, quiet);
-    same(rt, two, &alone, &true);
     let told = found.disturbed;
-    same(rt, two, &told.get(slot as usize), &Some(&Some(true)));
-    let only_one = two.first == two.second;
-    same(
-        rt,
-        two,
-        &(only_one && told == [Some(true), Some(true)]),
-        &false,
+    let answer = (
+        is_alone(0, &found, quiet) && is_alone(1, &found, quiet),
+        told.get(slot as usize) == Some(&Some(true)),
+        two.first == two.second && told == [Some(true), Some(true)],
     );
+    same(rt, &two, &answer, &(true, true, false));
+    Ok(())
+}
+
+/// Runs with each two of the calls of the image failing of which this is the first, which is for this slot.
+fn each_second_fails<'h>(
+    rt: &(impl Abort + AllocGlobal),
+    heap: &'h RefusingHeap,
+    guests: &Guests<&'h RefusingHeap>,
+    quiet: &Ran<&'h RefusingHeap>,
+    two: Two,
+    slot: u8,
+) -> Result<(), Fail> {
+    for second in two.first..two.second {
+        check_two(rt, heap, guests, quiet, Two { second, ..two }, slot)?;
+    }
     Ok(())
 }
 
@@ -80,16 +86,15 @@ fn each_two_fail(rt: &(impl Abort + AllocGlobal), capacity: u32, slots: &[u8]) -
         request: Request::None,
     };
     let quiet = run_guests(rt, &heap, &guests, none)?;
-    same(rt, capacity, &quiet.calls, &(slots.len() as u64));
-    for first in 0..slots.len() {
-        for second in first..slots.len() {
-            let two = Two {
-                capacity,
-                first: first as u64,
-                second: second as u64,
-            };
-            check_two(rt, &heap, &guests, &quiet, two, slots[first])?;
-        }
+    let calls = slots.len() as u64;
+    same(rt, &capacity, &quiet.calls, &calls);
+    for i in 0..slots.len() {
+        let all = Two {
+            capacity,
+            first: i as u64,
+            second: calls,
+        };
+        each_second_fails(rt, &heap, &guests, &quiet, all, slots[i])?;
     }
     Ok(())
 }
@@ -117,30 +122,48 @@ fn first_lacks<A: Allocator>(found: &Ran<A>) -> bool {
         .any(|entry| entry.slot == 0 && entry.reply == Reply::NoMemory)
 }
 
+/// Runs with the first call of the image failing and this request for memory beside: the second guest sees nothing of
+/// it. Whether the request was refused, and whether the first guest lacked memory.
+fn beside<'h>(
+    rt: &(impl Abort + AllocGlobal),
+    heap: &'h RefusingHeap,
+    guests: &Guests<&'h RefusingHeap>,
+    quiet: &Ran<&'h RefusingHeap>,
+    n: u64,
+) -> Result<(bool, bool), Fail> {
+    let case = Case {
+        capacity: 2,
+        failing: &[0],
+        request: Request::Only(n),
+    };
+    let found = run_guests(rt, heap, guests, case)?;
+    let lacks = first_lacks(&found);
+    let answer = (
+        is_alone(1, &found, quiet),
+        !lacks || found.disturbed == [Some(true), Some(false)],
+    );
+    same(rt, &n, &answer, &(true, true));
+    Ok((found.has_refused, lacks))
+}
+
 /// The first guest's first read of its sectors fails, and one request for memory beside. Its ten reads of some bytes,
 /// its emergency write and its three chains find no memory in turn, and the second guest never sees anything of it.
 #[test]
 fn memory_is_refused_beside(rt: HostRuntime) -> Result<(), Fail> {
     let heap = RefusingHeap::new(rt.alloc());
     let guests = read_guests(&heap)?;
-    let mut case = Case {
+    let none = Case {
         capacity: 2,
         failing: &[],
         request: Request::None,
     };
-    let quiet = run_guests(&rt, &heap, &guests, case)?;
-    case.failing = &[0];
+    let quiet = run_guests(&rt, &heap, &guests, none)?;
     let mut both = 0u32;
     for n in 1..1000 {
-        case.request = Request::Only(n);
-        let found = run_guests(&rt, &heap, &guests, case)?;
-        same(&rt, n, &is_alone(1, &found, &quiet), &true);
-        if first_lacks(&found) {
-            same(&rt, n, &found.disturbed, &[Some(true), Some(false)]);
-            both = both.saturating_add(1);
-        }
-        if !found.has_refused {
-            assert_eq!(rt; both, 14);
+        let (has_refused, lacks) = beside(&rt, &heap, &guests, &quiet, n)?;
+        both = both.saturating_add(u32::from(lacks));
+        if !has_refused {
+            assert!(rt; both == 14);
             return Ok(());
         }
     }

@@ -1,7 +1,9 @@
 //! Texts that aren't traces: the first line with a fault, and the first check that it fails.
 
-use super::{FRONT, expect_trace, fault_at, fault_of};
+use super::{FRONT, expect_trace, fault_at, fault_of, same};
 use crate::FaultKind::{self, Bytes, Choice, Cut, Fields, Header, Number, Order, Word};
+use std::alloc::AllocError;
+use std::process::Abort;
 use std::test::Fail;
 
 /// Whole texts, with the line that is at fault. More of them are worked scenarios, as files.
@@ -58,20 +60,35 @@ const LINES: [(&[u8], FaultKind); 31] = [
     (b"in 0 -61", Bytes),
 ];
 
+/// The text has this fault.
+fn check_text(rt: &(impl Abort + AllocGlobal), text: &[u8], line: u64, kind: FaultKind) {
+    same(rt, &text, &fault_of(rt, text), &fault_at(line, kind));
+}
+
+/// The text of which this is the fourth line has this fault.
+fn check_line(
+    rt: &(impl Abort + AllocGlobal),
+    line: &[u8],
+    kind: FaultKind,
+) -> Result<(), AllocError> {
+    let mut text = FRONT.to_vec(rt.alloc())?;
+    text.extend_from_slice(line)?;
+    text.push(b'\n')?;
+    check_text(rt, &text, 4, kind);
+    Ok(())
+}
+
 #[test]
 fn each_text_has_its_fault(rt: HostRuntime) {
-    for (text, line, kind) in TEXTS {
-        assert_eq!(rt; fault_of(&rt, text), fault_at(line, kind), "{text:?}");
+    for (text, line, kind) in &TEXTS {
+        check_text(&rt, text, *line, *kind);
     }
 }
 
 #[test]
 fn each_line_has_its_fault(rt: HostRuntime) -> Result<(), Fail> {
-    for (line, kind) in LINES {
-        let mut text = FRONT.to_vec(rt.alloc())?;
-        text.extend_from_slice(line)?;
-        text.push(b'\n')?;
-        assert_eq!(rt; fault_of(&rt, &text), fault_at(4, kind), "{line:?}");
+    for (line, kind) in &LINES {
+        check_line(&rt, line, *kind)?;
     }
     Ok(())
 }
@@ -87,23 +104,27 @@ r 0 b 060 4\n\
 in 0 41\n\
 mr 1 0 c\n";
 
+/// How many lines are ended in a text.
+fn lines_in(text: &[u8]) -> u64 {
+    text.iter().filter(|byte| **byte == b'\n').count() as u64
+}
+
 /// A front of a trace is one where it ends after a line from the second on. It is cut in the line in which
 /// it ends, and after the first line where the second is owed.
+fn check_front(rt: &(impl Abort + AllocGlobal), front: &[u8]) -> Result<(), Fail> {
+    let ended = lines_in(front);
+    if ended >= 2 && front.ends_with(b"\n") {
+        return expect_trace(rt, front);
+    }
+    check_text(rt, front, ended.saturating_add(1), Cut);
+    Ok(())
+}
+
 #[test]
 fn fronts(rt: HostRuntime) -> Result<(), Fail> {
-    let mut ended = 0u64;
-    for (i, c) in WHOLE.iter().enumerate() {
-        let front = &WHOLE[..i];
-        if ended >= 2 && front.ends_with(b"\n") {
-            expect_trace(&rt, front)?;
-        } else {
-            let cut = fault_at(ended.saturating_add(1), Cut);
-            assert_eq!(rt; fault_of(&rt, front), cut, "after {i} bytes");
-        }
-        if *c == b'\n' {
-            ended = ended.saturating_add(1);
-        }
+    assert_eq!(rt; lines_in(WHOLE), 9);
+    for len in 0..=WHOLE.len() {
+        check_front(&rt, &WHOLE[..len])?;
     }
-    assert_eq!(rt; ended, 9);
-    expect_trace(&rt, WHOLE)
+    Ok(())
 }

@@ -1,24 +1,42 @@
 //! The last line and the status for each outcome, and what goes out where the writer fails.
 
 use super::replayed::SmallWriter;
+use super::same;
 use crate::{FaultKind, ReplayFault, TraceFault, finish};
 use board::{BoardFault, CacheFault, MemoryFault};
 use std::process::Abort;
 use std::test::Fail;
 
-/// The outcome ends a program with this line and this status, or with a front of the line and status 3
-/// where the writer has no room for all of it.
-fn expect_end(
+/// Where the writer has room for so many bytes the outcome ends a program with this line and this status, or with a
+/// front of the line and status 3 where that isn't all of it.
+fn check_room(
+    rt: &(impl Abort + AllocGlobal),
+    outcome: Result<(), ReplayFault>,
+    line: &[u8],
+    status: u8,
+    room: usize,
+) {
+    let mut writer = SmallWriter::new(rt.alloc(), room);
+    let wanted = if room < line.len() { 3 } else { status };
+    let found = finish(&outcome, &mut writer);
+    let is_front = line.starts_with(&writer.held);
+    same(
+        rt,
+        &(line, room),
+        &(found, writer.held.len(), is_front),
+        &(wanted, room, true),
+    );
+}
+
+/// The outcome ends a program so whatever room the writer has.
+fn check_end(
     rt: &(impl Abort + AllocGlobal),
     outcome: Result<(), ReplayFault>,
     line: &[u8],
     status: u8,
 ) {
     for room in 0..=line.len() {
-        let mut writer = SmallWriter::new(rt.alloc(), room);
-        let wanted = if room < line.len() { 3 } else { status };
-        assert_eq!(rt; finish(&outcome, &mut writer), wanted, "in {room} bytes");
-        assert_eq!(rt; writer.held.as_slice(), &line[..room]);
+        check_room(rt, outcome, line, status, room);
     }
 }
 
@@ -84,20 +102,33 @@ const FAILURES: [(ReplayFault, &[u8]); 9] = [
 ];
 
 #[test]
-fn each_end_has_its_line_and_its_status(rt: HostRuntime) {
-    expect_end(&rt, Ok(()), b"", 0);
-    for (line, kind, last) in TRACES {
-        expect_end(
+fn a_replay_that_came_to_its_end(rt: HostRuntime) {
+    check_end(&rt, Ok(()), b"", 0);
+}
+
+#[test]
+fn each_fault_of_a_trace(rt: HostRuntime) {
+    for (line, kind, last) in &TRACES {
+        let (line, kind) = (*line, *kind);
+        check_end(
             &rt,
             Err(ReplayFault::Trace(TraceFault { line, kind })),
             last,
             1,
         );
     }
-    for (fault, last) in BOARDS {
-        expect_end(&rt, Err(ReplayFault::Board(fault)), last, 1);
+}
+
+#[test]
+fn each_fault_of_a_board(rt: HostRuntime) {
+    for (fault, last) in &BOARDS {
+        check_end(&rt, Err(ReplayFault::Board(*fault)), last, 1);
     }
-    for (fault, last) in FAILURES {
-        expect_end(&rt, Err(fault), last, 3);
+}
+
+#[test]
+fn each_failure(rt: HostRuntime) {
+    for (fault, last) in &FAILURES {
+        check_end(&rt, Err(*fault), last, 3);
     }
 }

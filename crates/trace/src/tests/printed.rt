@@ -1,5 +1,6 @@
 //! Records, and the lines that they are.
 
+use super::same;
 use crate::print_records;
 use board::{Bytes, Record, Reply};
 use std::alloc::{AllocError, Global};
@@ -76,27 +77,37 @@ const ROWS: [(Row<'static>, &[u8]); 10] = [
     ((1, Answer::BadRange, b"", 0, 1), b"1 badrange - 0 1\n"),
 ];
 
+/// The record has this line.
+fn check_line(rt: &(impl Abort + AllocGlobal), row: Row<'_>, line: &[u8]) -> Result<(), Fail> {
+    same(rt, &line, &line_of(rt, row)?.as_slice(), &line);
+    Ok(())
+}
+
 #[test]
 fn lines_of_records(rt: HostRuntime) -> Result<(), Fail> {
-    for (row, line) in ROWS {
-        assert_eq!(rt; line_of(&rt, row)?.as_slice(), line);
+    for (row, line) in &ROWS {
+        check_line(&rt, *row, line)?;
     }
     Ok(())
 }
 
-/// Output of any length, of which the last byte is another one.
+/// The record of an output of so many bytes, and one more that is another one, has its line.
+fn check_output(rt: &(impl Abort + AllocGlobal), len: usize) -> Result<(), Fail> {
+    let mut output = vec![in rt.alloc(); 0x4f; len]?;
+    output.push(0xe1)?;
+    let mut line = b"0 done ".to_vec(rt.alloc())?;
+    for _ in 0..len {
+        line.extend_from_slice(b"4f")?;
+    }
+    line.extend_from_slice(b"e1 0 0\n")?;
+    check_line(rt, (0, Answer::Done, &output, 0, 0), &line)
+}
+
+/// Output of any length.
 #[test]
 fn long_outputs(rt: HostRuntime) -> Result<(), Fail> {
-    for len in [1, 510, 511, 512, 1023, 1500] {
-        let mut output = vec![in rt.alloc(); 0x4f; len]?;
-        output.push(0xe1)?;
-        let text = line_of(&rt, (0, Answer::Done, &output, 0, 0))?;
-        let mut line = b"0 done ".to_vec(rt.alloc())?;
-        for _ in 0..len {
-            line.extend_from_slice(b"4f")?;
-        }
-        line.extend_from_slice(b"e1 0 0\n")?;
-        assert_eq!(rt; text.as_slice(), line.as_slice(), "{len} bytes");
+    for len in &[1, 510, 511, 512, 1023, 1500] {
+        check_output(&rt, *len)?;
     }
     Ok(())
 }

@@ -1,9 +1,9 @@
-//! Whole replays where the reader, the writer or memory fails.
+//! Whole replays where the reader or the writer fails.
 
-use crate::{FaultKind, ReplayFault, TraceFault, replay};
-use board::{BoardFault, MemoryImage};
-use refusing::RefusingHeap;
-use std::alloc::{Allocator, Global};
+use super::same;
+use crate::{ReplayFault, replay};
+use board::MemoryImage;
+use std::alloc::{AllocError, Global};
 use std::io;
 use std::io::{ErrorKind, Read, Write};
 use std::process::Abort;
@@ -31,16 +31,15 @@ const RECORDS: &[u8] = b"0 v:74726976 - 0 0\n\
 2 badslot - 0 0\n";
 
 /// What a replay over eight sectors of zeros comes to. The image is handed back as it was.
-fn replayed<A: Allocator + Copy>(
+fn replayed(
     rt: &(impl Abort + AllocGlobal),
-    heap: A,
     reader: &mut impl Read,
     writer: &mut impl Write,
 ) -> Result<Result<(), ReplayFault>, Fail> {
     let zeros = vec![in rt.alloc(); 0; 4096]?;
     let image = MemoryImage::new(vec![in rt.alloc(); 0; 4096]?)?;
-    let (image_after, outcome) = replay(heap, reader, writer, image);
-    assert_eq!(rt; image_after.bytes(), zeros.as_slice());
+    let (image_after, outcome) = replay(rt.alloc(), reader, writer, image);
+    assert!(rt; image_after.bytes() == zeros.as_slice());
     Ok(outcome)
 }
 
@@ -69,18 +68,27 @@ impl Read for BrokenReader<'_> {
     }
 }
 
+/// The reader gives these bytes and then fails.
+fn check_reader(rt: &(impl Abort + AllocGlobal), good: &[u8]) -> Result<(), Fail> {
+    let mut reader = BrokenReader {
+        rest: good,
+        is_ready: true,
+    };
+    let mut written = Vec::new(rt.alloc());
+    let outcome = replayed(rt, &mut reader, &mut written)?;
+    same(
+        rt,
+        &good.len(),
+        &(outcome, written.len(), reader.rest.len()),
+        &(Err(ReplayFault::Read), 0, 0),
+    );
+    Ok(())
+}
+
 #[test]
 fn a_reader_that_fails(rt: HostRuntime) -> Result<(), Fail> {
     for good in 0..=TRACE.len() {
-        let mut reader = BrokenReader {
-            rest: &TRACE[..good],
-            is_ready: true,
-        };
-        let mut written = Vec::new(rt.alloc());
-        let outcome = replayed(&rt, rt.alloc(), &mut reader, &mut written)?;
-        assert_eq!(rt; outcome, Err(ReplayFault::Read), "after {good} bytes");
-        assert!(rt; written.is_empty());
-        assert!(rt; reader.rest.is_empty());
+        check_reader(&rt, &TRACE[..good])?;
     }
     Ok(())
 }
@@ -121,104 +129,39 @@ impl Write for SmallWriter {
     }
 }
 
-/// With room for all records the replay comes to its end, and the reader to its own.
+/// The writer has room for this front of the records. The reader comes to its end, and with room for all of them so does
+/// the replay.
+fn check_writer(rt: &(impl Abort + AllocGlobal), front: &[u8]) -> Result<(), Fail> {
+    let mut writer = SmallWriter::new(rt.alloc(), front.len());
+    let mut text = TRACE;
+    let outcome = replayed(rt, &mut text, &mut writer)?;
+    let wanted = if front.len() < RECORDS.len() {
+        Err(ReplayFault::Write)
+    } else {
+        Ok(())
+    };
+    same(
+        rt,
+        &front.len(),
+        &(outcome, writer.held.as_slice(), text.len()),
+        &(wanted, front, 0),
+    );
+    Ok(())
+}
+
 #[test]
 fn a_writer_that_fails(rt: HostRuntime) -> Result<(), Fail> {
     for room in 0..=RECORDS.len() {
-        let mut writer = SmallWriter::new(rt.alloc(), room);
-        let mut text = TRACE;
-        let outcome = replayed(&rt, rt.alloc(), &mut text, &mut writer)?;
-        assert_eq!(rt; writer.held.as_slice(), &RECORDS[..room]);
-        let end = if room < RECORDS.len() {
-            Err(ReplayFault::Write)
-        } else {
-            Ok(())
-        };
-        assert_eq!(rt; outcome, end, "with room for {room} bytes");
-        assert!(rt; text.is_empty());
+        check_writer(&rt, &RECORDS[..room])?;
     }
     Ok(())
 }
 
-/// The lines at which the input itself, the slots, the events, the bytes of a write and more events take
-/// memory.
-const LINES: [u64; 5] = [1, 3, 5, 7, 9];
-
-/// How many records were written. Each is that of ample memory, or says that there was none for its bytes.
-fn count_of(written: &[u8]) -> Option<usize> {
-    let mut count = 0usize;
-    let mut whole = RECORDS.split_inclusive(|b| *b == b'\n');
-    for line in written.split_inclusive(|b| *b == b'\n') {
-        if whole.next() != Some(line) && !line.ends_with(b" nomem - 0 0\n") {
-            return None;
-        }
-        count = count.saturating_add(1);
-    }
-    Some(count)
-}
-
-/// The place of what is answered, as memory is refused later and later: for one of these lines, for the
-/// board, for the text, for records, and for the bytes of a record. With it, how many records are written.
-fn place_of(outcome: Result<(), ReplayFault>) -> Option<(usize, usize)> {
-    match outcome {
-        Err(
-            ReplayFault::Trace(
-                TraceFault {
-                    line,
-                    kind: FaultKind::NoMemory,
-                },
-            ),
-        ) => Some((LINES.iter().position(|it| *it == line)?, 0)),
-        Err(ReplayFault::Board(BoardFault::NoMemory)) => Some((5, 0)),
-        Err(ReplayFault::NoMemory) => Some((6, 0)),
-        Err(ReplayFault::Run(done)) => Some((7, done)),
-        Ok(()) => Some((8, 7)),
-        _ => None,
-    }
-}
-
-#[test]
-fn each_request_refused_in_turn(rt: HostRuntime) -> Result<(), Fail> {
-    let heap = RefusingHeap::new(rt.alloc());
-    let mut times = [0u32; 9];
-    let mut last = 0;
-    for n in 1..100 {
-        let mut written = Vec::new(rt.alloc());
-        let mut text = TRACE;
-        heap.refuse_from(n);
-        let outcome = replayed(&rt, &heap, &mut text, &mut written)?;
-        if !heap.has_refused() {
-            assert_eq!(rt; outcome, Ok(()));
-            assert_eq!(rt; written.as_slice(), RECORDS);
-            let [
-                input,
-                slots,
-                events,
-                bytes,
-                more,
-                boards,
-                texts,
-                runs,
-                reads,
-            ] = times;
-            assert_eq!(rt; [input, slots, events, bytes, more, texts], [1; 6]);
-            assert!(rt; boards > 2, "the slots and two memories take memory");
-            assert!(rt; runs > 0 && reads > 0);
-            return Ok(());
-        }
-        let Some((place, count)) = place_of(outcome) else {
-            panic!(rt; "{outcome:?} at request {n}");
-        };
-        assert_eq!(rt; count_of(&written), Some(count), "at request {n}");
-        assert!(rt; last <= place);
-        last = place.min(8);
-        times[last] = times[last].saturating_add(1);
-    }
-    panic!(rt; "memory was never ample")
-}
-
 /// A trace with one record, which is longer than the buffer before the writer.
 const LONG: &[u8] = b"vreplay 1\ncache 1\nslot 0 20000 0 1 rw 1 1\nmr 0 100 12000\n";
+
+/// How many bytes the text of that record has.
+const LONG_RECORD: usize = 147467;
 
 /// The text of that record.
 fn long_record(rt: &(impl Abort + AllocGlobal)) -> Result<Vec<u8>, Fail> {
@@ -230,20 +173,28 @@ fn long_record(rt: &(impl Abort + AllocGlobal)) -> Result<Vec<u8>, Fail> {
     Ok(whole)
 }
 
+/// Where the writer has so much room that much of the record goes out.
+fn check_long(rt: &(impl Abort + AllocGlobal), whole: &[u8], room: usize) -> Result<(), Fail> {
+    let mut writer = SmallWriter::new(rt.alloc(), room);
+    let mut text = LONG;
+    let outcome = replayed(rt, &mut text, &mut writer)?;
+    let is_front = whole.starts_with(&writer.held);
+    same(
+        rt,
+        &room,
+        &(is_front, writer.held.len(), outcome.is_ok()),
+        &(true, room, room == whole.len()),
+    );
+    Ok(())
+}
+
 /// A record longer than the buffer before the writer goes out in pieces, also where the writer takes a byte at a
 /// time. Where it fails, a front of the record went out.
 #[test]
 fn a_record_longer_than_the_buffer(rt: HostRuntime) -> Result<(), Fail> {
     let whole = long_record(&rt)?;
-    for room in [0, 5, 65535, 65536, 65537, 131072, whole.len()] {
-        let mut writer = SmallWriter::new(rt.alloc(), room);
-        let mut text = LONG;
-        let outcome = replayed(&rt, rt.alloc(), &mut text, &mut writer)?;
-        assert!(rt; whole.starts_with(&writer.held));
-        assert_eq!(rt;
-            (writer.held.len(), outcome.is_ok()),
-            (room, room == whole.len())
-        );
+    for room in &[0, 5, 65535, 65536, 65537, 131072, LONG_RECORD] {
+        check_long(&rt, &whole, *room)?;
     }
     Ok(())
 }
@@ -270,19 +221,52 @@ impl Write for TiredWriter {
     }
 }
 
-/// The record takes three calls of the writer. Where one of them fails, what went out before it stands.
+/// The writer fails after so many calls. What went out before it stands.
+fn check_calls(rt: &(impl Abort + AllocGlobal), whole: &[u8], calls: u32) -> Result<(), Fail> {
+    let held = Vec::new(rt.alloc());
+    let mut writer = TiredWriter { held, calls };
+    let mut text = LONG;
+    let outcome = replayed(rt, &mut text, &mut writer)?;
+    let is_front = whole.starts_with(&writer.held);
+    let is_whole = writer.held.len() == whole.len();
+    same(
+        rt,
+        &calls,
+        &(is_front, outcome.is_ok(), is_whole),
+        &(true, calls > 2, calls > 2),
+    );
+    Ok(())
+}
+
+/// The record takes three calls of the writer.
 #[test]
 fn each_call_under_a_long_record(rt: HostRuntime) -> Result<(), Fail> {
     let whole = long_record(&rt)?;
     for calls in 0..5 {
-        let held = Vec::new(rt.alloc());
-        let mut writer = TiredWriter { held, calls };
-        let mut text = LONG;
-        let outcome = replayed(&rt, rt.alloc(), &mut text, &mut writer)?;
-        assert!(rt; whole.starts_with(&writer.held));
-        let is_whole = writer.held.len() == whole.len();
-        assert_eq!(rt; (outcome.is_ok(), is_whole), (calls > 2, calls > 2));
+        check_calls(&rt, &whole, calls)?;
     }
+    Ok(())
+}
+
+/// A text, and the same line so often behind it.
+fn with_lines(mut text: Vec<u8>, times: u32, line: &[u8]) -> Result<Vec<u8>, AllocError> {
+    for _ in 0..times {
+        text.extend_from_slice(line)?;
+    }
+    Ok(text)
+}
+
+/// So many events of a slot that isn't there, and 7000 of the other one.
+fn check_lines(rt: &(impl Abort + AllocGlobal), others: u32) -> Result<(), Fail> {
+    let front = b"vreplay 1\ncache 1\nslot 0 1000 0 1 rw 1 1\n".to_vec(rt.alloc())?;
+    let text = with_lines(front, others, b"r 10 b 000 4\n")?;
+    let text = with_lines(text, 7000, b"r 0 b 000 4\n")?;
+    let whole = with_lines(Vec::new(rt.alloc()), others, b"10 badslot - 0 0\n")?;
+    let whole = with_lines(whole, 7000, b"0 v:74726976 - 0 0\n")?;
+    let mut written = Vec::new(rt.alloc());
+    let mut rest = text.as_slice();
+    let outcome = replayed(rt, &mut rest, &mut written)?;
+    same(rt, &others, &(outcome, written == whole), &(Ok(()), true));
     Ok(())
 }
 
@@ -292,21 +276,7 @@ fn each_call_under_a_long_record(rt: HostRuntime) -> Result<(), Fail> {
 #[test]
 fn lines_that_end_anywhere(rt: HostRuntime) -> Result<(), Fail> {
     for others in 0..19 {
-        let mut text = b"vreplay 1\ncache 1\nslot 0 1000 0 1 rw 1 1\n".to_vec(rt.alloc())?;
-        let mut whole = Vec::new(rt.alloc());
-        for _ in 0..others {
-            text.extend_from_slice(b"r 10 b 000 4\n")?;
-            whole.extend_from_slice(b"10 badslot - 0 0\n")?;
-        }
-        for _ in 0..7000 {
-            text.extend_from_slice(b"r 0 b 000 4\n")?;
-            whole.extend_from_slice(b"0 v:74726976 - 0 0\n")?;
-        }
-        let mut written = Vec::new(rt.alloc());
-        let mut rest = text.as_slice();
-        let outcome = replayed(&rt, rt.alloc(), &mut rest, &mut written)?;
-        assert_eq!(rt; outcome, Ok(()));
-        assert!(rt; written == whole, "after {others} other lines");
+        check_lines(&rt, others)?;
     }
     Ok(())
 }

@@ -155,6 +155,13 @@ mr 0 80010000 1
 r 6 b 000 4
 ";
 
+/// The lines of the trace of which each takes memory, once: those of the 1st and the 5th slot, those of the 1st, the 5th,
+/// the 9th, the 17th, the 33rd and the 65th event, and those that have bytes.
+pub const LINES: [u64; 38] = [
+    3, 7, 9, 13, 17, 25, 41, 69, 70, 71, 73, 76, 77, 78, 83, 84, 85, 90, 91, 92, 97, 98, 99, 100,
+    101, 102, 108, 109, 110, 111, 112, 113, 119, 120, 121, 126, 127, 128,
+];
+
 /// The records of the trace over eight sectors, in which each byte of sector k is 10 + k: all behind those of the 60
 /// events that bring the devices up.
 pub const RECORDS: &str = "\
@@ -255,6 +262,17 @@ pub enum Request {
     From(u64),
 }
 
+impl Request {
+    /// The nth, alone or with each later one.
+    pub(super) fn nth(n: u64, lasts: bool) -> Request {
+        if lasts {
+            Request::From(n)
+        } else {
+            Request::Only(n)
+        }
+    }
+}
+
 /// From now on the heap refuses this.
 pub fn refuse(heap: &RefusingHeap, request: Request) {
     match request {
@@ -343,6 +361,28 @@ fn machine<A: Allocator + Copy>(
     Ok(board)
 }
 
+/// Runs what both guests do, and goes on with ample memory where it stopped. How many events were done there, how many
+/// requests for memory there were before, and whether one of them was refused.
+fn run_whole<'h>(
+    rt: &impl Abort,
+    heap: &'h RefusingHeap,
+    board: &mut Machine<&'h RefusingHeap>,
+    events: &[Event<&'h RefusingHeap>],
+    records: &mut Records<&'h RefusingHeap>,
+    request: Request,
+) -> (Option<usize>, u64, bool) {
+    refuse(heap, request);
+    let stopped = run(board, events, records);
+    let (requests, has_refused) = (heap.requests(), heap.has_refused());
+    heap.refuse_from(0);
+    if let Some(done) = stopped {
+        let so_far = records.len();
+        let rest = run(board, &events[done..], records);
+        assert!(rt; (so_far, rest) == (done, None));
+    }
+    (stopped, requests, has_refused)
+}
+
 /// Runs both guests so.
 pub fn run_guests<'h>(
     rt: &(impl Abort + AllocGlobal),
@@ -355,16 +395,17 @@ pub fn run_guests<'h>(
     let mut records = Vec::new(heap);
     let mut last = Vec::new(heap);
     let events = guests.whole.events.as_slice();
-    refuse(heap, case.request);
-    let stopped = run(&mut board, events, &mut records);
-    let (requests, has_refused) = (heap.requests(), heap.has_refused());
-    heap.refuse_from(0);
-    if let Some(done) = stopped {
-        assert_eq!(rt; records.len(), done);
-        assert_eq!(rt; run(&mut board, &events[done..], &mut records), None);
-    }
+    let (stopped, requests, has_refused) = run_whole(
+        rt,
+        heap,
+        &mut board,
+        events,
+        &mut records,
+        case.request,
+    );
     let calls = board.image().calls();
-    assert_eq!(rt; run(&mut board, &guests.last.events, &mut last), None);
+    let at_last = run(&mut board, &guests.last.events, &mut last);
+    assert!(rt; at_last.is_none());
     Ok(Ran {
         records,
         last,
