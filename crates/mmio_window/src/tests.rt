@@ -101,7 +101,7 @@ type Write = (u16, u8, u32);
 fn actions(rt: HostRuntime) -> Result<(), Fail> {
     let mem = GuestMemory::new(rt.alloc(), BASE, 0x1_0000)?;
     let mut window = up(DeviceKind::Block, BLOCK, VERSION_1, &mem);
-    for (write, action) in [
+    for row in &[
         ((0x050, 4, 0), Action::Notify(0)),
         ((0x050, 4, 1), Action::None),
         ((0x050, 4, 0x1_0000), Action::None),
@@ -118,18 +118,13 @@ fn actions(rt: HostRuntime) -> Result<(), Fail> {
         ((0x050, 4, 0), Action::None),
         ((0x070, 4, 0), Action::Reset),
     ] {
-        check_action(&rt, &mut window, &mem, write, action);
+        check_action(&rt, &mut window, &mem, row);
     }
     Ok(())
 }
 
-fn check_action(
-    rt: &impl Abort,
-    window: &mut Window,
-    mem: &GuestMemory,
-    write: Write,
-    action: Action,
-) {
+fn check_action(rt: &impl Abort, window: &mut Window, mem: &GuestMemory, row: &(Write, Action)) {
+    let (write, action) = *row;
     let (offset, width, value) = write;
     same(
         rt,
@@ -182,16 +177,24 @@ fn which_queues_are_made_ready(rt: HostRuntime) -> Result<(), Fail> {
     let mut split = up(DeviceKind::Block, BLOCK, VERSION_1, &mem);
     let mut packed = up(DeviceKind::Block, BLOCK, VERSION_1 | RING_PACKED, &mem);
     for queue in &QUEUES {
-        let (_, _, _, _, as_split, as_packed) = *queue;
-        same(&rt, queue, &made_ready(&mut split, &mem, queue), &as_split);
-        same(
-            &rt,
-            queue,
-            &made_ready(&mut packed, &mem, queue),
-            &as_packed,
-        );
+        check_queue(&rt, &mut split, &mut packed, &mem, queue);
     }
     Ok(())
+}
+
+fn check_queue(
+    rt: &impl Abort,
+    split: &mut Window,
+    packed: &mut Window,
+    mem: &GuestMemory,
+    queue: &QueueRow,
+) {
+    let (_, _, _, _, as_split, as_packed) = *queue;
+    let found = (
+        made_ready(split, mem, queue),
+        made_ready(packed, mem, queue),
+    );
+    same(rt, queue, &found, &(as_split, as_packed));
 }
 
 fn made_ready(window: &mut Window, mem: &GuestMemory, queue: &QueueRow) -> u32 {
@@ -251,20 +254,26 @@ fn check_value(
 fn interrupts(rt: HostRuntime) -> Result<(), Fail> {
     let mem = GuestMemory::new(rt.alloc(), BASE, 0x1_0000)?;
     let mut window = up(DeviceKind::Block, BLOCK, VERSION_1, &mem);
-    window.used_interrupt();
-    assert_eq!(rt; window.interrupts(), 1);
-    window.config_interrupt();
-    assert_eq!(rt; window.interrupts(), 3);
-    write_all(&mut window, &mem, &[(0x064, 1)]);
-    assert_eq!(rt; window.interrupts(), 2);
-    window.used_interrupt();
-    write_all(&mut window, &mem, &[(0x064, 0xffff_fffe)]);
-    assert_eq!(rt; window.interrupts(), 1);
-    window.needs_reset();
-    assert_eq!(rt; window.interrupts(), 3);
+    assert_eq!(rt; interrupts_by_step(&mut window, &mem), [1, 3, 2, 1, 3]);
     assert_eq!(rt; read(&window, 0x070), 0x4f);
     assert!(rt; window.queue(0).is_none());
     Ok(())
+}
+
+/// What is raised after a used buffer, a new configuration, the first taken, one more used buffer with every other
+/// taken, and a failure of the device.
+fn interrupts_by_step(window: &mut Window, mem: &GuestMemory) -> [u8; 5] {
+    window.used_interrupt();
+    let used = window.interrupts();
+    window.config_interrupt();
+    let both = window.interrupts();
+    write_all(window, mem, &[(0x064, 1)]);
+    let config = window.interrupts();
+    window.used_interrupt();
+    write_all(window, mem, &[(0x064, 0xffff_fffe)]);
+    let used_again = window.interrupts();
+    window.needs_reset();
+    [used, both, config, used_again, window.interrupts()]
 }
 
 #[test]
