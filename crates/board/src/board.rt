@@ -1,6 +1,6 @@
 //! The board: its slots over one image, and how events are handled in their order.
 
-ghost use Rattle.std.specs.Prelude.{◌≡◌, ◌≢◌, ◌↔◌, ◌≤◌, ◌<◌, ◌++◌, ◌∷◌, [], ℕ, List, All, length, map, vec_len, vec_capacity, IfOk, IfErr, OnOk, IsSomeAnd, IsErrAnd};
+ghost use Rattle.std.specs.Prelude.{◌≡◌, ◌≢◌, ◌↔◌, ◌≤◌, ◌<◌, ◌++◌, ◌∷◌, [], ℕ, List, All, length, map, vec_len, vec_capacity, IfOk, IfErr, OnOk, Some, None, IfSome, IfNone, IsSomeAnd, IsErrAnd};
 ghost use Rattle.std.specs.List.{slice_get};
 ghost use Rattle.board.specs.declared.fault.BoardFault.{BoardFault};
 ghost use Rattle.board.specs.Fault.{IsAccepted, Refuses, cache_refusal};
@@ -218,8 +218,16 @@ impl<I: Image, A: Allocator> Board<I, A> {
     pub fn disturbed(&self, slot: u8) -> Option<bool>
         ensures { result ≡ slice_get (disturbed_of self.now.slots) slot }
     {
-        let slot = self.slots.get(slot as usize)?;
+        let slot = self.slot(slot)?;
         Some(slot.is_disturbed())
+    }
+
+    // The slot of that number.
+    fn slot(&self, slot: u8) -> Option<&Slot<A>>
+        ensures there { IfSome result (λ found. slice_get self.now.slots slot ≡ Some found.now) }
+        ensures missing { IfNone result (slice_get self.now.slots slot ≡ None) }
+    {
+        self.slots.get(slot as usize)
     }
 
     /// Gives the image back as it stands.

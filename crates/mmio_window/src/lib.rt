@@ -17,7 +17,7 @@ mod register;
 mod window;
 
 pub use action::Action;
-pub use configuration::CONFIGURATION_LEN;
+pub use configuration::{CONFIGURATION_LEN, CONFIGURATION_OFFSET};
 pub use device_kind::DeviceKind;
 pub use laws::{
     generation_stays, one_chain_or_fault_at_a_place, ready_queue_is_its_ring, ready_queue_stays,

@@ -32,7 +32,7 @@ impl<I: Image, A: Allocator> Board<I, A> {
     pub fn interrupts(&self, slot: u8) -> Option<(u8, u8)>
         ensures { result ≡ option_map interrupt_words (slice_get self.now.slots slot) }
     {
-        let slot = self.slots.get(slot as usize)?;
+        let slot = self.slot(slot)?;
         Some(slot.interrupts())
     }
 
@@ -49,7 +49,7 @@ impl<I: Image, A: Allocator> Board<I, A> {
         ensures value { IfSome result (λ memory.
             IsSomeAnd (slice_get self.now.slots slot) (λ found. memory.now ≡ found.memory)) }
     {
-        let slot = self.slots.get(slot as usize)?;
+        let slot = self.slot(slot)?;
         Some(slot.memory())
     }
 

@@ -5,7 +5,7 @@ ghost use Rattle.block_device.specs.Extent.{IsWithin, KeepsOutside};
 ghost use Rattle.mmio_window.specs.declared.device_kind.DeviceKind.{DeviceKind};
 ghost use Rattle.board.specs.declared.event.EventKind.{EventKind};
 ghost use Rattle.board.specs.Image.{Health, Tells, bytes_of, health_of, sectors_of};
-ghost use Rattle.board.specs.Machine.{register};
+ghost use Rattle.board.specs.Machine.{register, window_of};
 ghost use Rattle.board.specs.Outcome.{does};
 ghost use Rattle.board.specs.Slot.{state_of};
 ghost use Rattle.board.specs.World.{MayGive, MayLackMemory, Serves};
@@ -13,7 +13,7 @@ ghost use Rattle.board.specs.World.{MayGive, MayLackMemory, Serves};
 use crate::reply::Reply;
 use crate::slot::{Answer, Slot};
 use console_device::NoMemory;
-use mmio_window::{Action, DeviceKind};
+use mmio_window::{Action, CONFIGURATION_OFFSET, DeviceKind, Window};
 use sector_cache::{Image, SectorCache};
 use std::alloc::Allocator;
 
@@ -27,11 +27,24 @@ impl<A: Allocator + Copy> Slot<A> {
             sectors_of (state_of bytes self.now).extent ≡ self.now.extent.count →
             result ≡ register (state_of bytes self.now) window offset width }
     {
+        if offset < CONFIGURATION_OFFSET {
+            return self.window(window).read_control(offset, width);
+        }
         match window {
             DeviceKind::Block => self.block.read(offset, width, &self.block_device.config()),
             DeviceKind::Console => self
                 .console
                 .read(offset, width, &self.console_device.config()),
+        }
+    }
+
+    // The window of a kind of device.
+    fn window(&self, kind: DeviceKind) -> &Window
+        ensures { (bytes : List ℕ) → result.now ≡ window_of kind (state_of bytes self.now) }
+    {
+        match kind {
+            DeviceKind::Block => &self.block,
+            DeviceKind::Console => &self.console,
         }
     }
 

@@ -1,7 +1,7 @@
 //! Reading the window's registers.
 
 ghost use Rattle.std.specs.Prelude.{◌≡◌, is_some};
-ghost use Rattle.mmio_window.specs.Reading.{read_value, shown};
+ghost use Rattle.mmio_window.specs.Reading.{control_value, read_value, shown};
 ghost use Rattle.mmio_window.specs.Window.{registers_of, ring_at};
 
 use crate::configuration::{
@@ -34,19 +34,26 @@ impl Window {
     pub fn read(&self, offset: u16, width: u8, config: &[u8; CONFIGURATION_LEN]) -> u32
         ensures { result ≡ read_value offset width config.now self.now }
     {
-        if offset >= CONFIGURATION_OFFSET {
-            if is_configuration_access(offset, width) {
-                configuration_value(config, usize::from(offset - CONFIGURATION_OFFSET), width)
-            } else {
-                0
-            }
-        } else if width == 4 {
-            match Register::at(offset) {
-                Some(register) => self.shown(register),
-                None => 0,
-            }
+        if offset < CONFIGURATION_OFFSET {
+            self.read_control(offset, width)
+        } else if is_configuration_access(offset, width) {
+            configuration_value(config, usize::from(offset - CONFIGURATION_OFFSET), width)
         } else {
             0
+        }
+    }
+
+    /// A read of a control register, for which no configuration is wanted. At `CONFIGURATION_OFFSET` and beyond it
+    /// gives 0.
+    pub fn read_control(&self, offset: u16, width: u8) -> u32
+        ensures { result ≡ control_value offset width self.now }
+    {
+        if width != 4 {
+            return 0;
+        }
+        match Register::at(offset) {
+            Some(register) => self.shown(register),
+            None => 0,
         }
     }
 
