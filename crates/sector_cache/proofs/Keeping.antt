@@ -111,9 +111,11 @@ module _ {A : Type 0} where
         ]
   ]) refl
 
-  -- after a put of a block it is found by its number
-  pub seen-put : (old new : LruCache ℕ (Option (Box (List ℕ) A))) (k : ℕ) (block : Box (List ℕ) A) → new ≡ lru_cache (put_entries nat_eq old k (Some block)) old.cap → seen (lookup (nat_eq k) new.entries) ≡ Some block.value
-  seen-put old new k block is = ap (λ c. seen (lookup (nat_eq k) c.entries)) is ∙ ap seen (lookup-put_entries nat_eq old k (Some block) nat_eq_equiv)
+  -- after a put of a block something of that number is found
+  pub put_found : (old new : LruCache ℕ (Option (Box (List ℕ) A))) (k : ℕ) (block : Box (List ℕ) A) → new ≡ lru_cache (put_entries nat_eq old k (Some block)) old.cap → seen (lookup (nat_eq k) new.entries) ≡ None → ⊥
+  put_found old new k block is none =
+      let put : seen (lookup (nat_eq k) new.entries) ≡ Some block.value = ap (λ c. seen (lookup (nat_eq k) c.entries)) is ∙ ap seen (lookup-put_entries nat_eq old k (Some block) nat_eq_equiv) in
+      let never : Some block.value ≡ None = sym put ∙ none in cc
 
   -- the first entry is found by its number
   pub seen-first : (es : List (ℕ × Option (Box (List ℕ) A))) (k number : ℕ) (v : Option (Box (List ℕ) A)) (block : Box (List ℕ) A) → Some (number, v) ≡ slice_get es 0 → v ≡ Some block → number ≡ k → seen (lookup (nat_eq k) es) ≡ Some block.value

@@ -84,15 +84,11 @@ impl<A: Allocator + Copy> Kept<A> {
     pub(crate) fn put(&mut self, sector: u64, bytes: &[u8; 512])
         ensures { MayKeep sector bytes.now self.old self.new }
     {
-        let Some(block) = block_of(self.alloc, self.spare.take(), bytes) else {
-            return;
-        };
-        if let Some(block) = self.push(sector, block) {
-            self.spare = Some(block);
-        }
+        *self.last = *bytes;
+        self.keep_last(sector);
     }
 
-    /// The same of the last bytes, whose block is kept itself.
+    /// The same of the last bytes.
     pub(crate) fn keep_last(&mut self, sector: u64)
         ensures keeps { MayKeep sector (last_of self.old) self.old self.new }
         ensures last { kept_of self.new sector ≡ None → last_of self.new ≡ last_of self.old }
@@ -101,40 +97,21 @@ impl<A: Allocator + Copy> Kept<A> {
             return;
         };
         let block = mem::replace(&mut self.last, room);
-        if let Some(block) = self.push(sector, block) {
+        match self.sectors.push(sector, Some(block)) {
+            Ok(Some((_, block))) => self.spare = block,
+            Ok(None) => {}
+            Err(AllocFailed { value: (_, block) }) => self.take_back(block),
+        }
+    }
+
+    /// Takes back the last bytes, for which there was no place.
+    fn take_back(&mut self, block: Option<Block<A>>)
+        ensures sectors { self.new.sectors ≡ self.old.sectors }
+        ensures last { IfSome block (λ b. last_of self.new ≡ box_value b) }
+    {
+        if let Some(block) = block {
             self.spare = Some(mem::replace(&mut self.last, block));
         }
-    }
-
-    /// Keeps a block of a sector, as the most recently used, and spares the one that gives way. Where there is no
-    /// memory to keep it, it is handed back.
-    fn push(&mut self, sector: u64, block: Block<A>) -> Option<Block<A>>
-        ensures keeps { MayKeep sector (box_value block) self.old self.new }
-        ensures last { self.new.last ≡ self.old.last }
-        ensures kept { result ≡ None → kept_of self.new sector ≡ Some (box_value block) }
-        ensures refused { IfSome result (λ b. box_value b ≡ box_value block) }
-    {
-        match self.sectors.push(sector, Some(block)) {
-            Ok(Some((_, spare))) => {
-                self.spare = spare;
-                None
-            }
-            Ok(None) => None,
-            Err(AllocFailed { value: (_, block) }) => block,
-        }
-    }
-}
-
-/// A block of these bytes: what is spared, or new.
-fn block_of<A: Allocator>(alloc: A, spare: Option<Block<A>>, bytes: &[u8; 512]) -> Option<Block<A>>
-    ensures { IfSome result (λ block. box_value block ≡ bytes.now) }
-{
-    match spare {
-        Some(mut block) => {
-            *block = *bytes;
-            Some(block)
-        }
-        None => Box::new(alloc, *bytes).ok(),
     }
 }
 

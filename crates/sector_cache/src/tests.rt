@@ -89,9 +89,21 @@ fn caches_have_1_to_65536_sectors(rt: HostRuntime) -> Result<(), Fail> {
     Ok(())
 }
 
-/// What `four_calls` gives: of each read the byte of each half of the sector, or none where it fails; whether the
-/// write and the flush succeed.
-pub(crate) type Answers = (Given, [bool; 2], Given);
+/// The byte of each half of a sector that was read, or none where the read failed.
+pub(crate) type Read = Option<Given>;
+
+/// What `four_calls` gives: its two reads, and whether the write and the flush between them succeed.
+pub(crate) type Answers = (Read, [bool; 2], Read);
+
+/// What sector 0 holds.
+pub(crate) const ZERO: Read = Some(Some([0x10, 0x10]));
+
+/// What sector 1 holds before the write, after it, and where it failed halfway.
+pub(crate) const OLD: Read = Some(Some([0x11, 0x11]));
+
+pub(crate) const NEW: Read = Some(Some([0x55, 0x55]));
+
+pub(crate) const TORN: Read = Some(Some([0x55, 0x11]));
 
 /// Reads sector 0, writes 55 into sector 1, flushes and reads sector 1, of an image of two sectors.
 pub(crate) fn four_calls<I: Image>(image: &mut I) -> Option<Answers> {
@@ -103,39 +115,20 @@ pub(crate) fn four_calls<I: Image>(image: &mut I) -> Option<Answers> {
     let written = image.write_sector(1, &filled(0x55)).is_ok();
     let flushed = image.flush().is_ok();
     let read_again = image.read_sector(1, &mut one).is_ok();
-    Some((
-        given(read, &zero),
-        [written, flushed],
-        given(read_again, &one),
-    ))
-}
-
-/// The byte of each half of a sector that was read.
-fn given(read: bool, bytes: &[u8; 512]) -> Given {
-    if read { halves_of(bytes) } else { None }
+    let first = read.then_some(halves_of(&zero));
+    let second = read_again.then_some(halves_of(&one));
+    Some((first, [written, flushed], second))
 }
 
 /// The call that fails, or 4 for none; what the calls give; the halves that are left in sector 1.
 type Listed = (u64, Answers, [u8; 2]);
 
 const LISTED: [Listed; 5] = [
-    (
-        4,
-        (Some([0x10, 0x10]), [true, true], Some([0x55, 0x55])),
-        [0x55, 0x55],
-    ),
-    (0, (None, [true, true], Some([0x55, 0x55])), [0x55, 0x55]),
-    (
-        1,
-        (Some([0x10, 0x10]), [false, true], Some([0x55, 0x11])),
-        [0x55, 0x11],
-    ),
-    (
-        2,
-        (Some([0x10, 0x10]), [true, false], Some([0x55, 0x55])),
-        [0x55, 0x55],
-    ),
-    (3, (Some([0x10, 0x10]), [true, true], None), [0x55, 0x55]),
+    (4, (ZERO, [true, true], NEW), [0x55, 0x55]),
+    (0, (None, [true, true], NEW), [0x55, 0x55]),
+    (1, (ZERO, [false, true], TORN), [0x55, 0x11]),
+    (2, (ZERO, [true, false], NEW), [0x55, 0x55]),
+    (3, (ZERO, [true, true], None), [0x55, 0x55]),
 ];
 
 fn check_listed(rt: &impl Abort, alloc: Global, row: &Listed) -> Result<(), Fail> {

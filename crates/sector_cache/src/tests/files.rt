@@ -1,8 +1,8 @@
 //! Images over files: each call of a file failing or coming short in turn, and real files.
 
 use crate::tests::memory_file::{MemoryFile, Trouble};
-use crate::tests::sectors::{Given, filled};
-use crate::tests::{Answers, four_calls, halves, same};
+use crate::tests::sectors::filled;
+use crate::tests::{Answers, NEW, OLD, TORN, ZERO, four_calls, halves, same};
 use crate::{FileImage, FileImageFault, Image};
 use std::alloc::Global;
 use std::env::temp_dir;
@@ -59,58 +59,53 @@ fn files_have_whole_sectors(rt: HostRuntime) -> Result<(), Fail> {
 /// calls failed; the halves of sector 1 that the file then holds; and whether all is synced.
 type Row = (Option<(u32, Trouble)>, Answers, u64, [u8; 2], bool);
 
-/// What sector 0 holds, and sector 1 once it was written.
-const ZERO: Given = Some([0x10, 0x10]);
-
-const ONE: Given = Some([0x55, 0x55]);
-
 const ROWS: [Row; 10] = [
-    (None, (ZERO, [true, true], ONE), 0, [0x55, 0x55], true),
+    (None, (ZERO, [true, true], NEW), 0, [0x55, 0x55], true),
     (
         Some((1, Trouble::Fails)),
-        (None, [true, true], ONE),
+        (None, [true, true], NEW),
         1,
         [0x55, 0x55],
         true,
     ),
     (
         Some((1, Trouble::Short(511))),
-        (None, [true, true], ONE),
+        (None, [true, true], NEW),
         1,
         [0x55, 0x55],
         true,
     ),
     (
         Some((1, Trouble::Short(0))),
-        (None, [true, true], ONE),
+        (None, [true, true], NEW),
         1,
         [0x55, 0x55],
         true,
     ),
     (
         Some((2, Trouble::Fails)),
-        (ZERO, [false, true], Some([0x11, 0x11])),
+        (ZERO, [false, true], OLD),
         1,
         [0x11, 0x11],
         true,
     ),
     (
         Some((2, Trouble::Short(256))),
-        (ZERO, [false, true], Some([0x55, 0x11])),
+        (ZERO, [false, true], TORN),
         1,
         [0x55, 0x11],
         true,
     ),
     (
         Some((2, Trouble::Short(0))),
-        (ZERO, [false, true], Some([0x11, 0x11])),
+        (ZERO, [false, true], OLD),
         1,
         [0x11, 0x11],
         true,
     ),
     (
         Some((3, Trouble::Fails)),
-        (ZERO, [true, false], ONE),
+        (ZERO, [true, false], NEW),
         1,
         [0x55, 0x55],
         false,
@@ -165,8 +160,8 @@ fn real_file<R: Files>(rt: &R, path: &str, writes: bool) -> io::Result<R::File> 
 type Real = (bool, Answers, [u64; 2]);
 
 const REAL: [Real; 2] = [
-    (true, (ZERO, [true, true], ONE), [0, 1]),
-    (false, (ZERO, [false, true], Some([0x11, 0x11])), [1, 2]),
+    (true, (ZERO, [true, true], NEW), [0, 1]),
+    (false, (ZERO, [false, true], OLD), [1, 2]),
 ];
 
 /// What is found of a real file: what `four_calls` gives, and how many calls failed; whether 55 is written; whether
