@@ -141,36 +141,31 @@ fn write_words<W: fmt::Write>(f: &mut Formatter<W>, words: &[String]) -> fmt::Re
 fn write_line<W: fmt::Write>(f: &mut Formatter<W>, fault: TraceFault, line: &[u8]) -> fmt::Result {
     let number = fault.line;
     write!(f, "line {number}: ")?;
-    match fault.kind {
-        FaultKind::Cut => write!(
-            f,
-            "each line ends with a line feed, and the first two are there"
-        )?,
-        FaultKind::Header => write!(f, "the first line is \"vreplay 1\"")?,
-        FaultKind::Word if number == 2 => write!(
-            f,
-            "the second line is the cache's, as \"cache 8\""
-        )?,
-        FaultKind::Word => write!(f, "a line begins with slot, r, w, mr, mw, in or sz")?,
-        FaultKind::Order => write!(f, "slots stand before all events")?,
-        FaultKind::Fields => write_fields(f, line)?,
+    let wanted = match fault.kind {
+        FaultKind::Cut => "each line ends with a line feed, and the first two are there",
+        FaultKind::Header => "the first line is \"vreplay 1\"",
+        FaultKind::Word if number == 2 => "the second line is the cache's, as \"cache 8\"",
+        FaultKind::Word => "a line begins with slot, r, w, mr, mw, in or sz",
+        FaultKind::Order => "slots stand before all events",
+        FaultKind::Fields => return write_fields(f, line),
         kind => return write_field(f, kind, line),
-    }
+    };
     let shown = Shown(line);
-    write!(f, "; found {shown}")
+    write!(f, "{wanted}; found {shown}")
 }
 
-// How many fields a line has.
+// How many fields a line has, and how it was found.
 fn write_fields<W: fmt::Write>(f: &mut Formatter<W>, line: &[u8]) -> fmt::Result {
+    let shown = Shown(line);
     let Some(row) = row_of(line) else {
-        return Ok(());
+        return write!(f, "found {shown}");
     };
     let word = row.word;
     let count = row.shapes.len();
     let example = row.example;
     write!(
         f,
-        "{word} has {count} fields after it, each after one space, as \"{example}\""
+        "{word} has {count} fields after it, each after one space, as \"{example}\"; found {shown}"
     )
 }
 
@@ -185,27 +180,23 @@ fn write_field<W: fmt::Write>(f: &mut Formatter<W>, kind: FaultKind, line: &[u8]
 
 impl Display for Shape {
     fn fmt<W: fmt::Write>(&self, f: &mut Formatter<W>) -> fmt::Result {
-        match self {
-            Shape::Number(name, bits) => write!(
+        let how = match self {
+            Shape::Number(name, bits) => return write!(
                 f,
                 "{name} is lower case hexadecimal digits without zeros in front, of {bits} bits at most, as 1f"
             ),
-            Shape::Offset => write!(
-                f,
-                "a register offset is three lower case hexadecimal digits, as 070"
-            ),
-            Shape::Value => write!(
-                f,
+            Shape::Offset => "a register offset is three lower case hexadecimal digits, as 070",
+            Shape::Value => {
                 "a value is two lower case hexadecimal digits for each byte of its width, as 0000000f of width 4"
-            ),
-            Shape::Window => write!(f, "a window is b or c"),
-            Shape::Width => write!(f, "a width is 1, 2 or 4"),
-            Shape::Mode => write!(f, "a slot is rw or ro"),
-            Shape::Bytes => write!(
-                f,
+            }
+            Shape::Window => "a window is b or c",
+            Shape::Width => "a width is 1, 2 or 4",
+            Shape::Mode => "a slot is rw or ro",
+            Shape::Bytes => {
                 "bytes are two lower case hexadecimal digits each, as 4142, or - for none"
-            ),
-        }
+            }
+        };
+        write!(f, "{how}")
     }
 }
 

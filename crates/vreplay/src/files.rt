@@ -35,15 +35,24 @@ where
             replay_whole(rt, alloc, call, out)?;
             Ok(None)
         }
-        Keeping::Saved(path) => {
-            let image = replay_whole(rt, alloc, call, out)?;
-            Ok(Some(save(rt, path, image.bytes())?))
-        }
+        Keeping::Saved(path) => Ok(Some(replay_and_save(rt, alloc, call, path, out)?)),
         Keeping::InPlace => {
             replay_in_place(rt, alloc, call, out)?;
             Ok(None)
         }
     }
+}
+
+// Replays the trace over an image that is read whole, and saves its bytes.
+fn replay_and_save<A: Allocator + Copy, R: Eprint + Files, W: Write>(
+    rt: &R,
+    alloc: A,
+    call: &Call<'_>,
+    path: &str,
+    out: &mut W,
+) -> Result<R::File, ReplayFault> {
+    let image = replay_whole(rt, alloc, call, out)?;
+    save(rt, path, image.bytes())
 }
 
 // Replays the trace over an image that is read whole. The image's own file is only read.
@@ -79,7 +88,8 @@ fn image_in<A: Allocator, R: Eprint + Files>(
     alloc: A,
     path: &str,
 ) -> Result<MemoryImage<A>, ReplayFault> {
-    match read_image(alloc, &mut open(rt, path, false)?) {
+    let read = read_image(alloc, &mut open(rt, path, false)?);
+    match read {
         Ok(image) => Ok(image),
         Err(NoImage::Unread) => refuse(rt, ReplayFault::Read, Advice::Unread(path)),
         Err(NoImage::Ragged) => refuse(rt, ReplayFault::Read, Advice::Ragged(path)),
@@ -92,7 +102,8 @@ fn image_at<R: Eprint + Files>(rt: &R, path: &str) -> Result<FileImage<R::File>,
 where
     R::File: BackingFile,
 {
-    match FileImage::new(open(rt, path, true)?) {
+    let file = open(rt, path, true)?;
+    match FileImage::new(file) {
         Ok(image) => Ok(image),
         Err(FileImageFault::Io) => refuse(rt, ReplayFault::Read, Advice::Unread(path)),
         Err(FileImageFault::BadSize) => refuse(rt, ReplayFault::Read, Advice::Ragged(path)),
@@ -105,7 +116,8 @@ fn text_in<A: Allocator, R: Eprint + Files>(
     alloc: A,
     path: &str,
 ) -> Result<Vec<u8, A>, ReplayFault> {
-    match gather(alloc, &mut open(rt, path, false)?) {
+    let gathered = gather(alloc, &mut open(rt, path, false)?);
+    match gathered {
         Ok(text) => Ok(text),
         Err(fault) => refuse(rt, fault, Advice::on_reading(fault, path)),
     }
