@@ -1,8 +1,9 @@
 -- Sectors that were moved so far, and what the request is once they all are, or once the image fails.
 use Rattle.std.proofs.Common.{◌≡◌, inl, inr, ℕ, ◌+◌, ◌*◌, ◌<◌, ◌≤◌, Some, List, [], ◌++◌, length, map, take, drop, refl, sym, ap, ◌∙◌, arith, length-take, length-drop, length-append}
 use Rattle.std.specs.Prelude.{IfSome, Result, Ok, Err}
-use Rattle.std.proofs.lemmas.List.{take_all, drop-drop}
+use Rattle.std.proofs.lemmas.List.{take_all, take-take, drop-drop}
 use Rattle.std.proofs.lemmas.List.{length-map, map-append}
+use Rattle.std.proofs.Math.Seq.{take-add}
 use Rattle.guest_memory.specs.Memory.{Memory, SameRange}
 use Rattle.chain.specs.declared.segment.Buffer.{Buffer}
 use Rattle.chain.specs.Bytes.{readable_of, writable_of, scatter}
@@ -88,6 +89,22 @@ reading_fails extent buffers old new disk d disk' sector count done len r sooner
       len_is = size ∙ sym finds.size;
       memory = r.memory;
     }
+
+-- the first sector of a part of the readable list is the sector there
+pub first_sector : (part chunk readable : List ℕ) (place : ℕ) → part ≡ take (length part) (drop place readable)
+    → 512 ≤ length part → chunk ≡ take 512 part → chunk ≡ take 512 (drop place readable)
+first_sector part chunk readable place listed enough first =
+    first ∙ ap (take 512) listed ∙ take-take 512 (length part) (drop place readable) enough
+
+-- and so is a shorter part with the bytes behind it
+pub gathered_sector : (part front rest readable : List ℕ) (place size : ℕ) → part ≡ take (length part) (drop place readable)
+    → front ≡ part → rest ≡ take size (drop (place + length part) readable) → length part + size ≡ 512
+    → front ++ rest ≡ take 512 (drop place readable)
+gathered_sector part front rest readable place size listed copied read whole =
+    let from = drop place readable in
+    ap (λ bytes. bytes ++ rest) (copied ∙ listed)
+    ∙ ap (λ bytes. take (length part) from ++ bytes) (read ∙ ap (take size) (sym (drop-drop (length part) place readable)))
+    ∙ sym (take-add (length part) size from) ∙ ap (λ n. take n from) whole
 
 -- these sectors were written from a sector of the disk on
 pub record IsWriting (disk disk' : Disk) (sector : ℕ) (payload : List ℕ) (done : ℕ) : Type 0 where

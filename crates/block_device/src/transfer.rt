@@ -1,8 +1,8 @@
-//! Sectors on their way between an image and a chain, one at a time. Nothing is gathered: what is read goes from
-//! the cache straight into memory, what is written through one array. The first call of the image that fails is
-//! the last.
+//! Sectors on their way between an image and a chain, one at a time. What is read goes from
+//! the cache straight into memory, what is written out of memory straight into the cache, and through one array where
+//! it lies in more than one segment. The first call of the image that fails is the last.
 
-ghost use Rattle.std.specs.Prelude.{◌+◌, ◌*◌, ◌^◌, ◌<◌, ◌≤◌, ◌≡◌, if◌then◌else◌, length, All};
+ghost use Rattle.std.specs.Prelude.{◌+◌, ◌*◌, ◌^◌, ◌<◌, ◌≤◌, ◌≡◌, if◌then◌else◌, length, take, drop, All};
 ghost use Rattle.guest_memory.specs.Memory.{SameRange};
 ghost use Rattle.chain.specs.Buffers.{Within};
 ghost use Rattle.chain.specs.Bytes.{readable_of, writable_of};
@@ -109,10 +109,10 @@ impl BlockDevice {
             (I.disk cache.old).failures + (if result.failed then 1 else 0) }
         ensures outside { KeepsOutside self.now.extent (I.disk cache.old) (I.disk cache.new) }
     {
-        let mut bytes = [0; SECTOR_LEN as usize];
+        let mut gathered = [0; SECTOR_LEN as usize];
         for done in 0..count {
-            chain.read_at(mem, HEADER_LEN + SECTOR_LEN * done, &mut bytes);
-            match cache.write(self.extent.start + sector + done, &bytes) {
+            let bytes = sector_at(mem, chain, HEADER_LEN + SECTOR_LEN * done, &mut gathered);
+            match cache.write(self.extent.start + sector + done, bytes) {
                 Ok(()) => {}
                 Err(_) => return Done::FAILED,
             }
@@ -122,4 +122,26 @@ impl BlockDevice {
             Err(_) => Done::FAILED,
         }
     }
+}
+
+// The 512 readable bytes from a place on: where they lie in memory where that is one segment, and else gathered.
+fn sector_at<'a, M: Allocator>(
+    mem: &'a GuestMemory<M>,
+    chain: &Chain,
+    place: u64,
+    gathered: &'a mut [u8; SECTOR_LEN as usize],
+) -> &'a [u8; SECTOR_LEN as usize]
+    requires inside { All (Within mem.now) chain.now }
+    requires range { place + sector_len ≤ length (readable_of mem.now chain.now) }
+    requires fits { place + sector_len < 2 ^ 64 }
+    ensures { result.now ≡ take sector_len (drop place (readable_of mem.now chain.now)) }
+{
+    let part = chain.read_part(mem, place);
+    if let Some(bytes) = part.first_chunk() {
+        return bytes;
+    }
+    let (front, rest) = gathered.split_at_mut(part.len());
+    front.copy_from_slice(part);
+    chain.read_at(mem, place + part.len() as u64, rest);
+    gathered
 }

@@ -1,4 +1,4 @@
-use Rattle.std.proofs.Common.{◌+◌, arith, rules}
+use Rattle.std.proofs.Common.{◌+◌, arith}
 use Rattle.chain.specs.Bytes.{readable_of}
 use Rattle.block_device.proofs.Transfers.{writing_start, writing_more, writing_done, writing_fails, writing_unflushed}
 use Rattle.block_device.proofs.device.BlockDevice.write_sectors.Goals as goal
@@ -9,8 +9,8 @@ loop-done-init g c = writing_start (g.I.Image.disk c.args.cache.now) (c.args.sel
 pub loop-done-preserved : goal.loop-done-preserved
 loop-done-preserved g c =
     writing_more (g.I.Image.disk c.args.cache.now) (g.I.Image.disk c.loop-done.cache) (g.I.Image.disk c.write.new.self) (c.args.self.now.extent.start + c.args.sector)
-    c.args.count c.loop-done.done (readable_of c.args.mem.now c.args.chain.now) c.read_at.new.into (g.met.I.Image.whole c.args.cache.now) c.loop-done.invariant
-    c.loop-done-test.true c.requires.payload (omega arith) (search rules) c.in-Ok.ensures.ok
+    c.args.count c.loop-done.done (readable_of c.args.mem.now c.args.chain.now) _ (g.met.I.Image.whole c.args.cache.now) c.loop-done.invariant
+    c.loop-done-test.true c.requires.payload (omega arith) c.sector_at-bytes.ensures c.in-Ok.ensures.ok
 
 pub returns-in-Err-clause-done : goal.returns-in-Err-clause-done
 returns-in-Err-clause-done g c =
