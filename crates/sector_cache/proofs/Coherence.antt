@@ -1,6 +1,7 @@
 -- What is kept stays what the image tells, through each call of the image.
 use Rattle.std.proofs.Common.{◌≡◌, ℕ, ◌*◌, ◌<◌, ◌⊎◌, inl, inr, List, length, Bool, true, false, Option, Some, None, IfSome, cond, ◌==◌, refl, sym, ◌∙◌, ap, arith}
 use Rattle.std.specs.Option.{option_map}
+use Rattle.std.specs.Prelude.{Result, Ok, Err, OnOk, OnErr}
 use Rattle.std.proofs.lemmas.Bool.{eq-eqb, cases_eq}
 use Rattle.sector_cache.specs.Disk.{Disk, IsWhole, IsAsTold, IsTorn, written}
 use Rattle.sector_cache.specs.Kept.{kept_of, IsCoherent, KeepsAllBut, MayKeep}
@@ -68,12 +69,21 @@ module _ {A : Type 0} where
     told = IsAsTold-itself disk sector new whole within long;
   })
 
-  -- such a write that fails, after which the sector is dropped once more
-  pub coherent_torn : (sector : ℕ) (disk after : Disk) (old new : Kept A) → KeepsAllBut sector old new → IsTorn sector disk after → IsBeside sector disk old → IsWhole disk → sector < disk.sector_count → IsCoherent after new
-  coherent_torn sector disk after old new dropped torn beside whole within =
-      coherent_less sector after old new
-      (rw torn.torn (record { told = (coherent_apart sector torn.left disk old whole within torn.whole beside).told }))
-      dropped
+  -- such a write that fails
+  pub coherent_torn : (sector : ℕ) (disk after : Disk) (kept : Kept A) → IsTorn sector disk after → IsBeside sector disk kept → IsWhole disk → sector < disk.sector_count → IsCoherent after kept
+  coherent_torn sector disk after kept torn beside whole within =
+      rw torn.torn (record { told = (coherent_apart sector torn.left disk kept whole within torn.whole beside).told })
+
+  -- and after which the sector is dropped once more
+  pub coherent_dropped : (sector : ℕ) (disk after : Disk) (old new : Kept A) → KeepsAllBut sector old new → IsTorn sector disk after → IsBeside sector disk old → IsWhole disk → sector < disk.sector_count → IsCoherent after new
+  coherent_dropped sector disk after old new dropped torn beside whole within =
+      coherent_less sector after old new (coherent_torn sector disk after old torn beside whole within) dropped
+
+  -- such a write, whichever way it ends
+  pub coherent_zeroed : {X E : Type 0} (result : Result X E) (sector : ℕ) (new : List ℕ) (disk after : Disk) (kept : Kept A) → OnOk result (after ≡ written sector new disk) → OnErr result (IsTorn sector disk after)
+      → IsBeside sector disk kept → IsWhole disk → sector < disk.sector_count → length new ≡ 512 → IsCoherent after kept
+  coherent_zeroed (Ok _) sector new disk after kept ok err beside whole within long = (coherent_written sector new disk after kept ok beside whole within long).others
+  coherent_zeroed (Err _) sector new disk after kept ok err beside whole within long = coherent_torn sector disk after kept err beside whole within
 
   -- what is put is as told
   pub coherent_put : (sector : ℕ) (bytes : List ℕ) (disk : Disk) (old new : Kept A) → MayKeep sector bytes old new → IsWritten sector bytes disk old → IsCoherent disk new

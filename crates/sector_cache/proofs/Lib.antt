@@ -1,6 +1,5 @@
 pub mod Coherence
 pub mod Filed
 pub mod Gathered
-pub mod Keeping
 pub mod Sectors
 pub mod TestFiles

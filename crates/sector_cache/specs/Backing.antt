@@ -1,5 +1,5 @@
 -- What a read gives of a file of which the bytes are known, and what a write leaves of them.
-use Rattle.std.specs.Prelude.{◌≡◌, ℕ, ◌+◌, ◌*◌, ◌≤◌, List, ◌++◌, length, take, drop, Option, None, Some, IsSomeAnd, ⊤, Result, Ok, Err, OnOk}
+use Rattle.std.specs.Prelude.{◌≡◌, ℕ, ◌+◌, ◌*◌, ◌≤◌, List, ◌++◌, length, take, drop, Option, None, Some, IsSomeAnd, ⊤, Result, Ok, Err, OnOk, IsErr, ◌<◌}
 use Rattle.sector_cache.specs.Sector.{sector_of, with_sector}
 
 -- the bytes with others in place of as many from byte `at` on
@@ -48,3 +48,8 @@ abbrev pub PutsSector : {E : Type 0} → ℕ → List ℕ → Result (Unit {0}) 
 PutsSector sector from result None new = new ≡ None
 PutsSector sector from result (Some old) new =
     512 * (sector + 1) ≤ length old → IsSomeAnd new (IsSectorPut sector from result old)
+
+-- a write of a sector that the file doesn't have whole fails and leaves it, where its bytes are known
+abbrev pub LeavesShort : {E : Type 0} → ℕ → Result (Unit {0}) E → (old new : Option (List ℕ)) → Type 0
+LeavesShort sector result None new = ⊤
+LeavesShort sector result (Some old) new = length old < 512 * (sector + 1) → IsErr result × (new ≡ Some old)

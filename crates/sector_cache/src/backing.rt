@@ -1,15 +1,16 @@
 //! What an image asks of the file that holds its bytes.
 
-ghost use Rattle.std.specs.Prelude.{◌≡◌, ◌+◌, ◌*◌, ◌<◌, ◌^◌, ℕ, List, Option, None, ⊤, IfSome, IfOk, OnOk, length, take, drop};
+ghost use Rattle.std.specs.Prelude.{◌≡◌, ◌≢◌, ◌↔◌, ◌+◌, ◌*◌, ◌<◌, ◌^◌, ℕ, List, Option, None, ⊤, IfSome, IfOk, IfErr, IsOk, OnOk, length, take, drop};
 ghost use Rattle.std.specs.Io.{ReadsAtMost, WritesAtMost};
-ghost use Rattle.sector_cache.specs.Backing.{Gets, HasSector, Puts, PutsSector, count_of};
+ghost use Rattle.std.specs.IoError.{error_kind};
+ghost use Rattle.sector_cache.specs.Backing.{Gets, HasSector, LeavesShort, Puts, PutsSector, count_of};
 
-use crate::image::ImageError;
+use crate::fault::FileImageFault;
 use crate::sector::SECTOR_BYTES;
-use std::fs::File;
+use std::fs::{File, TryLockError};
 use std::io;
-use std::io::{Seek, SeekFrom};
-use std::os::unix::fs::FileExt;
+use std::io::{ErrorKind, Seek, SeekFrom};
+use std::os::unix::fs::{FileExt, FileTypeExt};
 
 /// A file that is read and written at places that the caller names.
 ///
@@ -21,6 +22,12 @@ pub trait BackingFile: Drop {
 
     // what was written has been synced, as far as that is known
     ghost IsSynced: { Self → Type 0 };
+
+    /// Takes the file for one holder, as far as the system knows of locks, until it is closed. Refuses
+    /// what can't hold an image.
+    fn hold(&mut self) -> Result<(), FileImageFault>
+        ensures refused { IfErr result (λ fault. fault ≢ FileImageFault.BadSize) }
+        ensures stays { held self.new ≡ held self.old };
 
     /// How many bytes the file has.
     fn length(&mut self) -> io::Result<u64>
@@ -49,6 +56,21 @@ impl BackingFile for File {
 
     ghost IsSynced = { λ _. ⊤ };
 
+    // A file system without locks, and a lock that can't be had for another cause, are no refusal.
+    fn hold(&mut self) -> Result<(), FileImageFault> {
+        let Ok(metadata) = self.metadata() else {
+            return Err(FileImageFault::Io);
+        };
+        let kind = metadata.file_type();
+        if !kind.is_file() && !kind.is_block_device() {
+            return Err(FileImageFault::BadKind);
+        }
+        match self.try_lock() {
+            Err(TryLockError::WouldBlock) => Err(FileImageFault::Locked),
+            _ => Ok(()),
+        }
+    }
+
     fn length(&mut self) -> io::Result<u64> {
         self.seek(SeekFrom::End(0))
     }
@@ -66,38 +88,74 @@ impl BackingFile for File {
     }
 }
 
-/// Reads a sector at its place. One that comes short has failed.
-#[tactic(auto, using(crate::proofs::Filed::got_whole))]
+/// Reads a sector at its place. One that isn't whole in the file has failed.
 pub(crate) fn read_sector<F: BackingFile>(
     file: &mut F,
     sector: u64,
     into: &mut [u8; SECTOR_BYTES],
-) -> Result<(), ImageError>
+) -> io::Result<()>
     requires { 512 * sector < 2 ^ 64 }
     ensures read { OnOk result (HasSector (F.held file.old) sector into.new) }
     ensures stays { F.held file.new ≡ F.held file.old }
 {
-    whole(file.read_from(sector * SECTOR_BYTES as u64, into))
+    let at = sector * SECTOR_BYTES as u64;
+    let mut done = 0;
+    for _turn in 0..u64::MAX {
+        if done == SECTOR_BYTES {
+            return Ok(());
+        }
+        done += moved(file.read_from(at + done as u64, &mut into[done..]))?;
+    }
+    Err(io::Error::from(ErrorKind::Interrupted))
 }
 
-/// Writes a sector at its place. One that comes short has failed.
+/// Writes a sector at its place. A file that no longer has all of it is left alone, and the write has failed.
 pub(crate) fn write_sector<F: BackingFile>(
     file: &mut F,
     sector: u64,
     from: &[u8; SECTOR_BYTES],
-) -> Result<(), ImageError>
+) -> io::Result<()>
+    requires { 512 * sector < 2 ^ 64 }
+    ensures put { PutsSector sector from.now result (F.held file.old) (F.held file.new) }
+    ensures short { LeavesShort sector result (F.held file.old) (F.held file.new) }
+{
+    if file.length()? / SECTOR_BYTES as u64 <= sector {
+        return Err(io::Error::from(ErrorKind::UnexpectedEof));
+    }
+    write_whole(file, sector, from)
+}
+
+// Writes a sector at its place in a file that has it.
+fn write_whole<F: BackingFile>(
+    file: &mut F,
+    sector: u64,
+    from: &[u8; SECTOR_BYTES],
+) -> io::Result<()>
     requires { 512 * sector < 2 ^ 64 }
     ensures { PutsSector sector from.now result (F.held file.old) (F.held file.new) }
 {
-    whole(file.write_to(sector * SECTOR_BYTES as u64, from))
+    let at = sector * SECTOR_BYTES as u64;
+    let mut done = 0;
+    for _turn in 0..u64::MAX {
+        if done == SECTOR_BYTES {
+            return Ok(());
+        }
+        done += moved(file.write_to(at + done as u64, &from[done..]))?;
+    }
+    Err(io::Error::from(ErrorKind::Interrupted))
 }
 
-// Whether a whole sector was read or written.
-fn whole(count: io::Result<usize>) -> Result<(), ImageError>
-    ensures { OnOk result (count_of count ≡ 512) }
+// How many bytes a call moved: none where a signal interrupted it, which is then made again. A call that moves none
+// by itself has failed, since it is at the file's end.
+fn moved(count: io::Result<usize>) -> io::Result<usize>
+    ensures count { IfOk result (λ n. n ≡ count_of count) }
+    ensures none { IfOk count (λ n. n ≢ 0 ↔ IsOk result) }
+    ensures again { IfErr count (λ e. error_kind e ≡ ErrorKind.Interrupted ↔ IsOk result) }
 {
     match count {
-        Ok(SECTOR_BYTES) => Ok(()),
-        _ => Err(ImageError),
+        Ok(0) => Err(io::Error::from(ErrorKind::UnexpectedEof)),
+        Ok(n) => Ok(n),
+        Err(error) if error.kind() == ErrorKind::Interrupted => Ok(0),
+        Err(error) => Err(error),
     }
 }

@@ -1,6 +1,6 @@
 //! A cache of sectors over an image.
 
-ghost use Rattle.std.specs.Prelude.{◌≡◌, ◌<◌, ◌↔◌, IfOk, IfErr, OnOk, OnErr, IsSome, replicate};
+ghost use Rattle.std.specs.Prelude.{◌≡◌, ◌<◌, ◌↔◌, IfOk, IfErr, OnOk, OnErr, IsTrue, replicate};
 ghost use Rattle.std.specs.Borrow.{sem};
 ghost use Rattle.std.specs.Io.BufRead.{Rests};
 ghost use Rattle.sector_cache.specs.contracts.cache.SectorCache.{the_row};
@@ -14,7 +14,6 @@ use crate::image::{Image, ImageError};
 use crate::kept::Kept;
 use std::alloc::{Allocator, Global};
 use std::marker::Model;
-use std::num::NonZeroUsize;
 
 /// How many sectors a cache may keep at most.
 const MOST_SECTORS: u32 = 65536;
@@ -47,13 +46,13 @@ impl<I: Image, A: Allocator + Copy> SectorCache<I, A> {
         ensures fault { IfErr result (λ refused. RefusesCapacity capacity refused.why) }
         ensures returned { IfErr result (λ refused. refused.image ≡ image) }
     {
-        let Some(capacity) = admitted(capacity) else {
+        if !is_admitted(capacity) {
             return Err(Refused {
                 image,
                 why: CacheFault::BadCapacity,
             });
-        };
-        let Ok(kept) = Kept::new(alloc, capacity) else {
+        }
+        let Ok(kept) = Kept::new(alloc, room_for(capacity, image.sectors())) else {
             return Err(Refused {
                 image,
                 why: CacheFault::NoMemory,
@@ -69,11 +68,14 @@ impl<I: Image, A: Allocator + Copy> SectorCache<I, A> {
         ensures* after_borrow { sem 𝓛 (Rests (the_row I.row A.row I.Image A.Allocator) self.entry (λ cache.
             IsReadThrough result (I.disk self.old) (I.disk cache))) }
     {
-        if !self.kept.touch(sector) {
-            self.image.read_sector(sector, &mut self.kept.last)?;
-            self.kept.keep_last(sector);
-        }
-        Ok(self.kept.bytes(sector))
+        let place = match self.kept.touch(sector) {
+            Some(place) => place,
+            None => {
+                self.image.read_sector(sector, &mut self.kept.last)?;
+                self.kept.keep_last(sector)
+            }
+        };
+        Ok(self.kept.bytes(place))
     }
 
     /// Reads a sector. After an `Err` `into` may hold any bytes.
@@ -96,14 +98,14 @@ impl<I: Image, A: Allocator + Copy> SectorCache<I, A> {
         write_through(&mut self.image, &mut self.kept, sector, from)
     }
 
-    /// Writes 512 zeros.
+    /// `write` of 512 zeros, of which none are kept: zeroing many sectors drives no other out of the cache.
     pub fn zero(&mut self, sector: u64) -> Result<(), ImageError>
         requires { sector < (I.disk self.old).sector_count }
         ensures ok { OnOk result
             (I.disk self.new ≡ written sector (replicate 512 0) (I.disk self.old)) }
         ensures err { OnErr result (IsTorn sector (I.disk self.old) (I.disk self.new)) }
     {
-        self.write(sector, &[0; 512])
+        zero_through(&mut self.image, &mut self.kept, sector)
     }
 }
 
@@ -146,21 +148,40 @@ fn write_through<I: Image, A: Allocator + Copy>(
     ensures err { OnErr result (IsTorn sector (I.disk image.old) (I.disk image.new)) }
     ensures coherent { IsCoherent (I.disk image.new) kept.new }
 {
-    kept.empty(sector);
+    let place = kept.empty(sector);
     if let Err(error) = image.write_sector(sector, from) {
         kept.forget(sector);
         return Err(error);
     }
-    kept.put(sector, from);
+    kept.put(sector, place, from);
     Ok(())
 }
 
-/// How many sectors may be kept, where that many are admitted.
-fn admitted(capacity: u32) -> Option<NonZeroUsize>
-    ensures { IsSome result ↔ IsCapacity capacity }
+/// Zeroes a sector of an image, of which some sectors are kept. Nothing is kept of it from before the image is
+/// called.
+fn zero_through<I: Image, A: Allocator + Copy>(
+    image: &mut I,
+    kept: &mut Kept<A>,
+    sector: u64,
+) -> Result<(), ImageError>
+    requires sector { sector < (I.disk image.old).sector_count }
+    requires coherent { IsCoherent (I.disk image.old) kept.old }
+    ensures ok { OnOk result (I.disk image.new ≡ written sector (replicate 512 0) (I.disk image.old)) }
+    ensures err { OnErr result (IsTorn sector (I.disk image.old) (I.disk image.new)) }
+    ensures coherent { IsCoherent (I.disk image.new) kept.new }
 {
-    if capacity > MOST_SECTORS {
-        return None;
-    }
-    NonZeroUsize::new(capacity as usize)
+    kept.forget(sector);
+    image.write_sector(sector, &[0; 512])
+}
+
+/// Whether a cache may have this capacity.
+fn is_admitted(capacity: u32) -> bool
+    ensures { IsTrue result ↔ IsCapacity capacity }
+{
+    (1..=MOST_SECTORS).contains(&capacity)
+}
+
+/// How many sectors of an image can be kept: no more than it has, and at least one.
+fn room_for(capacity: u32, sectors: u64) -> usize {
+    sectors.min(capacity as u64).max(1) as usize
 }

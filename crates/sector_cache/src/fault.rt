@@ -1,5 +1,6 @@
 //! Why an image or a cache could not be made.
 
+use std::io;
 use thiserror::Error;
 
 /// Why bytes are no image.
@@ -16,9 +17,33 @@ pub enum FileImageFault {
     /// Its length is no multiple of 512.
     #[error("the length of the file is no multiple of 512 bytes")]
     BadSize,
-    /// Its length could not be found.
+    /// Its length or its kind could not be found.
     #[error("the length of the file could not be found")]
     Io,
+    /// It is neither a regular file nor a block device.
+    #[error("it is neither a regular file nor a block device")]
+    BadKind,
+    /// Somebody else holds a lock on it.
+    #[error("somebody else holds a lock on the file")]
+    Locked,
+}
+
+/// A call that an image makes of its file.
+#[derive(Clone, Copy, Debug, PartialEq, Eq, Hash)]
+pub enum FileCall {
+    Read,
+    Write,
+    Sync,
+}
+
+/// A call of a file that failed.
+#[derive(Clone, Copy, Debug)]
+pub struct FileFailure {
+    pub call: FileCall,
+    /// The sector that was to be read or written. Of a sync, the last one that was to be written before it.
+    pub sector: Option<u64>,
+    /// The system's error.
+    pub error: io::Error,
 }
 
 /// Why there is no cache. The first that fits, in this order, is the one that is answered.

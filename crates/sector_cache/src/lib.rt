@@ -13,12 +13,13 @@ mod image;
 mod kept;
 mod laws;
 mod memory;
+mod order;
 mod scripted;
 mod sector;
 
 pub use backing::BackingFile;
 pub use cache::SectorCache;
-pub use fault::{CacheFault, FileImageFault, ImageFault, Refused};
+pub use fault::{CacheFault, FileCall, FileFailure, FileImageFault, ImageFault, Refused};
 pub use file_image::FileImage;
 pub use image::{Image, ImageError};
 pub use laws::memory_images_tell;

@@ -176,11 +176,13 @@ fn sectors_are_gathered(rt: HostRuntime) -> Result<(), Fail> {
 #[test]
 fn faults_are_told(rt: HostRuntime) -> Result<(), Fail> {
     let told = format!(in rt.alloc();
-        "{}, {}, {}, {}, {}, {}",
+        "{}, {}, {}, {}, {}, {}, {}, {}",
         ImageError,
         ImageFault::BadSize,
         FileImageFault::BadSize,
         FileImageFault::Io,
+        FileImageFault::BadKind,
+        FileImageFault::Locked,
         CacheFault::BadCapacity,
         CacheFault::NoMemory
     )?;
@@ -190,6 +192,8 @@ fn faults_are_told(rt: HostRuntime) -> Result<(), Fail> {
          the length of the image is no multiple of 512 bytes, \
          the length of the file is no multiple of 512 bytes, \
          the length of the file could not be found, \
+         it is neither a regular file nor a block device, \
+         somebody else holds a lock on the file, \
          the capacity of the cache is not in 1..=65536 sectors, \
          no memory for the cache"
     );

@@ -2,7 +2,7 @@
 
 use crate::tests::plain::PlainCache;
 use crate::tests::same;
-use crate::tests::sectors::{Call, Given, call_of};
+use crate::tests::sectors::{Call, Given, Numbers, call_of};
 use crate::tests::switched::SwitchedImage;
 use crate::{MemoryImage, SectorCache};
 use std::alloc::Global;
@@ -13,23 +13,6 @@ use std::test::Fail;
 fn zeros(alloc: Global) -> Result<SwitchedImage, Fail> {
     let bytes = vec![in alloc; 0u8; 64 * 512]?;
     Ok(SwitchedImage::new(MemoryImage::new(bytes)?))
-}
-
-/// Numbers that look random, in an order that is always the same.
-#[derive(Drop)]
-struct Numbers {
-    state: u64,
-}
-
-impl Numbers {
-    /// A number below 2^`bits`, of at most 31 bits.
-    fn of_bits(&mut self, bits: u32) -> u64 {
-        self.state = self
-            .state
-            .wrapping_mul(6_364_136_223_846_793_005)
-            .wrapping_add(1);
-        (self.state >> 33) & ((1 << bits.min(31)) - 1)
-    }
 }
 
 /// A call of one of 64 sectors.

@@ -3,7 +3,7 @@
 use crate::tests::memory_file::{MemoryFile, Trouble};
 use crate::tests::sectors::filled;
 use crate::tests::{Answers, NEW, OLD, TORN, ZERO, four_calls, halves, same};
-use crate::{FileImage, FileImageFault, Image};
+use crate::{FileCall, FileImage, FileImageFault, Image};
 use std::alloc::Global;
 use std::env::temp_dir;
 use std::fs::OpenOptions;
@@ -59,7 +59,7 @@ fn files_have_whole_sectors(rt: HostRuntime) -> Result<(), Fail> {
 /// calls failed; the halves of sector 1 that the file then holds; and whether all is synced.
 type Row = (Option<(u32, Trouble)>, Answers, u64, [u8; 2], bool);
 
-const ROWS: [Row; 10] = [
+const ROWS: [Row; 13] = [
     (None, (ZERO, [true, true], NEW), 0, [0x55, 0x55], true),
     (
         Some((1, Trouble::Fails)),
@@ -70,8 +70,8 @@ const ROWS: [Row; 10] = [
     ),
     (
         Some((1, Trouble::Short(511))),
-        (None, [true, true], NEW),
-        1,
+        (ZERO, [true, true], NEW),
+        0,
         [0x55, 0x55],
         true,
     ),
@@ -83,6 +83,13 @@ const ROWS: [Row; 10] = [
         true,
     ),
     (
+        Some((1, Trouble::Interrupted)),
+        (ZERO, [true, true], NEW),
+        0,
+        [0x55, 0x55],
+        true,
+    ),
+    (
         Some((2, Trouble::Fails)),
         (ZERO, [false, true], OLD),
         1,
@@ -90,35 +97,49 @@ const ROWS: [Row; 10] = [
         true,
     ),
     (
-        Some((2, Trouble::Short(256))),
-        (ZERO, [false, true], TORN),
-        1,
-        [0x55, 0x11],
-        true,
-    ),
-    (
-        Some((2, Trouble::Short(0))),
+        Some((3, Trouble::Fails)),
         (ZERO, [false, true], OLD),
         1,
         [0x11, 0x11],
         true,
     ),
     (
-        Some((3, Trouble::Fails)),
+        Some((3, Trouble::Stops(256))),
+        (ZERO, [false, true], TORN),
+        1,
+        [0x55, 0x11],
+        true,
+    ),
+    (
+        Some((3, Trouble::Short(256))),
+        (ZERO, [true, true], NEW),
+        0,
+        [0x55, 0x55],
+        true,
+    ),
+    (
+        Some((3, Trouble::Short(0))),
+        (ZERO, [false, true], OLD),
+        1,
+        [0x11, 0x11],
+        true,
+    ),
+    (
+        Some((3, Trouble::Interrupted)),
+        (ZERO, [true, true], NEW),
+        0,
+        [0x55, 0x55],
+        true,
+    ),
+    (
+        Some((4, Trouble::Fails)),
         (ZERO, [true, false], NEW),
         1,
         [0x55, 0x55],
         false,
     ),
     (
-        Some((4, Trouble::Fails)),
-        (ZERO, [true, true], None),
-        1,
-        [0x55, 0x55],
-        true,
-    ),
-    (
-        Some((4, Trouble::Short(256))),
+        Some((5, Trouble::Stops(256))),
         (ZERO, [true, true], None),
         1,
         [0x55, 0x55],
@@ -145,9 +166,75 @@ fn each_call_of_a_file_in_turn(rt: HostRuntime) -> Result<(), Fail> {
     Ok(())
 }
 
-/// Reads sector 1, and answers whether that succeeded.
-fn read_one<I: Image>(image: &mut I) -> bool {
-    image.sectors() > 1 && image.read_sector(1, &mut filled(0)).is_ok()
+/// Writes sector 1 and flushes, twice: whether each of the four calls succeeds, and then the first that failed, by its
+/// sector.
+fn two_flushes<I: Image>(image: &mut I) -> Option<[bool; 4]> {
+    if image.sectors() != 2 {
+        return None;
+    }
+    let (first, second) = (filled(0x55), filled(0x66));
+    let written = image.write_sector(1, &first).is_ok();
+    let flushed = image.flush().is_ok();
+    let again = image.write_sector(1, &second).is_ok();
+    Some([written, flushed, again, image.flush().is_ok()])
+}
+
+/// What fails; which calls of `two_flushes` succeed; how many calls failed; the first; and how many calls of the file
+/// there were, with that for its length.
+type Lost = (
+    Option<(u32, Trouble)>,
+    [bool; 4],
+    u64,
+    Option<(FileCall, Option<u64>)>,
+    u32,
+);
+
+/// After a sync that failed none is tried, and each flush fails.
+const LOST: [Lost; 3] = [
+    (None, [true, true, true, true], 0, None, 7),
+    (
+        Some((2, Trouble::Fails)),
+        [false, true, true, true],
+        1,
+        Some((FileCall::Write, Some(1))),
+        7,
+    ),
+    (
+        Some((3, Trouble::Fails)),
+        [true, false, true, false],
+        2,
+        Some((FileCall::Sync, Some(1))),
+        6,
+    ),
+];
+
+fn check_lost(rt: &impl Abort, alloc: Global, row: &Lost) -> Result<(), Fail> {
+    let (trouble, succeed, failures, first, calls) = *row;
+    let mut image = image_of(halves(alloc, &[0x10, 0x10, 0x11, 0x11])?, trouble)?;
+    let answers = two_flushes(&mut image);
+    let told = image
+        .first_failure()
+        .map(|failure| (failure.call, failure.sector));
+    let found = (answers, image.failures(), told, image.into_file().calls);
+    same(rt, row, &found, &(Some(succeed), failures, first, calls));
+    Ok(())
+}
+
+#[test]
+fn a_sync_that_failed_stays_failed(rt: HostRuntime) -> Result<(), Fail> {
+    for row in &LOST {
+        check_lost(&rt, rt.alloc(), row)?;
+    }
+    Ok(())
+}
+
+/// Reads sector 1 and writes it, and answers whether one of both succeeded.
+fn reach_one<I: Image>(image: &mut I) -> bool {
+    if image.sectors() < 2 {
+        return true;
+    }
+    let is_read = image.read_sector(1, &mut filled(0)).is_ok();
+    image.write_sector(1, &filled(0x77)).is_ok() || is_read
 }
 
 /// A real file, opened to be read alone or to be written too.
@@ -155,18 +242,27 @@ fn real_file<R: Files>(rt: &R, path: &str, writes: bool) -> io::Result<R::File> 
     OpenOptions::new().read(true).write(writes).open(rt, path)
 }
 
-/// Whether the file may be written; what `four_calls` gives; how many calls failed by then, and with one read more of
-/// the shorter file.
+/// Whether the file may be written; what `four_calls` gives; how many calls failed by then, and with a read and a write
+/// more of the shorter file.
 type Real = (bool, Answers, [u64; 2]);
 
 const REAL: [Real; 2] = [
-    (true, (ZERO, [true, true], NEW), [0, 1]),
-    (false, (ZERO, [false, true], OLD), [1, 2]),
+    (true, (ZERO, [true, true], NEW), [0, 2]),
+    (false, (ZERO, [false, true], OLD), [1, 3]),
 ];
 
 /// What is found of a real file: what `four_calls` gives, and how many calls failed; whether 55 is written; whether
-/// sector 1 is still read where the file has become shorter, and how many calls failed then.
-type Outcome = (Option<Answers>, u64, bool, bool, u64);
+/// sector 1 is still read or written where the file has become shorter, and how many calls failed then; why a second
+/// image can't be had of the file; and how long it is in the end.
+type Outcome = (
+    Option<Answers>,
+    u64,
+    bool,
+    bool,
+    u64,
+    Option<FileImageFault>,
+    u64,
+);
 
 fn outcome_of(rt: &HostRuntime, path: &str, writes: bool) -> Result<Outcome, Fail> {
     fs::write(rt, path, &halves(rt.alloc(), &[0x10, 0x10, 0x11, 0x11])?)?;
@@ -175,8 +271,13 @@ fn outcome_of(rt: &HostRuntime, path: &str, writes: bool) -> Result<Outcome, Fai
     let failures = image.failures();
     let is_written = fs::read(rt, path)? == halves(rt.alloc(), &[0x10, 0x10, 0x55, 0x55])?;
     real_file(rt, path, true)?.set_len(512)?;
-    let is_read = read_one(&mut image);
-    Ok((answers, failures, is_written, is_read, image.failures()))
+    let is_reached = reach_one(&mut image);
+    let second = FileImage::new(real_file(rt, path, true)?).err();
+    let length = fs::metadata(rt, path)?.len();
+    let count = image.failures();
+    Ok((
+        answers, failures, is_written, is_reached, count, second, length,
+    ))
 }
 
 fn check_real(rt: &impl Abort, row: &Real, found: &Outcome) {
@@ -185,12 +286,20 @@ fn check_real(rt: &impl Abort, row: &Real, found: &Outcome) {
         rt,
         row,
         found,
-        &(Some(answers), before, writes, false, after),
+        &(
+            Some(answers),
+            before,
+            writes,
+            false,
+            after,
+            Some(FileImageFault::Locked),
+            512,
+        ),
     );
 }
 
 /// The last sector of a real file is written in place; one that can't be written, or that has become
-/// shorter, fails and is counted.
+/// shorter, fails, is counted and doesn't grow; and it is held for one image.
 #[test]
 fn real_files(rt: HostRuntime) -> Result<(), Fail> {
     let path = format!(in rt.alloc(); "{}/sector-cache-test", temp_dir(&rt)?.display())?;
@@ -198,4 +307,14 @@ fn real_files(rt: HostRuntime) -> Result<(), Fail> {
         check_real(&rt, row, &outcome_of(&rt, &path, row.0)?);
     }
     Ok(fs::remove_file(&rt, &path)?)
+}
+
+/// What is neither a file nor a block device is refused.
+#[test]
+fn other_things_are_refused(rt: HostRuntime) -> Result<(), Fail> {
+    for path in &["/dev/null", "/dev/zero"] {
+        let refused = FileImage::new(real_file(&rt, path, true)?).err();
+        same(&rt, path, &refused, &Some(FileImageFault::BadKind));
+    }
+    Ok(())
 }

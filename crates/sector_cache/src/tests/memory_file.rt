@@ -3,6 +3,7 @@
 ghost use Rattle.std.specs.Prelude.{◌≡◌, ◌≢◌, ◌+◌, ◌≤◌, length, take, drop, Some, IfOk, false};
 ghost use Rattle.sector_cache.specs.Backing.{with_bytes};
 
+use crate::FileImageFault;
 use crate::backing::BackingFile;
 use std::io;
 use std::io::ErrorKind;
@@ -12,8 +13,12 @@ use std::io::ErrorKind;
 pub enum Trouble {
     /// It fails, and nothing is done.
     Fails,
+    /// It is interrupted, and nothing is done.
+    Interrupted,
     /// It reads or writes so many bytes at most, and fails where it does neither.
     Short(usize),
+    /// The same, and the next call fails.
+    Stops(usize),
 }
 
 /// A file that tells its bytes. Its calls are numbered from 0.
@@ -63,7 +68,15 @@ impl MemoryFile {
         let n = self.calls;
         self.calls = n.saturating_add(1);
         match self.trouble {
-            Some((at, Trouble::Short(less))) if at == n && most > 0 => Ok(less.min(most)),
+            Some((at, Trouble::Short(less) | Trouble::Stops(less))) if at == n && most > 0 => {
+                Ok(less.min(most))
+            }
+            Some((at, Trouble::Interrupted)) if at == n => {
+                Err(io::Error::from(ErrorKind::Interrupted))
+            }
+            Some((at, Trouble::Stops(_))) if at == n - n.min(1) => {
+                Err(io::Error::from(ErrorKind::Other))
+            }
             Some((at, _)) if at == n => Err(io::Error::from(ErrorKind::Other)),
             _ => Ok(most),
         }
@@ -74,6 +87,10 @@ impl BackingFile for MemoryFile {
     ghost held = { λ file. Some file.bytes.items };
 
     ghost IsSynced = { λ file. file.unsynced ≡ false };
+
+    fn hold(&mut self) -> Result<(), FileImageFault> {
+        Ok(())
+    }
 
     fn length(&mut self) -> io::Result<u64> {
         self.granted(0)?;

@@ -1,7 +1,7 @@
-//! Each request for memory refused in turn: no call but `new` shows it.
+//! Each request of `new` refused in turn; and no other call asks for memory.
 
 use crate::tests::same;
-use crate::tests::sectors::{Call, Given, call_of, eight_sectors};
+use crate::tests::sectors::{Call, Numbers, call_of, eight_sectors};
 use crate::{CacheFault, ScriptedImage, SectorCache};
 use refusing::RefusingHeap;
 use std::alloc::Global;
@@ -43,51 +43,86 @@ fn each_request_of_new_is_refused(rt: HostRuntime) -> Result<(), Fail> {
     Ok(())
 }
 
-/// A call of a cache of two sectors, and what it gives.
-type Step = (Call, Given);
-
-const CALLS: [Step; 8] = [
-    (Call::Read(0), Some([0x10, 0x10])),
-    (Call::Read(1), Some([0x11, 0x11])),
-    (Call::Write(1, 0x55), Some([0x55, 0x55])),
-    (Call::Read(1), Some([0x55, 0x55])),
-    (Call::Write(2, 0x66), Some([0x66, 0x66])),
-    (Call::Read(2), Some([0x66, 0x66])),
-    (Call::Read(0), Some([0x10, 0x10])),
-    (Call::Read(1), Some([0x55, 0x55])),
-];
-
-/// Makes a call of a cache of whose requests for memory the nth is refused.
-fn check_step<'a>(
-    rt: &impl Abort,
-    n: u64,
-    cache: &mut SectorCache<ScriptedImage, &'a RefusingHeap>,
-    step: &Step,
-) {
-    let (call, given) = *step;
-    same(rt, &(n, call), &call_of(cache, call), &given);
-}
-
-/// Refuses the nth request, and answers whether it came.
-fn check_calls(rt: &impl Abort, alloc: Global, heap: &RefusingHeap, n: u64) -> Result<bool, Fail> {
-    heap.refuse_from(0);
+/// How many requests a cache of this capacity makes over an image of eight sectors.
+fn requests_of(alloc: Global, heap: &RefusingHeap, capacity: u32) -> Result<u64, Fail> {
     let image = eight_sectors(alloc, &[])?;
-    let mut cache = SectorCache::new(heap, image, 2).map_err(|refused| refused.why)?;
-    heap.refuse_from(n);
-    for step in &CALLS {
-        check_step(rt, n, &mut cache, step);
-    }
-    Ok(heap.has_refused())
+    heap.refuse_from(0);
+    let _cache = SectorCache::new(heap, image, capacity).map_err(|refused| refused.why)?;
+    Ok(heap.requests())
 }
+
+/// Room is taken for each sector that can be kept, and of eight sectors no more than eight can.
+#[test]
+fn room_is_for_the_sectors_that_there_are(rt: HostRuntime) -> Result<(), Fail> {
+    let heap = RefusingHeap::new(rt.alloc());
+    let seven = requests_of(rt.alloc(), &heap, 7)?;
+    let eight = requests_of(rt.alloc(), &heap, 8)?;
+    let most = requests_of(rt.alloc(), &heap, 65536)?;
+    same(
+        &rt,
+        &"7, 8 and 65536",
+        &(eight, most),
+        &(seven.wrapping_add(1), eight),
+    );
+    Ok(())
+}
+
+/// A cache before an image of 4096 sectors.
+type Cache<'a> = SectorCache<ScriptedImage, &'a RefusingHeap>;
+
+/// A cache of which the heap refuses all from now on.
+fn made_of<'a>(alloc: Global, heap: &'a RefusingHeap, capacity: u32) -> Result<Cache<'a>, Fail> {
+    heap.refuse_from(0);
+    let image = ScriptedImage::new(vec![in alloc; 0u8; 4096 * 512]?, Vec::new(alloc))?;
+    let cache = SectorCache::new(heap, image, capacity).map_err(|refused| refused.why)?;
+    heap.refuse_from(1);
+    Ok(cache)
+}
+
+/// Reads a sector somewhere, or writes it in one of four cases.
+fn call_somewhere<'a>(cache: &mut Cache<'a>, numbers: &mut Numbers) {
+    let sector = numbers.of_bits(12);
+    let call = match numbers.of_bits(2) {
+        0 => Call::Write(sector, 0x55),
+        _ => Call::Read(sector),
+    };
+    let _ = call_of(cache, call);
+}
+
+/// Reads as many sectors as the cache keeps, and answers how often the image was called so far.
+fn calls_after_reads<'a>(cache: &mut Cache<'a>, capacity: u32) -> u64 {
+    for sector in 0..capacity {
+        let _ = call_of(cache, Call::Read(sector as u64));
+    }
+    cache.image().calls()
+}
+
+/// Many calls ask the heap for nothing, and after them as much is kept as ever.
+fn check_calls(
+    rt: &impl Abort,
+    alloc: Global,
+    heap: &RefusingHeap,
+    capacity: u32,
+) -> Result<(), Fail> {
+    let mut cache = made_of(alloc, heap, capacity)?;
+    let mut numbers = Numbers { state: 20_261_123 };
+    for _ in 0..20_000 {
+        call_somewhere(&mut cache, &mut numbers);
+    }
+    let first = calls_after_reads(&mut cache, capacity);
+    let again = calls_after_reads(&mut cache, capacity);
+    same(rt, &capacity, &(heap.requests(), again), &(0, first));
+    Ok(())
+}
+
+/// Capacities at which the table is as full as it gets, and others.
+const CAPACITIES: [u32; 5] = [1, 9, 36, 72, 100];
 
 #[test]
-fn each_put_is_refused(rt: HostRuntime) -> Result<(), Fail> {
+fn no_call_asks_for_memory(rt: HostRuntime) -> Result<(), Fail> {
     let heap = RefusingHeap::new(rt.alloc());
-    for n in 1..u64::MAX {
-        if !check_calls(&rt, rt.alloc(), &heap, n)? {
-            same(&rt, &n, &(n > 4), &true);
-            break;
-        }
+    for capacity in &CAPACITIES {
+        check_calls(&rt, rt.alloc(), &heap, *capacity)?;
     }
     Ok(())
 }

@@ -1,0 +1,8 @@
+use Rattle.std.proofs.Common.{◌≡◌, ◌≤◌, length}
+use Rattle.sector_cache.proofs.Filed.{HasFront}
+use Rattle.sector_cache.proofs.backing.read_sector.Given as goal
+
+abbrev pub invariant-loop-turn : goal.invariant-loop-turn
+invariant-loop-turn g l =
+    (g.F.BackingFile.held l.file ≡ g.F.BackingFile.held l.initial.file)
+    × ((l.done ≤ 512) × ((length l.into ≡ 512) × HasFront (g.F.BackingFile.held l.initial.file) l.at l.done l.into))

@@ -1,0 +1,8 @@
+use Rattle.std.proofs.Common.{◌≤◌}
+use Rattle.sector_cache.proofs.Filed.{PutsTo}
+use Rattle.sector_cache.proofs.backing.write_whole.Given as goal
+
+abbrev pub invariant-loop-turn : goal.invariant-loop-turn
+invariant-loop-turn g l =
+    (l.done ≤ 512)
+    × PutsTo l.sector l.from l.done (g.F.BackingFile.held l.initial.file) (g.F.BackingFile.held l.file)
