@@ -10,7 +10,10 @@ mod laws;
 mod ring;
 mod walk;
 
-pub use laws::{a_list_passes_its_places, one_chain_or_fault_at_a_place};
+pub use laws::{
+    a_list_passes_its_places, a_notification_is_wanted_of_the_places_passed,
+    one_chain_or_fault_at_a_place,
+};
 pub use ring::{PackedRing, Token};
 
 #[cfg(test)]

@@ -1,11 +1,33 @@
 //! Laws of the definitions. The bodies are empty: each contract is a theorem.
 
+ghost use Rattle.std.specs.Prelude.{◌≡◌, ℕ, ◌<◌, ◌↔◌, ◌⊎◌};
+ghost use Rattle.guest_memory.specs.Memory.{Memory};
 ghost use Rattle.chain.specs.Service.{HasAtMostOneChain, HasSomeChain};
-ghost use Rattle.split_ring.specs.Kind.{split_kind};
+ghost use Rattle.suppression.specs.Places.{idx_modulus};
+ghost use Rattle.suppression.specs.Sets.{SplitWantsOf};
+ghost use Rattle.split_ring.specs.Ring.{SplitRingState};
+ghost use Rattle.split_ring.specs.Kind.{Wants, first_passed, opened, past, split_kind};
+ghost use Rattle.split_ring.specs.Passing.{HasPassed};
 
 /// A split ring has one chain or one fault at each place: at most one chain, at most one fault, not both, and
 /// one of the two.
 pub fn one_chain_or_fault_at_a_place()
     ensures at_most_one { HasAtMostOneChain split_kind }
     ensures some { HasSomeChain split_kind }
+{}
+
+/// What a service has passed are the places of its chains: behind one more chain it has the same first place, and
+/// has passed that chain's place beside those before.
+pub fn a_chain_passes_its_place()
+    ensures first { (ring : SplitRingState) → ring.passed < idx_modulus → first_passed (past ring) ≡ first_passed ring }
+    ensures passed { (ring : SplitRingState) (place : ℕ) → ring.place < idx_modulus → ring.passed < idx_modulus
+        → HasPassed (past ring) place ↔ (HasPassed ring place ⊎ (place ≡ ring.place)) }
+{}
+
+/// Whether a notification is wanted turns on the set of places that the service has passed, of which there are none
+/// as it opens.
+pub fn a_notification_is_wanted_of_the_places_passed()
+    ensures none_yet { (m : Memory) (ring : SplitRingState) (place : ℕ) → ¬ HasPassed (opened m ring) place }
+    ensures wanted_of { (m : Memory) (ring : SplitRingState) → Wants m ring
+        ↔ SplitWantsOf m ring.setup.driver ring.setup.size ring.setup.event_idx (HasPassed ring) }
 {}

@@ -9,7 +9,10 @@ mod laws;
 mod ring;
 mod walk;
 
-pub use laws::one_chain_or_fault_at_a_place;
+pub use laws::{
+    a_chain_passes_its_place, a_notification_is_wanted_of_the_places_passed,
+    one_chain_or_fault_at_a_place,
+};
 pub use ring::{SplitRing, Token};
 
 #[cfg(test)]

@@ -1,2 +1,4 @@
 pub mod Distance
 pub mod EventPlace
+pub mod Going
+pub mod Sets
