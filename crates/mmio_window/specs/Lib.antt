@@ -13,6 +13,7 @@ pub mod Window
 pub mod Lending
 pub mod Reading
 pub mod Writing
+pub mod Notifying
 pub mod Serving
 pub mod Soundness
 pub mod Ready

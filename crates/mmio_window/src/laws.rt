@@ -1,6 +1,7 @@
 //! Laws of the definitions. The bodies are empty: each contract is a theorem.
 
 ghost use Rattle.chain.specs.Service.{HasAtMostOneChain, HasSomeChain};
+ghost use Rattle.mmio_window.specs.Notifying.{NextPlaceIsIgnored, NotificationKeepsRegisters};
 ghost use Rattle.mmio_window.specs.Queue.{queue_kind};
 ghost use Rattle.mmio_window.specs.Ready.{GenerationStays, ReadyQueueStays};
 ghost use Rattle.mmio_window.specs.Soundness.{ReadyQueueIsItsRing, ServingKeepsSound, SoundForTheRange};
@@ -37,4 +38,11 @@ pub fn generation_stays()
 pub fn one_chain_or_fault_at_a_place()
     ensures at_most_one { HasAtMostOneChain queue_kind }
     ensures some { HasSomeChain queue_kind }
+{}
+
+/// In a window that negotiated NOTIFICATION_DATA a driver's next place changes nothing: two writes to QueueNotify
+/// that name one queue ask the same of the device, and no such write changes a register.
+pub fn next_place_is_ignored()
+    ensures same { NextPlaceIsIgnored }
+    ensures keeps { NotificationKeepsRegisters }
 {}

@@ -135,7 +135,7 @@ fn check_action(rt: &impl Abort, window: &mut Window, mem: &GuestMemory, row: &(
 }
 
 #[test]
-fn a_feature_that_no_board_offers_yet(rt: HostRuntime) -> Result<(), Fail> {
+fn a_notification_with_the_next_place(rt: HostRuntime) -> Result<(), Fail> {
     let mem = GuestMemory::new(rt.alloc(), BASE, 0x1_0000)?;
     let offered = BLOCK | NOTIFICATION_DATA;
     let mut window = up(
