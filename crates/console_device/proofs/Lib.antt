@@ -1,4 +1,5 @@
 pub mod Courses
+pub mod Deciding
 pub mod Notified
 pub mod Receiving
 pub mod Services

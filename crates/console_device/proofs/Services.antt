@@ -11,7 +11,7 @@ use Rattle.chain.proofs.Servicing.{exact_service, never_refused}
 use Rattle.chain.proofs.Simulating.{DoesAs, service_as}
 use Rattle.console_device.specs.Input.{IsLeft}
 use Rattle.console_device.specs.Output.{PutsOut}
-use Rattle.console_device.specs.Device.{received, receive, transmitted, transmit, exact_transmit}
+use Rattle.console_device.specs.Device.{received, receive, transmitted, transmit, exact_transmit, transmit_within}
 use Rattle.console_device.proofs.Receiving.{used_len-none}
 
 -- there is at most one answer to a chain
@@ -42,6 +42,29 @@ exact_unless = record {
   rises = λ out readable w given h. omega arith;
   gives = λ out readable w given h e. h;
 }
+
+-- within a limit a transmit is one, and where none is refused an exact one
+pub exact_within : (limit : Option ℕ) → IsExactUnless (transmit_within limit) exact_transmit (λ out. 0)
+exact_within limit = record {
+  takes = λ out. refl;
+  rises = λ out readable w given h. omega arith;
+  gives = λ out readable w given h e. h.0;
+}
+
+pub some_within : (limit : Option ℕ) → DoesAs (transmit_within limit) transmit (λ out sent. sent ≡ out)
+some_within limit = record {
+  takes = λ out sent alike. refl;
+  gives = λ out sent readable w given alike h. record {
+    state = given.state;
+    alike = refl;
+    gives = rw alike h.0;
+  };
+  lacks_memory = λ out sent readable w alike h. h.0;
+}
+
+-- there is one answer to a chain within a limit
+pub within_once : (limit : Option ℕ) → HasAtMostOneAnswer (transmit_within limit)
+within_once limit = record { given = λ out readable w g h p q. p.0 ∙ sym q.0 }
 
 module _ {Ring : Type 0} (kind : Kind Ring) where
   pub receive_never_refused : (old new : Site Ring (List ℕ)) (ending : Ending) (wanted : Bool)

@@ -1,5 +1,5 @@
 -- The console's two queues as their services see them: what becomes of one chain (5.3.6).
-use Rattle.std.specs.Prelude.{◌≡◌, ◌≢◌, ℕ, ◌-◌, Bool, true, false, List, [], ◌∷◌, ◌++◌, length, map, take, drop, replicate, Some, None}
+use Rattle.std.specs.Prelude.{◌≡◌, ◌≢◌, ℕ, ◌+◌, ◌-◌, ◌≤◌, ◌<◌, ⊤, Option, Bool, true, false, List, [], ◌∷◌, ◌++◌, length, map, take, drop, replicate, Some, None}
 use Rattle.chain.specs.Service.{Given, Device}
 
 -- whether any byte waits
@@ -41,4 +41,23 @@ exact_transmit = record {
   takes = λ out. true;
   Gives = λ out readable w given. given ≡ transmitted out readable w;
   LacksMemory = λ out readable w. ⊥;
+}
+
+-- Whether so many bytes may wait in an output, and whether they may be refused. Where the output has a limit
+-- that alone decides; one without takes memory for what waits, and may find none.
+abbrev pub Fits : Option ℕ → ℕ → Type 0
+Fits None n = ⊤
+Fits (Some limit) n = n ≤ limit
+
+abbrev pub MayRefuse : Option ℕ → ℕ → Type 0
+MayRefuse None n = ⊤
+MayRefuse (Some limit) n = limit < n
+
+-- The transmit queue, over what waits in an output with this limit: a chain is served where its readable bytes
+-- fit behind what waits, and one with readable bytes may be refused where they don't.
+abbrev pub transmit_within : Option ℕ → Device (List ℕ)
+transmit_within limit = record {
+  takes = λ out. true;
+  Gives = λ out readable w given. (given ≡ transmitted out readable w) × Fits limit (length out + length readable);
+  LacksMemory = λ out readable w. (readable ≢ []) × MayRefuse limit (length out + length readable);
 }

@@ -1,7 +1,10 @@
 -- What a service of the transmit queue puts out.
-use Rattle.std.specs.Prelude.{◌≡◌, Bool, ℕ, List, [], ◌++◌}
+use Rattle.std.specs.Prelude.{◌≡◌, ◌≢◌, Bool, ℕ, Option, List, [], ◌++◌}
 use Rattle.guest_memory.specs.Memory.{Memory}
-use Rattle.chain.specs.Service.{Kind, Ending, IsService}
+use Rattle.chain.specs.Service.{Device, Kind, Ending, Refused, IsService}
+use Rattle.mmio_window.specs.declared.queue.Queue.{Queue}
+use Rattle.mmio_window.specs.Serving.{Notified}
+use Rattle.mmio_window.specs.Window.{WindowState}
 use Rattle.console_device.specs.Device.{transmit}
 
 -- A service puts these bytes out behind what stood there before: they are those of the same service into an
@@ -10,3 +13,9 @@ pub record PutsOut {Ring : Type 0} (kind : Kind Ring) (old new : Memory) (ring l
   pub sent : List ℕ
   pub behind : after ≡ before ++ sent
   pub service : IsService kind transmit (record { memory = old; ring = ring; state = [] }) (record { memory = new; ring = last; state = sent }) ending wanted
+
+-- A notification of a queue whose service was not refused.
+pub record IsUnrefused {State : Type 0} (device : Device State) (q : ℕ) (queue : Option Queue) (old new : Memory) (before after : WindowState) (s s' : State) : Type 0 where
+  pub ending : Ending
+  pub unrefused : ending ≢ Refused
+  pub notified : Notified device q queue ending old new before after s s'

@@ -1,11 +1,13 @@
 //! The device: its size, its pending input, and its configuration space (5.3.4).
 
-ghost use Rattle.std.specs.Prelude.{◌≡◌, ◌++◌, ◌∷◌, ◌≤◌, [], length, take, IfOk, OnOk, OnErr};
+ghost use Rattle.std.specs.Prelude.{◌≡◌, ◌++◌, ◌+◌, ◌∷◌, ◌≤◌, [], length, take, IfOk, OnOk, OnErr};
 ghost use Rattle.console_device.specs.Config.{config_of};
 ghost use Rattle.console_device.specs.Console.{Console};
+ghost use Rattle.console_device.specs.Device.{Fits, MayRefuse};
 ghost use Rattle.console_device.specs.Input.{fitting};
 
 use crate::no_memory::NoMemory;
+use crate::outlet::Outlet;
 use crate::pending::Pending;
 use byteorder::{ByteOrder, LittleEndian};
 use std::alloc::{Allocator, Global};
@@ -52,19 +54,17 @@ impl<A: Allocator> ConsoleDevice<A> {
     }
 
     /// Puts out the byte of an emergency write (5.3.4, 5.3.5.1).
-    pub fn emergency<B: Allocator>(
-        &mut self,
-        byte: u8,
-        out: &mut Vec<u8, B>,
-    ) -> Result<(), NoMemory>
-        ensures ok { OnOk result (out.new.items ≡ out.old.items ++ byte ∷ []) }
-        ensures err { OnErr result (out.new.items ≡ out.old.items) }
+    pub fn emergency<O: Outlet>(&mut self, byte: u8, out: &mut O) -> Result<(), NoMemory>
+        ensures ok { OnOk result (O.bytes out.new ≡ O.bytes out.old ++ byte ∷ []) }
+        ensures fits { OnOk result (Fits (O.limit out.old) (length (O.bytes out.old) + 1)) }
+        ensures err { OnErr result (O.bytes out.new ≡ O.bytes out.old) }
+        ensures refused { OnErr result (MayRefuse (O.limit out.old) (length (O.bytes out.old) + 1)) }
+        ensures limit { O.limit out.new ≡ O.limit out.old }
         ensures same { self.new ≡ self.old }
     {
-        match out.push(byte) {
-            Ok(()) => Ok(()),
-            Err(_) => Err(NoMemory),
-        }
+        out.make_room(1)?;
+        out.append(&[byte]);
+        Ok(())
     }
 
     /// Changes the size. Its window is told by the caller.

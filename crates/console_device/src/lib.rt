@@ -5,6 +5,7 @@
 mod device;
 mod laws;
 mod no_memory;
+mod outlet;
 mod pending;
 mod receive;
 mod serve;
@@ -20,3 +21,4 @@ pub use laws::{
     used_len_counts_what_was_received,
 };
 pub use no_memory::NoMemory;
+pub use outlet::Outlet;

@@ -8,11 +8,14 @@ use guest_memory::GuestMemory;
 use std::alloc::Allocator;
 
 impl<A: Allocator> Stream for Pending<A> {
+    ghost use Rattle.std.specs.Prelude.{None};
     ghost use Rattle.console_device.specs.Device.{receive};
 
     ghost bytes = { λ pending. pending };
 
-    ghost device = { receive };
+    ghost limit = { λ pending. None };
+
+    ghost device = { λ limit. receive };
 
     fn takes(&self) -> bool {
         !self.is_empty()

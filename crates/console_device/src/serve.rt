@@ -7,10 +7,12 @@ ghost use Rattle.mmio_window.specs.Queue.{LiesIn, made_as, queue_kind};
 ghost use Rattle.mmio_window.specs.Serving.{IsNotified, Notified, after_service, ending_of_result};
 ghost use Rattle.mmio_window.specs.Soundness.{IsSound};
 ghost use Rattle.mmio_window.specs.Window.{queue_at};
-ghost use Rattle.console_device.specs.Device.{exact_transmit, receive, transmit};
+ghost use Rattle.console_device.specs.Device.{exact_transmit, receive, transmit, transmit_within};
+ghost use Rattle.console_device.specs.Output.{IsUnrefused};
 
 use crate::device::ConsoleDevice;
 use crate::no_memory::NoMemory;
+use crate::outlet::Outlet;
 use crate::stream::Stream;
 use chain::{Chain, Fault};
 use guest_memory::GuestMemory;
@@ -47,17 +49,24 @@ impl<A: Allocator> ConsoleDevice<A> {
     /// Puts out the chains on offer (5.3.6), in the window of this device, behind what stands in `out`. A chain
     /// for which there is no memory stays on offer, and those before it are used. Where the window isn't live
     /// or its transmit queue not ready, nothing happens.
-    pub fn serve_transmit<M: Allocator, B: Allocator>(
+    pub fn serve_transmit<M: Allocator, O: Outlet>(
         &mut self,
         mem: &mut GuestMemory<M>,
         window: &mut Window,
-        out: &mut Vec<u8, B>,
+        out: &mut O,
     ) -> Result<(), NoMemory>
         requires sound { IsSound mem.old window.old }
         ensures ok { OnOk result (IsNotified exact_transmit 1 (queue_at 1 window.old) mem.old mem.new
-            window.old window.new out.old.items out.new.items) }
+            window.old window.new (O.bytes out.old) (O.bytes out.new)) }
         ensures no_memory { OnErr result (Notified transmit 1 (queue_at 1 window.old) Refused mem.old mem.new
-            window.old window.new out.old.items out.new.items) }
+            window.old window.new (O.bytes out.old) (O.bytes out.new)) }
+
+        // the same by the limit of the output, which decides how the service ends where there is one
+        ensures ok_within { OnOk result (IsUnrefused (transmit_within (O.limit out.old)) 1
+            (queue_at 1 window.old) mem.old mem.new window.old window.new (O.bytes out.old) (O.bytes out.new)) }
+        ensures no_memory_within { OnErr result (Notified (transmit_within (O.limit out.old)) 1
+            (queue_at 1 window.old) Refused mem.old mem.new window.old window.new (O.bytes out.old) (O.bytes out.new)) }
+        ensures limit { O.limit out.new ≡ O.limit out.old }
         ensures same { self.new ≡ self.old }
         ensures range { SameRange mem.old mem.new }
         ensures sound { IsSound mem.new window.new }
@@ -79,11 +88,12 @@ fn serve_queue<S: Stream, M: Allocator>(
     queue: &mut Queue,
 ) -> Service
     requires { LiesIn mem.old queue.old }
-    ensures service { IsService queue_kind S.device
+    ensures service { IsService queue_kind (S.device (S.limit stream.old))
         (record { memory = mem.old; ring = queue.old; state = S.bytes stream.old })
         (record { memory = mem.new; ring = queue.new; state = S.bytes stream.new })
         (ending_of_result result.ending) result.wanted }
     ensures range { SameRange mem.old mem.new }
+    ensures limit { S.limit stream.new ≡ S.limit stream.old }
     ensures made { made_as queue.new ≡ made_as queue.old }
 {
     let ending = match queue.open(mem) {
@@ -103,11 +113,12 @@ fn serve_chains<S: Stream, M: Allocator>(
     queue: &mut Queue,
 ) -> Result<Option<Fault>, NoMemory>
     requires { LiesIn mem.old queue.old }
-    ensures runs { Runs queue_kind S.device
+    ensures runs { Runs queue_kind (S.device (S.limit stream.old))
         (record { memory = mem.old; ring = queue.old; state = S.bytes stream.old })
         (ending_of_result result)
         (record { memory = mem.new; ring = queue.new; state = S.bytes stream.new }) }
     ensures range { SameRange mem.old mem.new }
+    ensures limit { S.limit stream.new ≡ S.limit stream.old }
     ensures lies { LiesIn mem.new queue.new }
     ensures made { made_as queue.new ≡ made_as queue.old }
 {

@@ -1,6 +1,6 @@
 //! One end of a console as the service of its queue uses it: it serves chains, one at a time.
 
-ghost use Rattle.std.specs.Prelude.{◌≡◌, ℕ, List, length, IfOk, OnErr};
+ghost use Rattle.std.specs.Prelude.{◌≡◌, ℕ, Option, List, length, IfOk, OnErr};
 ghost use Rattle.guest_memory.specs.Memory.{SameRange};
 ghost use Rattle.chain.specs.Buffers.{Good};
 ghost use Rattle.chain.specs.Bytes.{readable_of, writable_of};
@@ -33,12 +33,15 @@ pub(crate) trait Stream {
     // the bytes that a contract sees of it
     ghost bytes: { Self → List ℕ };
 
-    // what it is to a service
-    ghost device: { Device (List ℕ) };
+    // how many bytes may be in it, where that alone decides what is refused
+    ghost limit: { Self → Option ℕ };
+
+    // what it is to a service, by its limit
+    ghost device: { Option ℕ → Device (List ℕ) };
 
     /// Whether it takes a chain.
     fn takes(&self) -> bool
-        ensures { result ≡ device.takes (bytes self.now) };
+        ensures { result ≡ (device (limit self.now)).takes (bytes self.now) };
 
     /// Serves one chain, or finds no memory for it and leaves all as it was.
     fn serve<M: Allocator>(
@@ -47,10 +50,11 @@ pub(crate) trait Stream {
         chain: &Chain,
     ) -> Result<Answer, NoMemory>
         requires { Good mem.old chain.now }
-        ensures does { IfOk result (λ answer. Does device mem.old mem.new chain.now
+        ensures does { IfOk result (λ answer. Does (device (limit self.old)) mem.old mem.new chain.now
             (bytes self.old) (bytes self.new) answer.len answer.wrote) }
-        ensures lacks_memory { OnErr result (device.LacksMemory (bytes self.old)
+        ensures lacks_memory { OnErr result ((device (limit self.old)).LacksMemory (bytes self.old)
             (readable_of mem.old chain.now) (length (writable_of chain.now))) }
+        ensures limit { limit self.new ≡ limit self.old }
         ensures kept { OnErr result (bytes self.new ≡ bytes self.old) }
         ensures unwritten { OnErr result (mem.new ≡ mem.old) }
         ensures range { SameRange mem.old mem.new };

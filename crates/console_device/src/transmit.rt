@@ -1,21 +1,25 @@
 //! The transmit queue's end: what is put out.
 
-ghost use Rattle.std.specs.Prelude.{◌≡◌, ◌≢◌, ◌++◌, [], All, OnOk, OnErr};
+ghost use Rattle.std.specs.Prelude.{◌≡◌, ◌≢◌, ◌++◌, ◌+◌, [], All, length, OnOk, OnErr};
 ghost use Rattle.chain.specs.Buffers.{Within};
 ghost use Rattle.chain.specs.Bytes.{readable_of};
+ghost use Rattle.console_device.specs.Device.{Fits, MayRefuse};
 
 use crate::no_memory::NoMemory;
+use crate::outlet::Outlet;
 use crate::stream::{Answer, Stream};
 use chain::Chain;
 use guest_memory::GuestMemory;
 use std::alloc::Allocator;
 
-impl<A: Allocator> Stream for Vec<u8, A> {
-    ghost use Rattle.console_device.specs.Device.{transmit};
+impl<O: Outlet> Stream for O {
+    ghost use Rattle.console_device.specs.Device.{transmit_within};
 
-    ghost bytes = { λ out. out.items };
+    ghost bytes = { λ out. O.bytes out };
 
-    ghost device = { transmit };
+    ghost limit = { λ out. O.limit out };
+
+    ghost device = { λ limit. transmit_within limit };
 
     fn takes(&self) -> bool {
         true
@@ -32,26 +36,27 @@ impl<A: Allocator> Stream for Vec<u8, A> {
 }
 
 /// Puts out the readable bytes of a chain. Room for all of them is made before the first goes out.
-fn put_out<M: Allocator, A: Allocator>(
+fn put_out<M: Allocator, O: Outlet>(
     mem: &GuestMemory<M>,
     chain: &Chain,
-    out: &mut Vec<u8, A>,
+    out: &mut O,
 ) -> Result<(), NoMemory>
     requires { All (Within mem.now) chain.now }
-    ensures ok { OnOk result (out.new.items ≡ out.old.items ++ readable_of mem.now chain.now) }
-    ensures err { OnErr result (out.new.items ≡ out.old.items) }
+    ensures ok { OnOk result (O.bytes out.new ≡ O.bytes out.old ++ readable_of mem.now chain.now) }
+    ensures fits { OnOk result (Fits (O.limit out.old)
+        (length (O.bytes out.old) + length (readable_of mem.now chain.now))) }
+    ensures err { OnErr result (O.bytes out.new ≡ O.bytes out.old) }
     ensures owed { OnErr result (readable_of mem.now chain.now ≢ []) }
+    ensures refused { OnErr result (MayRefuse (O.limit out.old)
+        (length (O.bytes out.old) + length (readable_of mem.now chain.now))) }
+    ensures limit { O.limit out.new ≡ O.limit out.old }
 {
     let len = chain.readable_len();
-    let Ok(()) = out.reserve(len as usize) else {
-        return Err(NoMemory);
-    };
+    out.make_room(len)?;
     let mut done = 0;
     while done < len {
         let part = chain.read_part(mem, done);
-        let Ok(()) = out.extend_from_slice(part) else {
-            unreachable!()
-        };
+        out.append(part);
         done += part.len() as u64;
     }
     Ok(())
