@@ -16,7 +16,7 @@ use Rattle.block_device.specs.declared.extent.Extent.{Extent}
 use Rattle.block_device.specs.declared.request.RequestStatus.{RequestStatus}
 use Rattle.block_device.specs.declared.request.RequestStatus.TheVariants.{Success, IoError}
 use Rattle.block_device.specs.declared.request.Request.{Request}
-use Rattle.block_device.specs.declared.request.Request.TheVariants.{Rejected, Write, Flush, GetId}
+use Rattle.block_device.specs.declared.request.Request.TheVariants.{Rejected, Write, Flush, GetId, WriteZeroes}
 use Rattle.block_device.specs.Extent.{extent_disk}
 use Rattle.block_device.specs.Request.{request_of, payload_of, code_of}
 use Rattle.block_device.specs.Outcome.{Ends, identity}
@@ -31,11 +31,18 @@ readable_few : (m : Memory) (buffers : List Buffer) → Good m buffers → lengt
 readable_few m buffers good = omega (arith, length-readable_of m buffers good.inside, len_of-le false buffers, good.fits)
 
 pub write_fits : (m : Memory) (buffers : List Buffer) (capacity : ℕ) (request : Request) (sector count room : ℕ) → Good m buffers → request ≡ Write sector count
-    → IsServable capacity request (length (payload_of (readable_of m buffers))) room → 512 * count + 16 < 2 ^ 64
+    → IsServable capacity request (payload_of (readable_of m buffers)) room → 512 * count + 16 < 2 ^ 64
 write_fits m buffers capacity request sector count room good is servable =
-    let P : Request → Type 0 = λ r. IsServable capacity r (length (payload_of (readable_of m buffers))) room in
+    let P : Request → Type 0 = λ r. IsServable capacity r (payload_of (readable_of m buffers)) room in
     let here : P (Write sector count) = subst P is servable in
     omega (arith, here.1, readable_few m buffers good, length-drop 16 (readable_of m buffers))
+
+pub zeroes_fit : (m : Memory) (buffers : List Buffer) (capacity : ℕ) (request : Request) (segments room : ℕ) → Good m buffers → request ≡ WriteZeroes segments
+    → IsServable capacity request (payload_of (readable_of m buffers)) room → 16 * segments < 2 ^ 64
+zeroes_fit m buffers capacity request segments room good is servable =
+    let P : Request → Type 0 = λ r. IsServable capacity r (payload_of (readable_of m buffers)) room in
+    let here : P (WriteZeroes segments) = subst P is servable in
+    omega (arith, here.0, readable_few m buffers good, length-drop 16 (readable_of m buffers))
 
 -- nothing is done
 pub done_rejected : (request : Request) (buffers : List Buffer) (m : Memory) (disk : Disk) (status : RequestStatus) → request ≡ Rejected status

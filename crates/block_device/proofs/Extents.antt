@@ -42,12 +42,12 @@ behind-with_sectors bytes start count sector new inside within =
     same_lists _ _ (simp (length-append, length-take, length-drop) (omega arith)) (λ k d h. grind (arith, places))
 
 -- a write of some bytes sets the mark
-marked-chunk : (front chunk : List ℕ) (mark : Bool) → length chunk ≡ 512 → true ≡ marked (front ++ chunk) mark
+pub marked-chunk : (front chunk : List ℕ) (mark : Bool) → length chunk ≡ 512 → true ≡ marked (front ++ chunk) mark
 marked-chunk [] [] mark whole = absurd (omega (arith, whole))
 marked-chunk [] (x ∷ chunk) mark whole = refl
 marked-chunk (x ∷ front) chunk mark whole = refl
 
-same_disk : (n f : ℕ) (t u : Option (List ℕ)) (m k : Bool) → t ≡ u → m ≡ k
+pub same_disk : (n f : ℕ) (t u : Option (List ℕ)) (m k : Bool) → t ≡ u → m ≡ k
     → ◌≡◌ {A = Disk} (record { told = t; sector_count = n; failures = f; mark = m }) (record { told = u; sector_count = n; failures = f; mark = k })
 same_disk n f t u m k p q = rw (p, q) refl
 

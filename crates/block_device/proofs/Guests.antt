@@ -1,21 +1,22 @@
 -- The device as its guest knows it: where its extent lies, and how the image fares, are never seen.
-use Rattle.std.proofs.Common.{◌≡◌, ℕ, zero, suc, Option, List, refl, sym, ap, subst, ◌∙◌}
+use Rattle.std.proofs.Common.{◌≡◌, ℕ, zero, suc, Option, List, [], ◌∷◌, replicate, refl, sym, ap, subst, ◌∙◌}
 use Rattle.std.specs.Prelude.{IfSome}
 use Rattle.std.specs.Option.{option_map}
 use Rattle.guest_memory.specs.Memory.{Memory}
 use Rattle.chain.specs.Service.{Given}
 use Rattle.chain.proofs.Simulating.{DoesAs, Matches}
-use Rattle.sector_cache.specs.Sector.{extent_of}
-use Rattle.sector_cache.specs.Disk.{Disk}
+use Rattle.sector_cache.specs.Sector.{extent_of, with_sector}
+use Rattle.sector_cache.specs.Disk.{Disk, written}
 use Rattle.mmio_window.specs.declared.queue.Queue.{Queue}
 use Rattle.mmio_window.specs.Serving.{IsNotified, Notified}
 use Rattle.mmio_window.specs.Window.{WindowState}
 use Rattle.mmio_window.proofs.Services.{NotifiedAs, notified_as}
 use Rattle.block_device.specs.declared.device.BlockDevice.{BlockDevice}
 use Rattle.block_device.specs.declared.request.Request.{Request}
-use Rattle.block_device.specs.declared.request.Request.TheVariants.{Rejected, Read, Write, Flush, GetId}
+use Rattle.block_device.specs.declared.request.Request.TheVariants.{Rejected, Read, Write, Flush, GetId, WriteZeroes}
 use Rattle.block_device.specs.Request.{request_of, payload_of}
 use Rattle.block_device.specs.Outcome.{Outcome, Finds, with_sectors, completed, Completes, Ends}
+use Rattle.block_device.specs.Zeroes.{all_sectors, segments_in, zeroed_sectors}
 use Rattle.block_device.specs.Device.{given_of, GivesBy, block_device, device_by, exact_device}
 
 -- the device as one whose sectors are all that there are
@@ -74,6 +75,14 @@ finds_same (Read sector count) s t found same h = record {
 finds_same (Write sector count) s t found same h = h
 finds_same Flush s t found same h = h
 finds_same GetId s t found same h = h
+finds_same (WriteZeroes segments) s t found same h = h
+
+zeroed_same : (sectors : List ℕ) (s t : Disk) → SameSectors s t → SameSectors (zeroed_sectors sectors s) (zeroed_sectors sectors t)
+zeroed_same [] s t same = same
+zeroed_same (sector ∷ sectors) s t same =
+    let zeros : List ℕ = replicate 512 0 in
+    zeroed_same sectors (written sector zeros s) (written sector zeros t)
+    (record { told = ap (option_map (λ bytes. with_sector bytes sector zeros)) same.told; sectors = same.sectors })
 
 -- what is told to the driver is the same, and so are the sectors afterwards
 record SameOutcome (one other : Outcome) : Type 0 where
@@ -91,6 +100,9 @@ completed_same (Write sector count) payload found s t same = record {
 }
 completed_same Flush payload found s t same = record { disk = record { told = same.told; sectors = same.sectors }; found = refl; status = refl }
 completed_same GetId payload found s t same = record { disk = same; found = refl; status = refl }
+completed_same (WriteZeroes segments) payload found s t same =
+    let after = zeroed_same (all_sectors (segments_in payload)) s t same in
+    record { disk = record { told = after.told; sectors = after.sectors }; found = refl; status = refl }
 
 same_written : (room : ℕ) (one other : Outcome) → SameOutcome one other → (given_of room one).written ≡ (given_of room other).written
 same_written room one other same = rw (same.found, same.status) refl

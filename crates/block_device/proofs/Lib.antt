@@ -3,7 +3,9 @@ pub mod Courses
 pub mod Exact
 pub mod Extents
 pub mod Guests
+pub mod Judging
 pub mod OneService
 pub mod Requests
 pub mod SomeAnswer
 pub mod Transfers
+pub mod Zeroing

@@ -1,5 +1,5 @@
 -- Over an image that tells its bytes, and doesn't fail, there is at most one service of a queue.
-use Rattle.std.proofs.Common.{◌≡◌, ◌≢◌, ℕ, zero, suc, Bool, true, Some, List, refl, sym, ap, subst, ◌∙◌}
+use Rattle.std.proofs.Common.{◌≡◌, ◌≢◌, ℕ, zero, suc, Bool, true, Some, List, [], ◌∷◌, replicate, refl, sym, ap, subst, ◌∙◌}
 use Rattle.std.specs.Option.{option_map}
 use Rattle.chain.specs.Service.{Given, Device, Ending, Refused, Site, IsService, HasAtMostOneAnswer}
 use Rattle.chain.proofs.Servicing.{at_most_one_service, never_refused}
@@ -10,10 +10,13 @@ use Rattle.mmio_window.specs.Queue.{queue_kind}
 use Rattle.mmio_window.proofs.QueueKind.{has_at_most_one_chain}
 use Rattle.block_device.specs.declared.device.BlockDevice.{BlockDevice}
 use Rattle.block_device.specs.declared.request.Request.{Request}
-use Rattle.block_device.specs.declared.request.Request.TheVariants.{Rejected, Read, Write, Flush, GetId}
+use Rattle.block_device.specs.declared.request.Request.TheVariants.{Rejected, Read, Write, Flush, GetId, WriteZeroes}
 use Rattle.block_device.specs.Request.{request_of, payload_of}
 use Rattle.block_device.specs.Outcome.{Outcome, with_sectors, completed, Completes}
+use Rattle.sector_cache.specs.Disk.{written}
+use Rattle.sector_cache.specs.Sector.{with_sector}
 use Rattle.block_device.specs.Device.{GivesBy, exact_device}
+use Rattle.block_device.specs.Zeroes.{all_sectors, segments_in, zeroed_sectors}
 use Rattle.block_device.proofs.Requests.{gives_once}
 
 -- the disk tells its bytes
@@ -38,6 +41,13 @@ told_once device = record {
   given = λ disk readable w g h p q. gives_once device disk p.told.bytes readable w g h p.told.is p.gives q.gives;
 }
 
+zeroed_told : (sectors : List ℕ) (disk : Disk) → IsTold disk → IsTold (zeroed_sectors sectors disk)
+zeroed_told [] disk t = t
+zeroed_told (sector ∷ sectors) disk t =
+    let zeros : List ℕ = replicate 512 0 in
+    zeroed_told sectors (written sector zeros disk)
+    (record { bytes = with_sector t.bytes sector zeros; is = ap (option_map (λ bytes. with_sector bytes sector zeros)) t.is })
+
 -- a request leaves the disk telling its bytes
 completed_told : (request : Request) (payload found : List ℕ) (disk : Disk) → IsTold disk → IsTold (completed request payload found disk).disk
 completed_told (Rejected status) payload found disk t = t
@@ -46,6 +56,9 @@ completed_told (Write sector count) payload found disk t =
     record { bytes = with_sectors t.bytes sector payload; is = ap (option_map (λ bytes. with_sectors bytes sector payload)) t.is }
 completed_told Flush payload found disk t = record { bytes = t.bytes; is = t.is }
 completed_told GetId payload found disk t = t
+completed_told (WriteZeroes segments) payload found disk t =
+    let after = zeroed_told (all_sectors (segments_in payload)) disk t in
+    record { bytes = after.bytes; is = after.is }
 
 gives_told : (device : BlockDevice) (disk : Disk) (readable : List ℕ) (w : ℕ) (given : Given Disk) → GivesBy Completes device disk readable w given → IsTold disk → IsTold given.state
 gives_told device disk readable zero given h t = record { bytes = t.bytes; is = ap (λ (g : Given Disk). g.state.told) h ∙ t.is }

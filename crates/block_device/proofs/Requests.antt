@@ -7,10 +7,12 @@ use Rattle.sector_cache.specs.Sector.{extent_of}
 use Rattle.sector_cache.specs.Disk.{Disk}
 use Rattle.block_device.specs.declared.device.BlockDevice.{BlockDevice}
 use Rattle.block_device.specs.declared.request.Request.{Request}
-use Rattle.block_device.specs.declared.request.Request.TheVariants.{Rejected, Read, Write, Flush, GetId}
+use Rattle.block_device.specs.declared.request.Request.TheVariants.{Rejected, Read, Write, Flush, GetId, WriteZeroes}
 use Rattle.block_device.specs.Request.{request_of, payload_of}
 use Rattle.block_device.specs.Outcome.{Outcome, AreAsTold, Finds, completed, Completes, Fails, Ends}
 use Rattle.block_device.specs.Device.{given_of, GivesBy}
+use Rattle.block_device.specs.Zeroes.{all_sectors, segments_in}
+use Rattle.block_device.proofs.Zeroing.{zeroed-failures, stopped-failures}
 
 -- what is read of a disk that tells its bytes
 found_told : (disk : Disk) (bytes : List ℕ) (sector count : ℕ) (found : List ℕ) → disk.told ≡ Some bytes → AreAsTold disk sector count found → found ≡ extent_of bytes sector count
@@ -25,6 +27,7 @@ finds_once (Read sector count) disk bytes one other e p q = found_told disk byte
 finds_once (Write sector count) disk bytes one other e p q = p ∙ sym q
 finds_once Flush disk bytes one other e p q = p ∙ sym q
 finds_once GetId disk bytes one other e p q = p ∙ sym q
+finds_once (WriteZeroes segments) disk bytes one other e p q = p ∙ sym q
 
 completes_once : (request : Request) (payload : List ℕ) (disk : Disk) (bytes : List ℕ) (one other : Outcome) → disk.told ≡ Some bytes
     → Completes request payload disk one → Completes request payload disk other → one ≡ other
@@ -47,6 +50,7 @@ completed_failures (Read sector count) payload found disk = refl
 completed_failures (Write sector count) payload found disk = refl
 completed_failures Flush payload found disk = refl
 completed_failures GetId payload found disk = refl
+completed_failures (WriteZeroes segments) payload found disk = zeroed-failures (all_sectors (segments_in payload)) disk
 
 completes_counted : (request : Request) (payload : List ℕ) (disk : Disk) (outcome : Outcome) → Completes request payload disk outcome → outcome.disk.failures ≡ disk.failures
 completes_counted request payload disk outcome h =
@@ -60,6 +64,10 @@ fails_counted (Write sector count) payload disk outcome (inl h) = ap (λ (o : Ou
 fails_counted (Write sector count) payload disk outcome (inr h) = ap (λ (o : Outcome). o.disk.failures) h
 fails_counted Flush payload disk outcome h = ap (λ (o : Outcome). o.disk.failures) h
 fails_counted GetId payload disk outcome h = absurd h
+fails_counted (WriteZeroes segments) payload disk outcome (inl h) =
+    ap (λ (o : Outcome). o.disk.failures) h.is ∙ stopped-failures (all_sectors (segments_in payload)) disk h.left h.stopped
+fails_counted (WriteZeroes segments) payload disk outcome (inr h) =
+    ap (λ (o : Outcome). o.disk.failures) h ∙ ap (λ n. n + 1) (zeroed-failures (all_sectors (segments_in payload)) disk)
 
 pub gives_counted : (device : BlockDevice) (disk : Disk) (readable : List ℕ) (w : ℕ) (given : Given Disk) → GivesBy Ends device disk readable w given
     → (given.state.failures ≡ disk.failures) ⊎ (given.state.failures ≡ disk.failures + 1)

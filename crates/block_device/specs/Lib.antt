@@ -4,3 +4,4 @@ pub mod Extent
 pub mod Outcome
 pub mod Progress
 pub mod Request
+pub mod Zeroes

@@ -7,8 +7,9 @@ use Rattle.sector_cache.specs.Disk.{Disk, failed, flushed}
 use Rattle.block_device.specs.declared.request.RequestStatus.{RequestStatus}
 use Rattle.block_device.specs.declared.request.RequestStatus.TheVariants.{Success, IoError}
 use Rattle.block_device.specs.declared.request.Request.{Request}
-use Rattle.block_device.specs.declared.request.Request.TheVariants.{Rejected, Read, Write, Flush, GetId}
+use Rattle.block_device.specs.declared.request.Request.TheVariants.{Rejected, Read, Write, Flush, GetId, WriteZeroes}
 use Rattle.block_device.specs.Extent.{sector_len}
+use Rattle.block_device.specs.Zeroes.{IsStopped, all_sectors, segments_in, zeroed_sectors}
 
 -- the disk after a request, the bytes that are put in the first writable places, and the status
 pub record Outcome : Type 0 where
@@ -48,14 +49,16 @@ Finds (Read sector count) disk found = AreAsTold disk sector count found
 Finds (Write sector count) disk found = found ≡ []
 Finds Flush disk found = found ≡ []
 Finds GetId disk found = found ≡ identity
+Finds (WriteZeroes segments) disk found = found ≡ []
 
--- the disk and the status after it: OUT ends by a flush, also without data
+-- the disk and the status after it: OUT and WRITE_ZEROES end by a flush, also without a sector
 abbrev pub completed : Request → List ℕ → List ℕ → Disk → Outcome
 completed (Rejected status) payload found disk = record { disk = disk; found = found; status = status }
 completed (Read sector count) payload found disk = record { disk = disk; found = found; status = Success }
 completed (Write sector count) payload found disk = record { disk = flushed (filled sector payload disk); found = found; status = Success }
 completed Flush payload found disk = record { disk = flushed disk; found = found; status = Success }
 completed GetId payload found disk = record { disk = disk; found = found; status = Success }
+completed (WriteZeroes segments) payload found disk = record { disk = flushed (zeroed_sectors (all_sectors (segments_in payload)) disk); found = found; status = Success }
 
 -- The request ends so, and no image call fails.
 pub record Completes (request : Request) (payload : List ℕ) (disk : Disk) (outcome : Outcome) : Type 0 where
@@ -85,6 +88,17 @@ abbrev pub FlushFails : ℕ → List ℕ → Disk → Outcome → Type 0
 FlushFails sector payload disk outcome =
     outcome ≡ record { disk = failed (filled sector payload disk); found = []; status = IoError }
 
+-- WRITE_ZEROES fails at a sector of its segments
+pub record ZeroingFails (sectors : List ℕ) (disk : Disk) (outcome : Outcome) : Type 0 where
+  pub left : Disk
+  pub stopped : IsStopped sectors disk left
+  pub is : outcome ≡ record { disk = left; found = []; status = IoError }
+
+-- or at its flush: all sectors are zero
+abbrev pub ZeroedUnflushed : List ℕ → Disk → Outcome → Type 0
+ZeroedUnflushed sectors disk outcome =
+    outcome ≡ record { disk = failed (zeroed_sectors sectors disk); found = []; status = IoError }
+
 -- The request passes its checks and ends so at an image call that fails.
 abbrev pub Fails : Request → List ℕ → Disk → Outcome → Type 0
 Fails (Rejected status) payload disk outcome = ⊥
@@ -92,6 +106,8 @@ Fails (Read sector count) payload disk outcome = ReadFails sector count disk out
 Fails (Write sector count) payload disk outcome = WriteFails sector count payload disk outcome ⊎ FlushFails sector payload disk outcome
 Fails Flush payload disk outcome = outcome ≡ record { disk = failed disk; found = []; status = IoError }
 Fails GetId payload disk outcome = ⊥
+Fails (WriteZeroes segments) payload disk outcome =
+    ZeroingFails (all_sectors (segments_in payload)) disk outcome ⊎ ZeroedUnflushed (all_sectors (segments_in payload)) disk outcome
 
 abbrev pub Ends : Request → List ℕ → Disk → Outcome → Type 0
 Ends request payload disk outcome = Completes request payload disk outcome ⊎ Fails request payload disk outcome

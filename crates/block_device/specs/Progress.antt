@@ -1,5 +1,6 @@
 -- Between a request's checks and its status.
-use Rattle.std.specs.Prelude.{◌≡◌, ℕ, ◌+◌, ◌*◌, ◌≤◌, List, length, map, Some}
+use Rattle.std.specs.Prelude.{◌≡◌, ℕ, ◌+◌, ◌*◌, ◌≤◌, true, List, length, map, Some}
+use Rattle.std.specs.List.{list_all}
 use Rattle.guest_memory.specs.Memory.{Memory}
 use Rattle.chain.specs.declared.segment.Buffer.{Buffer}
 use Rattle.chain.specs.Bytes.{readable_of, writable_of}
@@ -7,18 +8,21 @@ use Rattle.chain.specs.Service.{scattered}
 use Rattle.sector_cache.specs.Disk.{Disk}
 use Rattle.block_device.specs.declared.request.RequestStatus.{RequestStatus}
 use Rattle.block_device.specs.declared.request.Request.{Request}
-use Rattle.block_device.specs.declared.request.Request.TheVariants.{Rejected, Read, Write, Flush, GetId}
+use Rattle.block_device.specs.declared.request.Request.TheVariants.{Rejected, Read, Write, Flush, GetId, WriteZeroes}
 use Rattle.block_device.specs.Request.{payload_of}
 use Rattle.block_device.specs.Outcome.{Ends}
 use Rattle.block_device.specs.Extent.{sector_len}
+use Rattle.block_device.specs.Zeroes.{has_sectors_within, segment_len, segments_in}
 
--- what the checks have shown of a request, with these many bytes handed over and this much room
-abbrev pub IsServable : ℕ → Request → ℕ → ℕ → Type 0
-IsServable capacity (Rejected status) len room = Unit {0}
-IsServable capacity (Read sector count) len room = (sector + count ≤ capacity) × (room ≡ sector_len * count)
-IsServable capacity (Write sector count) len room = (sector + count ≤ capacity) × (len ≡ sector_len * count)
-IsServable capacity Flush len room = Unit {0}
-IsServable capacity GetId len room = 20 ≤ room
+-- what the checks have shown of a request, with these bytes handed over and this much room
+abbrev pub IsServable : ℕ → Request → List ℕ → ℕ → Type 0
+IsServable capacity (Rejected status) payload room = Unit {0}
+IsServable capacity (Read sector count) payload room = (sector + count ≤ capacity) × (room ≡ sector_len * count)
+IsServable capacity (Write sector count) payload room = (sector + count ≤ capacity) × (length payload ≡ sector_len * count)
+IsServable capacity Flush payload room = Unit {0}
+IsServable capacity GetId payload room = 20 ≤ room
+IsServable capacity (WriteZeroes segments) payload room =
+    (length payload ≡ segment_len * segments) × (list_all (has_sectors_within capacity) (segments_in payload) ≡ true)
 
 -- The request has ended but for its status, which is known and not yet written: the first len places of
 -- the writable list are.

@@ -1,13 +1,15 @@
 -- What a driver asks for (5.2.6): the header's fields, and the checks in their order. All of it is known
 -- before the image is touched.
-use Rattle.std.specs.Prelude.{ℕ, ◌+◌, ◌-◌, ◌/◌, ◌%◌, Bool, ◌&&◌, ◌==◌, nat_lt, nat_le, if◌then◌else◌, List, length, take, drop}
+use Rattle.std.specs.Prelude.{ℕ, ◌+◌, ◌/◌, ◌%◌, Bool, not, ◌&&◌, ◌==◌, nat_lt, nat_le, if◌then◌else◌, List, length, take, drop}
+use Rattle.std.specs.List.{list_all}
 use Rattle.byteorder.specs.Endian.{little_number}
 use Rattle.block_device.specs.declared.device.BlockDevice.{BlockDevice}
 use Rattle.block_device.specs.declared.request.RequestStatus.{RequestStatus}
 use Rattle.block_device.specs.declared.request.RequestStatus.TheVariants.{Success, IoError, Unsupported}
 use Rattle.block_device.specs.declared.request.Request.{Request}
-use Rattle.block_device.specs.declared.request.Request.TheVariants.{Rejected, Read, Write, Flush, GetId}
+use Rattle.block_device.specs.declared.request.Request.TheVariants.{Rejected, Read, Write, Flush, GetId, WriteZeroes}
 use Rattle.block_device.specs.Extent.{sector_len}
+use Rattle.block_device.specs.Zeroes.{are_segments, has_known_flags, has_sectors_within, segment_len, segments_in}
 
 -- The header is the first 16 readable bytes: the type in 4, 4 that are reserved, the sector in 8.
 abbrev pub header_of : List ℕ → List ℕ
@@ -19,7 +21,7 @@ type_of readable = little_number 4 (header_of readable)
 abbrev pub sector_in : List ℕ → ℕ
 sector_in readable = little_number 8 (drop 8 (header_of readable))
 
--- what the driver hands over to be written: the readable bytes behind the header
+-- the readable bytes behind the header: what is to be written, or segments
 abbrev pub payload_of : List ℕ → List ℕ
 payload_of readable = drop 16 readable
 
@@ -43,13 +45,23 @@ out_request_of device sector len =
 abbrev pub get_id_request_of : ℕ → Request
 get_id_request_of room = if nat_lt room 20 then Rejected IoError else GetId
 
+-- WRITE_ZEROES names the sectors by segments, of which all flags are judged before all sectors.
+abbrev pub write_zeroes_request_of : BlockDevice → List ℕ → Request
+write_zeroes_request_of device payload =
+    if device.read_only then Rejected IoError
+    else if not (are_segments (length payload)) then Rejected IoError
+    else if not (list_all has_known_flags (segments_in payload)) then Rejected Unsupported
+    else if not (list_all (has_sectors_within device.extent.count) (segments_in payload)) then Rejected IoError
+    else WriteZeroes (length payload / segment_len)
+
 -- a request of this type
-abbrev pub typed_request : BlockDevice → ℕ → ℕ → ℕ → ℕ → Request
-typed_request device kind sector len room =
+abbrev pub typed_request : BlockDevice → ℕ → ℕ → List ℕ → ℕ → Request
+typed_request device kind sector payload room =
     if kind == 0 then in_request_of device sector room
-    else if kind == 1 then out_request_of device sector len
+    else if kind == 1 then out_request_of device sector (length payload)
     else if kind == 4 then Flush
     else if kind == 8 then get_id_request_of room
+    else if kind == 13 then write_zeroes_request_of device payload
     else Rejected Unsupported
 
 -- What a chain with these readable bytes asks for, where `room` writable bytes come before the status.
@@ -57,7 +69,7 @@ typed_request device kind sector len room =
 abbrev pub request_of : BlockDevice → List ℕ → ℕ → Request
 request_of device readable room =
     if nat_lt (length readable) 16 then Rejected IoError
-    else typed_request device (type_of readable) (sector_in readable) (length readable - 16) room
+    else typed_request device (type_of readable) (sector_in readable) (payload_of readable) room
 
 -- the byte that stands for a status (5.2.6)
 abbrev pub code_of : RequestStatus → ℕ

@@ -95,7 +95,7 @@ impl BlockDevice {
         requires good { Good mem.old chain.now }
         requires lies { IsWithin (I.disk cache.old).sector_count self.now.extent }
         requires servable { IsServable self.now.extent.count request
-            (length (payload_of (readable_of mem.old chain.now))) room }
+            (payload_of (readable_of mem.old chain.now)) room }
         requires room { room + 1 ≡ length (writable_of chain.now) }
         ensures done { IsDone request chain.now mem.old mem.new
             (extent_disk self.now.extent (I.disk cache.old))
@@ -126,6 +126,7 @@ impl BlockDevice {
                     ..Done::SUCCEEDED
                 }
             }
+            Request::WriteZeroes { segments } => self.zero_segments(mem, chain, cache, segments),
         }
     }
 }

@@ -5,6 +5,7 @@ ghost use Rattle.block_device.specs.Config.{config_of};
 
 use crate::extent::Extent;
 use crate::request::SECTOR_LEN;
+use crate::zeroes::{MAX_WRITE_ZEROES_SECTORS, MAX_WRITE_ZEROES_SEG};
 use byteorder::{ByteOrder, LittleEndian};
 
 /// How many segments a request may have, next to its header and its status.
@@ -31,7 +32,8 @@ impl BlockDevice {
         BlockDevice { extent, read_only }
     }
 
-    /// The configuration space (5.2.4), little-endian: capacity at 0, seg_max at 12, blk_size at 20.
+    /// The configuration space (5.2.4), little-endian: capacity at 0, seg_max at 12, blk_size at 20,
+    /// max_write_zeroes_sectors at 48, max_write_zeroes_seg at 52.
     pub fn config(&self) -> [u8; 64]
         ensures { result ≡ config_of self.now.extent.count }
     {
@@ -39,6 +41,8 @@ impl BlockDevice {
         LittleEndian::write_u64(&mut config[..8], self.extent.count);
         LittleEndian::write_u32(&mut config[12..16], SEG_MAX);
         LittleEndian::write_u32(&mut config[20..24], BLK_SIZE);
+        LittleEndian::write_u32(&mut config[48..52], MAX_WRITE_ZEROES_SECTORS);
+        LittleEndian::write_u32(&mut config[52..56], MAX_WRITE_ZEROES_SEG);
         config
     }
 }

@@ -1,6 +1,7 @@
 //! A block device (5.2): one request of a driver after another, served over an extent of a shared image.
 //!
-//! `request` reads a header and judges it, `transfer` moves sectors, `answer` serves one chain from its
+//! `request` reads a header and judges it, `transfer` moves sectors, `zeroes` zeroes
+//! them, `answer` serves one chain from its
 //! header to its status byte, and `serve` serves a queue and tells the window. The caller is the board,
 //! which hands in the guest's memory, the device's window and the cache over the image.
 #![tactic(auto)]
@@ -14,6 +15,7 @@ mod serve;
 #[cfg(test)]
 mod tests;
 mod transfer;
+mod zeroes;
 
 pub use device::BlockDevice;
 pub use extent::Extent;

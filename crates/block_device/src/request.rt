@@ -1,7 +1,7 @@
 //! One request as its driver wrote it (5.2.6): the header is read, its type looked up, and everything
 //! that can be refused without the image is refused here.
 
-ghost use Rattle.std.specs.Prelude.{◌≡◌, ℕ, length, All};
+ghost use Rattle.std.specs.Prelude.{◌≡◌, ℕ, List, length, All};
 ghost use Rattle.chain.specs.Buffers.{Within};
 ghost use Rattle.chain.specs.Bytes.{readable_of};
 ghost use Rattle.block_device.specs.Progress.{IsServable};
@@ -34,6 +34,9 @@ const TYPE_FLUSH: u32 = 4;
 /// VIRTIO_BLK_T_GET_ID: the device is named.
 const TYPE_GET_ID: u32 = 8;
 
+/// VIRTIO_BLK_T_WRITE_ZEROES: sectors are zeroed.
+const TYPE_WRITE_ZEROES: u32 = 13;
+
 /// The byte that ends a request, with the standard's codes.
 #[derive(Clone, Copy, Debug, PartialEq, Eq)]
 pub enum RequestStatus {
@@ -56,6 +59,8 @@ pub enum Request {
     Write { sector: u64, count: u64 },
     Flush,
     GetId,
+    /// The sectors of that many segments are zeroed, which lie behind the header.
+    WriteZeroes { segments: u64 },
 }
 
 impl BlockDevice {
@@ -70,7 +75,7 @@ impl BlockDevice {
     /// IN of `room` bytes.
     fn in_request(&self, sector: u64, room: u64) -> Request
         ensures value { result ≡ in_request_of self.now sector room }
-        ensures servable { (len : ℕ) → IsServable self.now.extent.count result len room }
+        ensures servable { (payload : List ℕ) → IsServable self.now.extent.count result payload room }
     {
         if self.has_sectors(sector, room) {
             Request::Read {
@@ -85,7 +90,8 @@ impl BlockDevice {
     /// OUT of `len` bytes.
     fn out_request(&self, sector: u64, len: u64) -> Request
         ensures value { result ≡ out_request_of self.now sector len }
-        ensures servable { (room : ℕ) → IsServable self.now.extent.count result len room }
+        ensures servable { (payload : List ℕ) (room : ℕ) → length payload ≡ len
+            → IsServable self.now.extent.count result payload room }
     {
         if !self.read_only && self.has_sectors(sector, len) {
             Request::Write {
@@ -107,7 +113,7 @@ impl BlockDevice {
         requires { All (Within mem.now) chain.now }
         ensures value { result ≡ request_of self.now (readable_of mem.now chain.now) room }
         ensures servable { IsServable self.now.extent.count result
-            (length (payload_of (readable_of mem.now chain.now))) room }
+            (payload_of (readable_of mem.now chain.now)) room }
     {
         let readable = chain.readable_len();
         if readable < HEADER_LEN {
@@ -122,6 +128,7 @@ impl BlockDevice {
             TYPE_FLUSH => Request::Flush,
             TYPE_GET_ID if room >= ID_LEN => Request::GetId,
             TYPE_GET_ID => Request::Rejected(RequestStatus::IoError),
+            TYPE_WRITE_ZEROES => self.write_zeroes_request(mem, chain, readable - HEADER_LEN),
             _ => Request::Rejected(RequestStatus::Unsupported),
         }
     }

@@ -121,6 +121,21 @@ impl Guest {
         self.cache.image().calls()
     }
 
+    /// Whether a request for zeros of these sectors passes its checks.
+    fn may_zero(&mut self, capacity: u64, sector: u64, count: u32) -> Result<bool, Fault> {
+        self.put_request(13, 0);
+        let _ = self.mem.put_u64(DATA, sector);
+        let _ = self.mem.put_u32(DATA + 8, count);
+        let chain = chain_of(&self.mem, &[readable(HEADER, 16), readable(DATA, 16)])?;
+        let extent = Extent {
+            start: 0,
+            count: capacity,
+        };
+        let device = BlockDevice::new(extent, false);
+        let request = device.request(&self.mem, &chain, 0);
+        Ok(request == crate::Request::WriteZeroes { segments: 1 })
+    }
+
     /// Serves one chain of these buffers.
     fn serve(
         &mut self,
@@ -159,7 +174,7 @@ const REQUESTS: [Request; 21] = [
     (11, 0, 0, 2, 1),
     (11, 0, 512, 2, 0),
     (2, 0, 512, 2, 0),
-    (13, 0, 0, 2, 1),
+    (13, 0, 0, 1, 1),
     (u32::MAX, 0, 0, 2, 1),
 ];
 
@@ -188,6 +203,37 @@ fn check_request(rt: &impl Abort, guest: &mut Guest, request: &Request) {
         &found,
         &(Ok(answer_of(len, false)), Some(status)),
     );
+}
+
+/// A capacity, a segment's sector and count, and whether it may be zeroed.
+type ZeroesRow = (u64, u64, u32, bool);
+
+const SEGMENTS: [ZeroesRow; 10] = [
+    (65536, 0, 65536, true),
+    (65535, 0, 65536, false),
+    (65536, 0, 65535, true),
+    (65536, 1, 65535, true),
+    (65536, 1, 65536, false),
+    (u64::MAX, 0, 65537, false),
+    (u64::MAX, 0, u32::MAX, false),
+    (u64::MAX, u64::MAX - 65536, 65536, true),
+    (u64::MAX, u64::MAX - 65535, 65536, false),
+    (u64::MAX, u64::MAX, 1, false),
+];
+
+#[test]
+fn a_segment_has_65536_sectors_at_most(rt: HostRuntime) -> Result<(), Fail> {
+    let mut guest = Guest::new(rt.alloc(), &[])?;
+    for segment in &SEGMENTS {
+        check_segment(&rt, &mut guest, segment);
+    }
+    Ok(())
+}
+
+fn check_segment(rt: &impl Abort, guest: &mut Guest, segment: &ZeroesRow) {
+    let (capacity, sector, count, may) = *segment;
+    let found = guest.may_zero(capacity, sector, count);
+    same(rt, segment, &found, &Ok(may));
 }
 
 /// An OUT to a device, with so many readable bytes of header and of data and writable ones for the status.
@@ -267,5 +313,7 @@ fn the_configuration_shows_the_capacity(rt: HostRuntime) {
     want[..8].copy_from_slice(&[8, 7, 6, 5, 4, 3, 2, 1]);
     want[12] = 0x7e;
     want[21] = 2;
+    want[50] = 1;
+    want[52] = 32;
     assert!(rt; BlockDevice::new(extent, false).config() == want);
 }

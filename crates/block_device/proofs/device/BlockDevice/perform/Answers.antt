@@ -1,10 +1,14 @@
-use Rattle.block_device.proofs.Answering.{write_fits, done_rejected, done_flushed, done_unflushed, done_identity}
+use Rattle.block_device.proofs.Answering.{write_fits, zeroes_fit, done_rejected, done_flushed, done_unflushed, done_identity}
 use Rattle.block_device.specs.Extent.{extent_disk}
 use Rattle.block_device.proofs.device.BlockDevice.perform.Goals as goal
 
 pub write_sectors-requires-clause-fits : goal.write_sectors-requires-clause-fits
 write_sectors-requires-clause-fits g c =
     write_fits c.args.mem.now c.args.chain.now c.args.self.now.extent.count c.args.request c.in-Write.sector c.in-Write.count c.args.room c.requires.good c.in-Write.is c.requires.servable
+
+pub zero_segments-requires-clause-fits : goal.zero_segments-requires-clause-fits
+zero_segments-requires-clause-fits g c =
+    zeroes_fit c.args.mem.now c.args.chain.now c.args.self.now.extent.count c.args.request c.in-WriteZeroes.segments c.args.room c.requires.good c.in-WriteZeroes.is c.requires.servable
 
 pub returns-in-Rejected-clause-done : goal.returns-in-Rejected-clause-done
 returns-in-Rejected-clause-done g c =

@@ -1,0 +1,280 @@
+-- Sectors that were zeroed so far, and what the request is once they all are, or once the image fails.
+use Rattle.std.proofs.Common.{◌≡◌, inl, inr, ℕ, zero, suc, ◌+◌, ◌-◌, ◌*◌, ◌/◌, ◌<◌, ◌≤◌, Bool, true, false, ◌&&◌, List, [], ◌∷◌, ◌++◌, length, map, take, drop, replicate, refl, sym, ap, ◌∙◌, arith, append_assoc, append-nil}
+use Rattle.std.specs.List.{AllByRecursion, list_all, range_with_len}
+use Rattle.std.specs.Option.{option_map}
+use Rattle.std.specs.Prelude.{Option, Some, None}
+use Rattle.std.proofs.lemmas.Bool.Decides.{nat_tests}
+use Rattle.std.proofs.lemmas.List.{length-replicate, map-append}
+use Rattle.std.proofs.lemmas.List.FromFn.{map-range_with_len_more}
+use Rattle.guest_memory.specs.Memory.{Memory}
+use Rattle.chain.specs.declared.segment.Buffer.{Buffer}
+use Rattle.chain.specs.Bytes.{readable_of, writable_of}
+use Rattle.chain.proofs.Partial.{scattered-nil}
+use Rattle.sector_cache.specs.Sector.{with_sector}
+use Rattle.sector_cache.specs.Disk.{Disk, IsWhole, IsTorn, failed, flushed, written}
+use Rattle.block_device.specs.declared.extent.Extent.{Extent}
+use Rattle.block_device.specs.declared.request.RequestStatus.TheVariants.{Success, IoError}
+use Rattle.block_device.specs.declared.request.Request.TheVariants.{WriteZeroes}
+use Rattle.block_device.specs.declared.zeroes.WriteZeroesSegment.{WriteZeroesSegment}
+use Rattle.block_device.specs.Extent.{IsWithin, extent_disk, KeepsOutside}
+use Rattle.block_device.specs.Request.{payload_of}
+use Rattle.block_device.specs.Outcome.{filled, with_sectors}
+use Rattle.block_device.specs.Progress.{IsDone}
+use Rattle.block_device.specs.Zeroes.{IsStopped, all_sectors, has_sectors_within, sectors_of, segment_at, segments_in, zeroed_sectors}
+use Rattle.block_device.proofs.Courses.{lies_still, outside_trans}
+use Rattle.block_device.proofs.Extents.{extent_disk-filled, KeepsOutside-filled, KeepsOutside-same, marked-chunk, same_disk}
+
+abbrev zeros : List ℕ
+zeros = replicate 512 0
+
+-- ---- lists of sectors
+
+-- a run of numbers in two parts
+range-split : (a n k : ℕ) → range_with_len a (n + k) ≡ range_with_len a n ++ range_with_len (a + n) k
+range-split a zero k =
+    let none : 0 + k ≡ k = omega arith in
+    let here : a ≡ a + 0 = omega arith in
+    ap (range_with_len a) none ∙ ap (λ b. range_with_len b k) here
+range-split a (suc n) k =
+    let more : suc n + k ≡ suc (n + k) = omega arith in
+    let on : a + 1 + n ≡ a + suc n = omega arith in
+    ap (range_with_len a) more ∙ ap (λ l. a ∷ l) (range-split (a + 1) n k ∙ ap (λ b. range_with_len (a + 1) n ++ range_with_len b k) on)
+
+-- those of a run
+run-below : (a n capacity : ℕ) → a + n ≤ capacity → AllByRecursion (λ sector. sector < capacity) (range_with_len a n)
+run-below a zero capacity le = tt
+run-below a (suc n) capacity le = (omega arith, run-below (a + 1) n capacity (omega arith))
+
+below-append : (capacity : ℕ) (xs ys : List ℕ) → AllByRecursion (λ sector. sector < capacity) xs → AllByRecursion (λ sector. sector < capacity) ys → AllByRecursion (λ sector. sector < capacity) (xs ++ ys)
+below-append capacity [] ys p q = q
+below-append capacity (x ∷ xs) ys p q = (p.0, below-append capacity xs ys p.1 q)
+
+one-below : (capacity : ℕ) (segment : WriteZeroesSegment) → has_sectors_within capacity segment ≡ true → AllByRecursion (λ sector. sector < capacity) (sectors_of segment)
+one-below capacity segment fits = run-below segment.sector segment.count capacity (grind (arith, nat_tests, fits))
+
+both : (a b : Bool) → (a && b) ≡ true → (a ≡ true) × (b ≡ true)
+both true true e = (refl, refl)
+both true false e = cc
+both false b e = cc
+
+-- the sectors of segments that lie on a disk do
+pub all-below : (capacity : ℕ) (segments : List WriteZeroesSegment) → list_all (has_sectors_within capacity) segments ≡ true
+    → AllByRecursion (λ sector. sector < capacity) (all_sectors segments)
+all-below capacity [] fit = tt
+all-below capacity (segment ∷ segments) fit =
+    let parts = both (has_sectors_within capacity segment) (list_all (has_sectors_within capacity) segments) fit in
+    below-append capacity (sectors_of segment) (all_sectors segments) (one-below capacity segment parts.0) (all-below capacity segments parts.1)
+
+-- and so does each front of them, and the next one
+pub front-below : (capacity : ℕ) (before : List ℕ) (sector : ℕ) (later : List ℕ) → AllByRecursion (λ s. s < capacity) (before ++ sector ∷ later)
+    → AllByRecursion (λ s. s < capacity) before × (sector < capacity)
+front-below capacity [] sector later p = (tt, p.0)
+front-below capacity (x ∷ before) sector later p = let rest = front-below capacity before sector later p.1 in ((p.0, rest.0), rest.1)
+
+-- ---- zeroing, one sector after another
+
+zeroed-append : (xs ys : List ℕ) (disk : Disk) → zeroed_sectors (xs ++ ys) disk ≡ zeroed_sectors ys (zeroed_sectors xs disk)
+zeroed-append [] ys disk = refl
+zeroed-append (x ∷ xs) ys disk = zeroed-append xs ys (written x zeros disk)
+
+pub zeroed-failures : (sectors : List ℕ) (disk : Disk) → (zeroed_sectors sectors disk).failures ≡ disk.failures
+zeroed-failures [] disk = refl
+zeroed-failures (sector ∷ sectors) disk = zeroed-failures sectors (written sector zeros disk)
+
+pub stopped-failures : (sectors : List ℕ) (old new : Disk) → IsStopped sectors old new → new.failures ≡ old.failures + 1
+stopped-failures sectors old new s =
+    ap (λ (d : Disk). d.failures) s.torn.torn ∙ ap (λ n. n + 1) (zeroed-failures s.before old)
+
+-- a sector written is a run of one sector
+written-filled_once : (disk : Disk) (sector : ℕ) (new : List ℕ) → length new ≡ 512 → written sector new disk ≡ filled sector new disk
+written-filled_once disk sector new whole =
+    same_disk disk.sector_count disk.failures _ _ true _ (same_told disk.told) (marked-chunk [] new disk.mark whole)
+  where
+    same_told : (told : Option (List ℕ)) → option_map (λ bytes. with_sector bytes sector new) told ≡ option_map (λ bytes. with_sectors bytes sector new) told
+    same_told None = refl
+    same_told (Some bytes) =
+        let behind : 512 * (sector + 1) ≡ 512 * sector + length new = omega arith in
+        ap (λ n. Some (take (512 * sector) bytes ++ (new ++ drop n bytes))) behind
+
+-- the extent of a disk of which a sector within it was written
+extent_disk-written : (extent : Extent) (disk : Disk) (sector : ℕ) (new : List ℕ) → IsWhole disk → IsWithin disk.sector_count extent → sector < extent.count → length new ≡ 512
+    → extent_disk extent (written (extent.start + sector) new disk) ≡ written sector new (extent_disk extent disk)
+extent_disk-written extent disk sector new is_whole lies below whole =
+    ap (extent_disk extent) (written-filled_once disk (extent.start + sector) new whole)
+    ∙ extent_disk-filled extent disk sector new is_whole lies (omega arith)
+    ∙ sym (written-filled_once (extent_disk extent disk) sector new whole)
+
+-- these sectors of the extent were zeroed
+pub record IsZeroing (extent : Extent) (old new : Disk) (sectors : List ℕ) : Type 0 where
+  pub seen : extent_disk extent new ≡ zeroed_sectors sectors (extent_disk extent old)
+  pub outside : KeepsOutside extent old new
+
+pub zeroing_start : (extent : Extent) (disk : Disk) → IsZeroing extent disk disk []
+zeroing_start extent disk = record { seen = refl; outside = KeepsOutside-same extent disk disk refl refl }
+
+-- one sector more
+pub zeroing_more : (extent : Extent) (old d d' : Disk) (sectors : List ℕ) (sector place : ℕ) → IsZeroing extent old d sectors → IsWhole d → IsWithin old.sector_count extent
+    → sector < extent.count → place ≡ extent.start + sector → d' ≡ written place zeros d → IsZeroing extent old d' (sectors ++ sector ∷ [])
+zeroing_more extent old d d' sectors sector place z whole lies below at put =
+    let long : length zeros ≡ 512 = length-replicate {A = ℕ} 512 0 in
+    let lies_d : IsWithin d.sector_count extent = lies_still extent old d z.outside lies in
+    let is : d' ≡ written (extent.start + sector) zeros d = put ∙ ap (λ n. written n zeros d) at in
+    let run : d' ≡ filled (extent.start + sector) zeros d = is ∙ written-filled_once d (extent.start + sector) zeros long in
+    record {
+      seen =
+          ap (extent_disk extent) is ∙ extent_disk-written extent d sector zeros whole lies_d below long
+          ∙ ap (written sector zeros) z.seen ∙ sym (zeroed-append sectors (sector ∷ []) (extent_disk extent old));
+      outside = outside_trans extent old d d' z.outside
+          (KeepsOutside-filled extent d d' sector zeros whole lies_d (omega (arith, long)) (ap (λ (d : Disk). d.told) run) (ap (λ (d : Disk). d.sector_count) run));
+    }
+
+-- the image fails at a sector
+pub zeroing_stops : (extent : Extent) (old d d' : Disk) (all sectors later : List ℕ) (sector place : ℕ) → IsZeroing extent old d sectors → IsWhole d → IsWithin old.sector_count extent
+    → sector < extent.count → place ≡ extent.start + sector → all ≡ sectors ++ sector ∷ later → IsTorn place d d'
+    → IsStopped all (extent_disk extent old) (extent_disk extent d') × KeepsOutside extent old d'
+zeroing_stops extent old d d' all sectors later sector place z whole lies below at listed t =
+    let lies_d : IsWithin d.sector_count extent = lies_still extent old d z.outside lies in
+    let is : d' ≡ failed (written (extent.start + sector) t.left d) = t.torn ∙ ap (λ n. failed (written n t.left d)) at in
+    let run : d' ≡ failed (filled (extent.start + sector) t.left d) = is ∙ ap failed (written-filled_once d (extent.start + sector) t.left t.whole) in (
+      record {
+        before = sectors;
+        sector = sector;
+        later = later;
+        listed = listed;
+        torn = record {
+          left = t.left;
+          whole = t.whole;
+          torn =
+              ap (extent_disk extent) is ∙ ap failed (extent_disk-written extent d sector t.left whole lies_d below t.whole)
+              ∙ ap (λ d. failed (written sector t.left d)) z.seen;
+        };
+      },
+      outside_trans extent old d d' z.outside
+          (KeepsOutside-filled extent d d' sector t.left whole lies_d (omega (arith, t.whole)) (ap (λ (d : Disk). d.told) run) (ap (λ (d : Disk). d.sector_count) run)),
+    )
+
+-- ---- the sectors of one segment
+
+-- the sectors of a run so far, and one more
+pub run-more : (a n : ℕ) → range_with_len a (n + 1) ≡ range_with_len a n ++ (a + n) ∷ []
+run-more a n = range-split a n 1
+
+-- and those behind it
+pub run-at : (a n count : ℕ) → n < count → range_with_len a count ≡ range_with_len a n ++ (a + n) ∷ range_with_len (a + n + 1) (count - n - 1)
+run-at a n count below =
+    let whole : count ≡ n + suc (count - n - 1) = omega arith in
+    ap (range_with_len a) whole ∙ range-split a n (suc (count - n - 1))
+
+-- ---- the sectors of several segments
+
+-- the first segments of a payload
+abbrev pub first_segments : List ℕ → ℕ → List WriteZeroesSegment
+first_segments payload n = map (segment_at payload) (range_with_len 0 n)
+
+flat-append : (xs ys : List WriteZeroesSegment) → all_sectors (xs ++ ys) ≡ all_sectors xs ++ all_sectors ys
+flat-append [] ys = refl
+flat-append (x ∷ xs) ys = ap (λ l. sectors_of x ++ l) (flat-append xs ys) ∙ sym (append_assoc (sectors_of x) (all_sectors xs) (all_sectors ys))
+
+segments-at : (payload : List ℕ) (n count : ℕ) → n < count
+    → first_segments payload count ≡ first_segments payload n ++ segment_at payload n ∷ map (segment_at payload) (range_with_len (n + 1) (count - n - 1))
+segments-at payload n count below =
+    let zero_on : 0 + n ≡ n = omega arith in
+    ap (map (segment_at payload)) (run-at 0 n count below ∙ ap (λ k. range_with_len 0 n ++ k ∷ range_with_len (k + 1) (count - n - 1)) zero_on)
+    ∙ map-append (segment_at payload) (range_with_len 0 n) (n ∷ range_with_len (n + 1) (count - n - 1))
+
+sectors-more : (payload : List ℕ) (n : ℕ) → all_sectors (first_segments payload (n + 1)) ≡ all_sectors (first_segments payload n) ++ sectors_of (segment_at payload n)
+sectors-more payload n =
+    ap all_sectors (map-range_with_len_more (segment_at payload) 0 n n (omega arith))
+    ∙ flat-append (first_segments payload n) (segment_at payload n ∷ [])
+    ∙ ap (λ l. all_sectors (first_segments payload n) ++ l) (append-nil (sectors_of (segment_at payload n)))
+
+-- one segment more
+pub zeroing_joins : (extent : Extent) (old d d' : Disk) (payload : List ℕ) (n : ℕ) (segment : WriteZeroesSegment) → IsZeroing extent old d (all_sectors (first_segments payload n))
+    → segment ≡ segment_at payload n → extent_disk extent d' ≡ zeroed_sectors (sectors_of segment) (extent_disk extent d) → KeepsOutside extent d d'
+    → IsZeroing extent old d' (all_sectors (first_segments payload (n + 1)))
+zeroing_joins extent old d d' payload n segment z is seen outside = record {
+  seen =
+      seen ∙ ap (λ s. zeroed_sectors (sectors_of s) (extent_disk extent d)) is ∙ ap (zeroed_sectors (sectors_of (segment_at payload n))) z.seen
+      ∙ sym (zeroed-append (all_sectors (first_segments payload n)) (sectors_of (segment_at payload n)) (extent_disk extent old))
+      ∙ ap (λ l. zeroed_sectors l (extent_disk extent old)) (sym (sectors-more payload n));
+  outside = outside_trans extent old d d' z.outside outside;
+}
+
+-- the image fails in a segment
+pub segment_stops : (extent : Extent) (old d d' : Disk) (payload : List ℕ) (n : ℕ) (segment : WriteZeroesSegment) → IsZeroing extent old d (all_sectors (first_segments payload n))
+    → segment ≡ segment_at payload n → n < length payload / 16 → IsStopped (sectors_of segment) (extent_disk extent d) (extent_disk extent d')
+    → IsStopped (all_sectors (segments_in payload)) (extent_disk extent old) (extent_disk extent d')
+segment_stops extent old d d' payload n segment z is below s =
+    let count = length payload / 16 in
+    let done : List ℕ = all_sectors (first_segments payload n) in
+    let rest : List ℕ = all_sectors (map (segment_at payload) (range_with_len (n + 1) (count - n - 1))) in
+    let within : sectors_of (segment_at payload n) ≡ s.before ++ s.sector ∷ s.later = sym (ap sectors_of is) ∙ s.listed in
+    record {
+      before = done ++ s.before;
+      sector = s.sector;
+      later = s.later ++ rest;
+      listed =
+          ap all_sectors (segments-at payload n count below)
+          ∙ flat-append (first_segments payload n) (segment_at payload n ∷ map (segment_at payload) (range_with_len (n + 1) (count - n - 1)))
+          ∙ ap (λ l. done ++ (l ++ rest)) within
+          ∙ ap (λ l. done ++ l) (append_assoc s.before (s.sector ∷ s.later) rest)
+          ∙ sym (append_assoc done s.before (s.sector ∷ (s.later ++ rest)));
+      torn = record {
+        left = s.torn.left;
+        whole = s.torn.whole;
+        torn =
+            s.torn.torn
+            ∙ ap (λ d. failed (written s.sector s.torn.left d)) (ap (zeroed_sectors s.before) z.seen ∙ sym (zeroed-append done s.before (extent_disk extent old)));
+      };
+    }
+
+-- ---- the request
+
+pub zeroes_stopped : (extent : Extent) (buffers : List Buffer) (m : Memory) (disk disk' : Disk) (segments : ℕ)
+    → IsStopped (all_sectors (segments_in (payload_of (readable_of m buffers)))) (extent_disk extent disk) (extent_disk extent disk')
+    → IsDone (WriteZeroes segments) buffers m m (extent_disk extent disk) (extent_disk extent disk') 0 IoError
+zeroes_stopped extent buffers m disk disk' segments s = record {
+  found = [];
+  ends = inr (inl (record { left = extent_disk extent disk'; stopped = s; is = refl }));
+  len_is = refl;
+  memory = sym (scattered-nil m (writable_of buffers));
+}
+
+-- all segments are zeroed
+all_zeroed : (extent : Extent) (disk d : Disk) (payload : List ℕ) (segments n : ℕ) → IsZeroing extent disk d (all_sectors (first_segments payload n))
+    → length payload ≡ 16 * segments → n ≡ segments → extent_disk extent d ≡ zeroed_sectors (all_sectors (segments_in payload)) (extent_disk extent disk)
+all_zeroed extent disk d payload segments n z size all =
+    let whole : n ≡ length payload / 16 = omega (arith, size, all) in
+    z.seen ∙ ap (λ k. zeroed_sectors (all_sectors (first_segments payload k)) (extent_disk extent disk)) whole
+
+-- and flushed
+pub zeroes_done : (extent : Extent) (buffers : List Buffer) (m : Memory) (disk d disk' : Disk) (segments n : ℕ) → IsZeroing extent disk d (all_sectors (first_segments (payload_of (readable_of m buffers)) n))
+    → length (payload_of (readable_of m buffers)) ≡ 16 * segments → n ≡ segments → disk' ≡ flushed d
+    → IsDone (WriteZeroes segments) buffers m m (extent_disk extent disk) (extent_disk extent disk') 0 Success
+zeroes_done extent buffers m disk d disk' segments n z size all flushes =
+    let seen : extent_disk extent disk' ≡ flushed (zeroed_sectors (all_sectors (segments_in (payload_of (readable_of m buffers)))) (extent_disk extent disk)) =
+    ap (extent_disk extent) flushes ∙ ap flushed (all_zeroed extent disk d (payload_of (readable_of m buffers)) segments n z size all) in
+    record {
+      found = [];
+      ends = inl (record { found = []; finds = refl; is = rw seen refl });
+      len_is = refl;
+      memory = sym (scattered-nil m (writable_of buffers));
+    }
+
+-- or the flush fails
+pub zeroes_unflushed : (extent : Extent) (buffers : List Buffer) (m : Memory) (disk d disk' : Disk) (segments n : ℕ) → IsZeroing extent disk d (all_sectors (first_segments (payload_of (readable_of m buffers)) n))
+    → length (payload_of (readable_of m buffers)) ≡ 16 * segments → n ≡ segments → disk' ≡ failed d
+    → IsDone (WriteZeroes segments) buffers m m (extent_disk extent disk) (extent_disk extent disk') 0 IoError
+zeroes_unflushed extent buffers m disk d disk' segments n z size all fails =
+    let seen : extent_disk extent disk' ≡ failed (zeroed_sectors (all_sectors (segments_in (payload_of (readable_of m buffers)))) (extent_disk extent disk)) =
+    ap (extent_disk extent) fails ∙ ap failed (all_zeroed extent disk d (payload_of (readable_of m buffers)) segments n z size all) in
+    record {
+      found = [];
+      ends = inr (inr (rw seen refl));
+      len_is = refl;
+      memory = sym (scattered-nil m (writable_of buffers));
+    }
+
+-- the failures so far
+pub zeroing-failures : (extent : Extent) (old new : Disk) (sectors : List ℕ) → IsZeroing extent old new sectors → new.failures ≡ old.failures
+zeroing-failures extent old new sectors z = ap (λ (d : Disk). d.failures) z.seen ∙ zeroed-failures sectors (extent_disk extent old)

@@ -1,0 +1,7 @@
+use Rattle.std.specs.List.{range_with_len}
+use Rattle.block_device.proofs.Zeroing.{IsZeroing}
+use Rattle.block_device.proofs.device.BlockDevice.zero_sectors.Given as goal
+
+abbrev pub invariant-loop-done : goal.invariant-loop-done
+invariant-loop-done g l =
+    IsZeroing l.self.extent (g.I.Image.disk l.fn.cache) (g.I.Image.disk l.cache) (range_with_len l.fn.segment.sector l.done)

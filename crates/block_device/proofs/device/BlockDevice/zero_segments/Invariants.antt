@@ -1,0 +1,9 @@
+use Rattle.chain.specs.Bytes.{readable_of}
+use Rattle.block_device.specs.Request.{payload_of}
+use Rattle.block_device.specs.Zeroes.{all_sectors}
+use Rattle.block_device.proofs.Zeroing.{IsZeroing, first_segments}
+use Rattle.block_device.proofs.device.BlockDevice.zero_segments.Given as goal
+
+abbrev pub invariant-loop-index : goal.invariant-loop-index
+invariant-loop-index g l =
+    IsZeroing l.self.extent (g.I.Image.disk l.fn.cache) (g.I.Image.disk l.cache) (all_sectors (first_segments (payload_of (readable_of l.mem l.chain)) l.index))
