@@ -8,13 +8,15 @@ use Rattle.std.proofs.lemmas.Bool.Decides.{nat_tests}
 use Rattle.std.proofs.lemmas.Option.{get_or_from_slice_get}
 use Rattle.guest_memory.specs.Memory.{put}
 use Rattle.sector_cache.specs.Disk.{Disk}
-use Rattle.board.specs.declared.event.EventKind.TheVariants.{MemWrite}
+use Rattle.board.specs.declared.event.EventKind.TheVariants.{MemWrite, Input}
+use Rattle.board.specs.declared.reply.Reply.{Reply}
 use Rattle.board.specs.declared.reply.Reply.TheVariants.{Done}
 use Rattle.board.specs.Extent.{IsApart}
-use Rattle.board.specs.Image.{bytes_of}
+use Rattle.board.specs.Image.{bytes_of, health_of}
 use Rattle.board.specs.Machine.{holds, block_irq, console_irq}
+use Rattle.board.specs.Outcome.{replies}
 use Rattle.board.specs.Slot.{BoardSlot, state_of}
-use Rattle.board.specs.World.{Answers, disturbed_of, extents_of, seen}
+use Rattle.board.specs.World.{Answers, MayGive, disturbed_of, extents_of, lacks_memory, seen}
 use Rattle.board.proofs.Runs.{answered}
 use Rattle.board.proofs.Seats.{handles}
 
@@ -52,3 +54,15 @@ pub bytes_stand : (slots : List BoardSlot) (h : ℕ) (slot new : BoardSlot) (add
     OnTrue done (IsSomeAnd (slice_get slots h) (λ found. slice_set slots h new ≡ slice_set slots h (record found { memory = put found.memory addr bytes })))
 bytes_stand slots h slot new addr bytes false here is = _
 bytes_stand slots h slot new addr bytes true here is = rw here (ap (λ (s : BoardSlot). slice_set slots h s) is)
+
+-- what was typed to a slot's console, in which the image had no part
+pub typed_answers : (A : Type 0) (slots : List BoardSlot) (disk : Disk) (h : ℕ) (slot new : BoardSlot) (bytes : List ℕ) (reply : Reply A) →
+    AllPairs IsApart (extents_of slots) → slice_get slots h ≡ Some slot → new.extent ≡ slot.extent → new.disturbed ≡ slot.disturbed → lacks_memory reply ≡ false →
+    MayGive (state_of (bytes_of disk) slot) (Input bytes) (health_of disk) (health_of disk) (replies (state_of (bytes_of disk) new) reply) →
+    Answers {A = A} (seen slots disk) (record { slot = h; what = Input bytes }) reply [] [] (seen (slice_set slots h new) disk)
+typed_answers A slots disk h slot new bytes reply apart here extent note lacks given =
+    let shown = state_of (bytes_of disk) new in
+    answered
+    (handles slots disk disk (record { slot = h; what = Input bytes }) slot new reply (block_irq shown) (console_irq shown) [] []
+    apart here extent (note ∙ (unmet slot.disturbed disk.failures ∙ ap (λ (b : Bool). slot.disturbed || (b || nat_lt disk.failures disk.failures)) (sym lacks))) refl
+    (record { output = []; given = given; appended = refl }) refl refl)

@@ -36,7 +36,7 @@ refused_shows state (Input bytes) old new outcome refused answered stood = refus
 refused_shows state (Resize cols rows) old new outcome refused answered stood = refused
 
 -- an event that met no refusal came out as the one-slot machine has it
-served : {A : Type 0} (state : SlotState) (what : EventKind A) (old new : Health) (outcome : Outcome A) → MayGive state what old new outcome → outcome.reply ≢ NoMemory → new.failures ≡ old.failures → Gives state what old new outcome
+pub served : {A : Type 0} (state : SlotState) (what : EventKind A) (old new : Health) (outcome : Outcome A) → MayGive state what old new outcome → outcome.reply ≢ NoMemory → new.failures ≡ old.failures → Gives state what old new outcome
 served state what old new outcome (inl alike) answered stood = alike.alike
 served state what old new outcome (inr refused) answered stood = absurd (refused_shows state what old new outcome refused answered stood)
 
@@ -62,7 +62,7 @@ pub recorded_slot : {A : Type 0} (old : World) (event : Event A) (written : Reco
 recorded_slot old event written new step = recorded_slot_at old event written new (slice_get old.slots event.slot) step
 
 -- an event of another slot leaves this one as it is
-other_at : {A : Type 0} (g : ℕ) (old : World) (event : Event A) (written : Record A) (new : World) (o : Option SlotState) → event.slot ≢ g → MatchOption o (MissingStep old event.slot written new) (λ s. SlotStep old event.slot s event.what written new) → slice_get new.slots g ≡ slice_get old.slots g
+pub other_at : {A : Type 0} (g : ℕ) (old : World) (event : Event A) (written : Record A) (new : World) (o : Option SlotState) → event.slot ≢ g → MatchOption o (MissingStep old event.slot written new) (λ s. SlotStep old event.slot s event.what written new) → slice_get new.slots g ≡ slice_get old.slots g
 other_at g old event written new None other step = ap (λ (w : World). slice_get w.slots g) step.same
 other_at g old event written new (Some s) other step =
     ap (λ (slots : List SlotState). slice_get slots g) step.slots ∙ get_set_other old.slots event.slot g step.outcome.state other

@@ -85,7 +85,7 @@ exact_behind before = record {
 }
 
 -- the slot after a service of its transmit queue
-abbrev transmitted_state : SlotState → ℕ → ℕ → ℕ → Memory → WindowState → SlotState
+abbrev pub transmitted_state : SlotState → ℕ → ℕ → ℕ → Memory → WindowState → SlotState
 transmitted_state state offset width value memory console = record (with_write Console offset width value state) { memory = memory; console = console }
 
 -- a notification of the transmit queue that found memory
@@ -177,7 +177,7 @@ nothing_serves state offset width value health out act is none =
     silent state (Write Console offset width value) health health (with_write Console offset width value state) Done out (nothing_given state Console act offset width value health is none)
 
 -- no other queue is served, and nothing else of the configuration is written
-other_queue : (q : ℕ) → (q ≡ 0 → ⊥) → (q ≡ 1 → ⊥) → task_of Console (action.Notify q) ≡ Nothing
+pub other_queue : (q : ℕ) → (q ≡ 0 → ⊥) → (q ≡ 1 → ⊥) → task_of Console (action.Notify q) ≡ Nothing
 other_queue zero first second = absurd (first refl)
 other_queue (suc zero) first second = absurd (second refl)
 other_queue (suc (suc q)) first second = refl
@@ -187,7 +187,7 @@ pub other_queue_serves : {A : Type 0} (state : SlotState) (offset width value : 
 other_queue_serves state offset width value health out q is first second =
     nothing_serves state offset width value health out (action.Notify q) is (other_queue q first second)
 
-other_offset : (offset width value : ℕ) → (offset ≡ 264 → ⊥) → task_of Console (action.ConfigWrite offset width value) ≡ Nothing
+pub other_offset : (offset width value : ℕ) → (offset ≡ 264 → ⊥) → task_of Console (action.ConfigWrite offset width value) ≡ Nothing
 other_offset offset width value other = let differs : (offset == emergency_write) ≡ false = grind (arith, nat_tests, other) in rw differs refl
 
 pub other_offset_serves : {A : Type 0} (state : SlotState) (offset width value : ℕ) (health : Health) (out : List ℕ) (at w v : ℕ) → action_at Console offset width value state ≡ action.ConfigWrite at w v → (at ≡ 264 → ⊥)

@@ -1,7 +1,8 @@
 -- What stays of a slot whose block event met an image that failed.
-use Rattle.std.proofs.Common.{◌≡◌, inl, inr, ℕ, zero, suc, ◌+◌, ◌*◌, ◌/◌, ◌%◌, ◌<◌, ◌≤◌, ◌==◌, Bool, true, false, Option, Some, None, List, [], ◌∷◌, ◌++◌, length, take, refl, sym, ap, subst, ◌∙◌, arith, length-append, length-take, length-drop}
+use Rattle.std.proofs.Common.{◌≡◌, inl, inr, ℕ, zero, suc, ◌+◌, ◌*◌, ◌/◌, ◌%◌, ◌<◌, ◌≤◌, ◌==◌, Bool, true, false, Option, Some, None, List, [], ◌∷◌, ◌++◌, length, replicate, take, refl, sym, ap, subst, ◌∙◌, arith, length-append, length-take, length-drop}
 use Rattle.std.specs.Prelude.{if◌then◌else◌, ◌^◌, nat_lt, ◌-◌, slice_set, MatchOption}
-use Rattle.std.specs.List.{slice_get}
+use Rattle.std.specs.List.{AllByRecursion, slice_get}
+use Rattle.std.proofs.lemmas.List.{length-replicate}
 use Rattle.std.specs.Option.{option_map}
 use Rattle.std.proofs.lemmas.Bool.Decides.{nat_tests}
 use Rattle.guest_memory.specs.Memory.{Memory, SameRange, put, put_num}
@@ -10,7 +11,9 @@ use Rattle.byteorder.specs.Endian.{little_bytes}
 use Rattle.chain.specs.declared.fault.Fault.{Fault}
 use Rattle.chain.specs.Bytes.{readable_of, writable_of}
 use Rattle.chain.specs.Service.{Entry, Given, Device, Site, Served, Ending, Spent, Faulted, Refused, scattered, used_len, wrote, after, ServesAll, stop, Works, open_site, IsService}
-use Rattle.sector_cache.specs.Disk.{Disk}
+use Rattle.sector_cache.specs.Disk.{Disk, written}
+use Rattle.sector_cache.specs.Sector.{with_sector}
+use Rattle.sector_cache.proofs.Sectors.{length-with_sector}
 use Rattle.mmio_window.specs.declared.action.Action.{Action}
 use Rattle.mmio_window.specs.declared.action.Action.TheVariants as action
 use Rattle.mmio_window.specs.declared.device_kind.DeviceKind.{DeviceKind}
@@ -22,14 +25,18 @@ use Rattle.mmio_window.specs.Window.{WindowState, queue_at}
 use Rattle.block_device.specs.declared.device.BlockDevice.{BlockDevice}
 use Rattle.block_device.specs.declared.request.RequestStatus.TheVariants.{IoError, Unsupported}
 use Rattle.block_device.specs.declared.request.Request.{Request}
-use Rattle.block_device.specs.declared.request.Request.TheVariants.{Rejected, Read, Write, Flush, GetId}
-use Rattle.block_device.specs.Request.{are_sectors, out_request_of, in_request_of, get_id_request_of, typed_request, request_of, payload_of, type_of, sector_in}
+use Rattle.block_device.specs.declared.request.Request.TheVariants.{Rejected, Read, Write, Flush, GetId, WriteZeroes}
+use Rattle.block_device.specs.Progress.{IsServable}
+use Rattle.block_device.specs.Request.{request_of, payload_of}
 use Rattle.block_device.specs.Outcome.{Outcome, with_sectors, completed, Fails, Ends}
 use Rattle.block_device.specs.Device.{block_device, GivesBy}
 use Rattle.mmio_window.specs.Serving.{IsNotified, Notified}
 use Rattle.console_device.specs.Device.{transmit}
 use Rattle.mmio_window.specs.Configuration.{is_configuration_access, narrowed}
+use Rattle.block_device.specs.Zeroes.{all_sectors, segments_in, zeroed_sectors}
 use Rattle.block_device.proofs.Requests.{gives_counted}
+use Rattle.block_device.proofs.SomeAnswer.{servable}
+use Rattle.block_device.proofs.Zeroing.{all-below, front-below}
 use Rattle.board.specs.declared.event.Event.{Event}
 use Rattle.board.specs.declared.event.EventKind.{EventKind}
 use Rattle.board.specs.declared.event.EventKind.TheVariants as event
@@ -74,54 +81,6 @@ closed_range m (Packed ring) = num_range m ring.setup.device 4 0
 
 -- ---- a request keeps how many bytes the disk tells
 
--- an OUT that passes its checks lies on the disk
-abbrev Fits : ℕ → ℕ → Request → Type 0
-Fits capacity len (Rejected status) = Unit {0}
-Fits capacity len (Read sector count) = Unit {0}
-Fits capacity len (Write sector count) = (512 * sector + len ≤ 512 * capacity) × (512 * count ≤ len)
-Fits capacity len Flush = Unit {0}
-Fits capacity len GetId = Unit {0}
-
-fits_in : (capacity sector room len : ℕ) (ok : Bool) → Fits capacity len (if ok then Read sector (room / 512) else Rejected IoError)
-fits_in capacity sector room len true = tt
-fits_in capacity sector room len false = tt
-
-fits_id : (capacity len : ℕ) (short : Bool) → Fits capacity len (if short then Rejected IoError else GetId)
-fits_id capacity len true = tt
-fits_id capacity len false = tt
-
-sectors_fit : (capacity sector len : ℕ) → are_sectors capacity sector len ≡ true → (512 * sector + len ≤ 512 * capacity) × (512 * (len / 512) ≤ len)
-sectors_fit capacity sector len ok = (grind (arith, nat_tests, ok), grind (arith, nat_tests, ok))
-
-fits_out : (capacity sector len : ℕ) (read_only ok : Bool) → (ok ≡ true → (512 * sector + len ≤ 512 * capacity) × (512 * (len / 512) ≤ len)) → Fits capacity len (if read_only then Rejected IoError else if ok then Write sector (len / 512) else Rejected IoError)
-fits_out capacity sector len true ok fit = tt
-fits_out capacity sector len false true fit = fit refl
-fits_out capacity sector len false false fit = tt
-
-fits_by_type : (capacity len : ℕ) (a b c d : Bool) (one two four : Request) → Fits capacity len one → Fits capacity len two → Fits capacity len four → Fits capacity len (if a then one else if b then two else if c then Flush else if d then four else Rejected Unsupported)
-fits_by_type capacity len true b c d one two four p q r = p
-fits_by_type capacity len false true c d one two four p q r = q
-fits_by_type capacity len false false true d one two four p q r = tt
-fits_by_type capacity len false false false true one two four p q r = r
-fits_by_type capacity len false false false false one two four p q r = tt
-
-fits_whole : (capacity len : ℕ) (short : Bool) (request : Request) → Fits capacity len request → Fits capacity len (if short then Rejected IoError else request)
-fits_whole capacity len true request p = tt
-fits_whole capacity len false request p = p
-
-request_fits : (device : BlockDevice) (readable : List ℕ) (room : ℕ) → Fits device.extent.count (length (payload_of readable)) (request_of device readable room)
-request_fits device readable room =
-    let len : ℕ = length (payload_of readable) in
-    let same : len ≡ length readable - 16 = length-drop 16 readable in
-    let sector : ℕ = sector_in readable in
-    let kind : ℕ = type_of readable in
-    rw same
-    (fits_whole device.extent.count (length readable - 16) (nat_lt (length readable) 16) (typed_request device kind sector (length readable - 16) room)
-    (fits_by_type device.extent.count (length readable - 16) (kind == 0) (kind == 1) (kind == 4) (kind == 8) (in_request_of device sector room) (out_request_of device sector (length readable - 16)) (get_id_request_of room)
-    (fits_in device.extent.count sector room (length readable - 16) (are_sectors device.extent.count sector room))
-    (fits_out device.extent.count sector (length readable - 16) device.read_only (are_sectors device.extent.count sector (length readable - 16)) (sectors_fit device.extent.count sector (length readable - 16)))
-    (fits_id device.extent.count (length readable - 16) (nat_lt room 20))))
-
 -- the disk tells this many bytes
 record TellsMany (n : ℕ) (disk : Disk) : Type 0 where
   bytes : List ℕ
@@ -146,41 +105,71 @@ filled_many n disk other sector new many is fits =
 same_many : (n : ℕ) (disk other : Disk) → TellsMany n disk → other.told ≡ disk.told → TellsMany n other
 same_many n disk other many is = record { bytes = many.bytes; told = is ∙ many.told; size = many.size }
 
-completed_many : (n : ℕ) (capacity : ℕ) (request : Request) (payload found : List ℕ) (disk : Disk) → 512 * capacity ≤ n → Fits capacity (length payload) request → TellsMany n disk → TellsMany n (completed request payload found disk).disk
-completed_many n capacity (Rejected status) payload found disk small fits many = many
-completed_many n capacity (Read sector count) payload found disk small fits many = many
-completed_many n capacity (Write sector count) payload found disk small fits many =
-    let room : 512 * sector + length payload ≤ 512 * capacity = fits.0 in
-    filled_many n disk (completed (Write sector count) payload found disk).disk sector payload many refl (omega arith)
-completed_many n capacity Flush payload found disk small fits many = same_many n disk (completed Flush payload found disk).disk many refl
-completed_many n capacity GetId payload found disk small fits many = many
+-- so do zeros in some sectors
+written_many : (n capacity sector : ℕ) (new : List ℕ) (disk : Disk) → 512 * capacity ≤ n → sector < capacity → length new ≡ 512 → TellsMany n disk → TellsMany n (written sector new disk)
+written_many n capacity sector new disk small below whole many = record {
+  bytes = with_sector many.bytes sector new;
+  told = ap (λ (o : Option (List ℕ)). option_map (λ bytes. with_sector bytes sector new) o) many.told;
+  size = length-with_sector many.bytes sector new (omega (arith, many.size)) whole ∙ many.size;
+}
 
-failed_many : (n : ℕ) (capacity : ℕ) (request : Request) (payload : List ℕ) (disk : Disk) (outcome : Outcome) → 512 * capacity ≤ n → Fits capacity (length payload) request → TellsMany n disk → Fails request payload disk outcome → TellsMany n outcome.disk
-failed_many n capacity (Rejected status) payload disk outcome small fits many h = absurd h
-failed_many n capacity (Read sector count) payload disk outcome small fits many h = same_many n disk outcome.disk many (ap (λ (o : Outcome). o.disk.told) h.is)
-failed_many n capacity (Write sector count) payload disk outcome small fits many (inl h) =
-    let room : 512 * sector + length payload ≤ 512 * capacity = fits.0 in
-    let whole : 512 * count ≤ length payload = fits.1 in
+zeroed_many : (n capacity : ℕ) (sectors : List ℕ) (disk : Disk) → 512 * capacity ≤ n → AllByRecursion (λ sector. sector < capacity) sectors → TellsMany n disk → TellsMany n (zeroed_sectors sectors disk)
+zeroed_many n capacity [] disk small below many = many
+zeroed_many n capacity (sector ∷ sectors) disk small below many =
+    let zeros : List ℕ = replicate 512 0 in
+    zeroed_many n capacity sectors (written sector zeros disk) small below.1
+    (written_many n capacity sector zeros disk small below.0 (length-replicate {A = ℕ} 512 0) many)
+
+completed_many : (n : ℕ) (capacity : ℕ) (request : Request) (payload found : List ℕ) (disk : Disk) (room : ℕ) → 512 * capacity ≤ n → IsServable capacity request payload room → TellsMany n disk → TellsMany n (completed request payload found disk).disk
+completed_many n capacity (Rejected status) payload found disk room small fits many = many
+completed_many n capacity (Read sector count) payload found disk room small fits many = many
+completed_many n capacity (Write sector count) payload found disk room small fits many =
+    let inside : 512 * sector + length payload ≤ 512 * capacity = omega (arith, fits.0, fits.1) in
+    filled_many n disk (completed (Write sector count) payload found disk).disk sector payload many refl (omega arith)
+completed_many n capacity Flush payload found disk room small fits many = same_many n disk (completed Flush payload found disk).disk many refl
+completed_many n capacity GetId payload found disk room small fits many = many
+completed_many n capacity (WriteZeroes segments) payload found disk room small fits many =
+    same_many n (zeroed_sectors (all_sectors (segments_in payload)) disk) (completed (WriteZeroes segments) payload found disk).disk
+    (zeroed_many n capacity (all_sectors (segments_in payload)) disk small (all-below capacity (segments_in payload) fits.1) many) refl
+
+failed_many : (n : ℕ) (capacity : ℕ) (request : Request) (payload : List ℕ) (disk : Disk) (outcome : Outcome) (room : ℕ) → 512 * capacity ≤ n → IsServable capacity request payload room → TellsMany n disk → Fails request payload disk outcome → TellsMany n outcome.disk
+failed_many n capacity (Rejected status) payload disk outcome room small fits many h = absurd h
+failed_many n capacity (Read sector count) payload disk outcome room small fits many h = same_many n disk outcome.disk many (ap (λ (o : Outcome). o.disk.told) h.is)
+failed_many n capacity (Write sector count) payload disk outcome room small fits many (inl h) =
+    let inside : 512 * sector + length payload ≤ 512 * capacity = omega (arith, fits.0, fits.1) in
+    let whole : 512 * count ≤ length payload = omega (arith, fits.1) in
     let torn : length h.torn ≡ 512 = h.whole in
     let sooner : h.done < count = h.sooner in
     let written : length (take (512 * h.done) payload ++ h.torn) ≤ 512 * count = simp (length-append, length-take) (omega arith) in
     filled_many n disk outcome.disk sector (take (512 * h.done) payload ++ h.torn) many (ap (λ (o : Outcome). o.disk.told) h.is) (omega arith)
-failed_many n capacity (Write sector count) payload disk outcome small fits many (inr h) =
-    let room : 512 * sector + length payload ≤ 512 * capacity = fits.0 in
+failed_many n capacity (Write sector count) payload disk outcome room small fits many (inr h) =
+    let inside : 512 * sector + length payload ≤ 512 * capacity = omega (arith, fits.0, fits.1) in
     filled_many n disk outcome.disk sector payload many (ap (λ (o : Outcome). o.disk.told) h) (omega arith)
-failed_many n capacity Flush payload disk outcome small fits many h = same_many n disk outcome.disk many (ap (λ (o : Outcome). o.disk.told) h)
-failed_many n capacity GetId payload disk outcome small fits many h = absurd h
+failed_many n capacity Flush payload disk outcome room small fits many h = same_many n disk outcome.disk many (ap (λ (o : Outcome). o.disk.told) h)
+failed_many n capacity GetId payload disk outcome room small fits many h = absurd h
+failed_many n capacity (WriteZeroes segments) payload disk outcome room small fits many (inl h) =
+    let sectors = all_sectors (segments_in payload) in
+    let s = h.stopped in
+    let below = front-below capacity s.before s.sector s.later (subst (λ l. AllByRecursion (λ sector. sector < capacity) l) s.listed (all-below capacity (segments_in payload) fits.1)) in
+    let left : TellsMany n (written s.sector s.torn.left (zeroed_sectors s.before disk)) =
+    written_many n capacity s.sector s.torn.left (zeroed_sectors s.before disk) small below.1 s.torn.whole (zeroed_many n capacity s.before disk small below.0 many) in
+    same_many n (written s.sector s.torn.left (zeroed_sectors s.before disk)) outcome.disk left
+    (ap (λ (o : Outcome). o.disk.told) h.is ∙ ap (λ (d : Disk). d.told) s.torn.torn)
+failed_many n capacity (WriteZeroes segments) payload disk outcome room small fits many (inr h) =
+    same_many n (zeroed_sectors (all_sectors (segments_in payload)) disk) outcome.disk
+    (zeroed_many n capacity (all_sectors (segments_in payload)) disk small (all-below capacity (segments_in payload) fits.1) many)
+    (ap (λ (o : Outcome). o.disk.told) h)
 
-ends_many : (n : ℕ) (capacity : ℕ) (request : Request) (payload : List ℕ) (disk : Disk) (outcome : Outcome) → 512 * capacity ≤ n → Fits capacity (length payload) request → TellsMany n disk → Ends request payload disk outcome → TellsMany n outcome.disk
-ends_many n capacity request payload disk outcome small fits many (inl h) =
-    subst (λ (o : Outcome). TellsMany n o.disk) (sym h.is) (completed_many n capacity request payload h.found disk small fits many)
-ends_many n capacity request payload disk outcome small fits many (inr h) = failed_many n capacity request payload disk outcome small fits many h
+ends_many : (n : ℕ) (capacity : ℕ) (request : Request) (payload : List ℕ) (disk : Disk) (outcome : Outcome) (room : ℕ) → 512 * capacity ≤ n → IsServable capacity request payload room → TellsMany n disk → Ends request payload disk outcome → TellsMany n outcome.disk
+ends_many n capacity request payload disk outcome room small fits many (inl h) =
+    subst (λ (o : Outcome). TellsMany n o.disk) (sym h.is) (completed_many n capacity request payload h.found disk room small fits many)
+ends_many n capacity request payload disk outcome room small fits many (inr h) = failed_many n capacity request payload disk outcome room small fits many h
 
 gives_many : (n : ℕ) (device : BlockDevice) (disk : Disk) (readable : List ℕ) (w : ℕ) (given : Given Disk) → 512 * device.extent.count ≤ n → TellsMany n disk → GivesBy Ends device disk readable w given → TellsMany n given.state
 gives_many n device disk readable zero given small many h = subst (λ (d : Disk). TellsMany n d) (sym (ap (λ (g : Given Disk). g.state) h)) many
 gives_many n device disk readable (suc room) given small many h =
     subst (λ (d : Disk). TellsMany n d) (sym (ap (λ (g : Given Disk). g.state) h.given_is))
-    (ends_many n device.extent.count (request_of device readable room) (payload_of readable) disk h.outcome small (request_fits device readable room) many h.is)
+    (ends_many n device.extent.count (request_of device readable room) (payload_of readable) disk h.outcome room small (servable device readable room) many h.is)
 
 -- ---- a service of a queue
 

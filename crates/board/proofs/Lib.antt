@@ -12,3 +12,5 @@ pub mod Access
 pub mod Keeping
 pub mod Specs
 pub mod Faults
+pub mod Within
+pub mod OneSeat

@@ -10,3 +10,4 @@ pub mod Machine
 pub mod World
 pub mod Line
 pub mod Fault
+pub mod Within

@@ -1,7 +1,7 @@
 -- A slot: what its guest can see, and what the board keeps of it.
 use Rattle.std.specs.Prelude.{◌≡◌, ℕ, ◌+◌, Bool, false, if◌then◌else◌, List, [], length, ◌≤◌}
 use Rattle.guest_memory.specs.Memory.{Memory, SameRange, zeroed}
-use Rattle.negotiation.specs.Features.{block_seg_max, block_ro, block_blk_size, block_flush, console_size, console_emerg_write, indirect_desc, event_idx, version_1, ring_packed}
+use Rattle.negotiation.specs.Features.{block_seg_max, block_ro, block_blk_size, block_flush, block_write_zeroes, console_size, console_emerg_write, indirect_desc, event_idx, version_1, ring_packed, notification_data}
 use Rattle.mmio_window.specs.declared.device_kind.DeviceKind.TheVariants.{Block, Console}
 use Rattle.mmio_window.specs.Interrupts.{interrupt_bits}
 use Rattle.mmio_window.specs.Soundness.{IsSound}
@@ -80,12 +80,12 @@ pub record IsSoundSlot (memory : Memory) (block console : WindowState) (pending 
 
 -- the features that every device offers (6)
 abbrev pub device_features : ℕ
-device_features = indirect_desc + event_idx + version_1 + ring_packed
+device_features = indirect_desc + event_idx + version_1 + ring_packed + notification_data
 
 -- the features that a block device offers (5.2.3); one that refuses writes says so
 abbrev pub block_features : Bool → ℕ
 block_features read_only =
-    (if read_only then block_ro else 0) + block_seg_max + block_blk_size + block_flush + device_features
+    (if read_only then block_ro else 0) + block_seg_max + block_blk_size + block_flush + block_write_zeroes + device_features
 
 -- the features that a console offers (5.3.3): it tells its size, and takes emergency writes
 abbrev pub console_features : ℕ

@@ -5,9 +5,10 @@ ghost use Rattle.std.specs.List.{slice_get};
 ghost use Rattle.board.specs.declared.fault.BoardFault.{BoardFault};
 ghost use Rattle.board.specs.Fault.{IsAccepted, Refuses, cache_refusal};
 ghost use Rattle.board.specs.Line.{IsRun, HasInterruptWords, KeepsIdle, events_done};
-ghost use Rattle.board.specs.Slot.{opened, state_of};
-ghost use Rattle.board.specs.Image.{Tells};
+ghost use Rattle.board.specs.Slot.{BoardSlot, opened, state_of};
+ghost use Rattle.board.specs.Image.{Tells, bytes_of};
 ghost use Rattle.board.specs.World.{Handles, Answers, KeepsOthers, MayLackMemory, disturbed_of, extents_of, met_refusal, noted, world_of};
+ghost use Rattle.board.specs.Within.{TakesWithin};
 
 mod access;
 
@@ -18,6 +19,7 @@ use crate::fault::BoardFault;
 use crate::reply::{Record, Reply, RunStop};
 use crate::slot::{self, Slot};
 use crate::spec::SlotSpec;
+use console_device::Outlet;
 use sector_cache::{CacheFault, Image, Refused, SectorCache};
 use std::alloc::{AllocError, Allocator, Global};
 use std::marker::Model;
@@ -97,10 +99,18 @@ impl<I: Image, A: Allocator + Copy> Board<I, A> {
 
     /// Handles one event to its end. What the slot's console puts out is appended to `out`.
     #[tactic(auto, using(crate::proofs::Runs::answered))]
-    pub fn step(&mut self, event: &Event<A>, out: &mut Vec<u8, A>) -> Reply<A>
+    pub fn step<O: Outlet>(&mut self, event: &Event<A>, out: &mut O) -> Reply<A>
         ensures step { Tells (I.disk self.old.image) →
-            Answers (world_of I.disk self.old) event.now result out.old.items out.new.items
+            Answers (world_of I.disk self.old) event.now result (O.bytes out.old) (O.bytes out.new)
             (world_of I.disk self.new) }
+
+        // by an outlet with a limit, what waits in it decides what is refused
+        ensures within { (limit : ℕ) → O.limit out.old ≡ Some limit → (found after : BoardSlot) →
+            slice_get self.old.slots event.now.slot ≡ Some found → slice_get self.new.slots event.now.slot ≡ Some after →
+            TakesWithin limit (state_of (bytes_of (I.disk self.old.image)) found) event.now.what
+            (state_of (bytes_of (I.disk self.new.image)) after)
+            (O.bytes out.old) (O.bytes out.new) result }
+        ensures limit { O.limit out.new ≡ O.limit out.old }
 
         // the image goes on telling its bytes, and those outside all extents stay
         ensures told { Tells (I.disk self.old.image) → Tells (I.disk self.new.image) }
@@ -172,11 +182,17 @@ impl<I: Image, A: Allocator + Copy> Board<I, A> {
     }
 
     // Handles one event of a slot.
-    fn handle(&mut self, slot: u8, what: &EventKind<A>, out: &mut Vec<u8, A>) -> Handled<A>
+    fn handle<O: Outlet>(&mut self, slot: u8, what: &EventKind<A>, out: &mut O) -> Handled<A>
         ensures handles { Tells (I.disk self.old.image) →
             Handles (world_of I.disk self.old) (record { slot = slot; what = what.now })
             result.reply result.block_irq result.console_irq
-            out.old.items out.new.items (world_of I.disk self.new) }
+            (O.bytes out.old) (O.bytes out.new) (world_of I.disk self.new) }
+        ensures within { (limit : ℕ) → O.limit out.old ≡ Some limit → (found after : BoardSlot) →
+            slice_get self.old.slots slot ≡ Some found → slice_get self.new.slots slot ≡ Some after →
+            TakesWithin limit (state_of (bytes_of (I.disk self.old.image)) found) what.now
+            (state_of (bytes_of (I.disk self.new.image)) after)
+            (O.bytes out.old) (O.bytes out.new) result.reply }
+        ensures limit { O.limit out.new ≡ O.limit out.old }
         ensures block_word { result.block_irq ≤ 3 }
         ensures console_word { result.console_irq ≤ 3 }
         ensures told { Tells (I.disk self.old.image) → Tells (I.disk self.new.image) }

@@ -13,7 +13,8 @@ pub(crate) fn of_block(read_only: bool) -> Features
     let features = of_every_device()
         .union(Features::BLOCK_SEG_MAX)
         .union(Features::BLOCK_BLK_SIZE)
-        .union(Features::BLOCK_FLUSH);
+        .union(Features::BLOCK_FLUSH)
+        .union(Features::BLOCK_WRITE_ZEROES);
     if read_only {
         features.union(Features::BLOCK_RO)
     } else {
@@ -38,4 +39,5 @@ fn of_every_device() -> Features
         .union(Features::EVENT_IDX)
         .union(Features::VERSION_1)
         .union(Features::RING_PACKED)
+        .union(Features::NOTIFICATION_DATA)
 }

@@ -19,6 +19,7 @@ ghost use Rattle.board.specs.Outcome.{Outcome};
 ghost use Rattle.board.specs.Slot.{SlotState, KeepsBesideDisk, KeepsBesideTransmit};
 ghost use Rattle.board.specs.Task.{emergency_write};
 ghost use Rattle.board.specs.World.{World, KeepsBoard, Step};
+ghost use Rattle.board.specs.Within.{Seat, IsNextWithin};
 
 use std::alloc::Allocator;
 
@@ -106,4 +107,12 @@ pub fn a_failed_event_keeps_the_rest<A: Allocator>()
     ensures failures { (device : BlockDevice) (start at : Site Queue Disk) (requests : List (Served Disk)) →
         ServesAll queue_kind (block_device device) start requests at →
         at.state.failures ≤ start.state.failures + length requests }
+{}
+
+/// A guest alone with its outlet has one outcome of each event, whether or not it is refused: what it sees and
+/// what waits decide it.
+pub fn one_outcome_within<A: Allocator>()
+    ensures { (limit : ℕ) (old one other : Seat) (what : EventKind A) (reply reply' : Reply A) →
+        IsNextWithin limit old what reply one → IsNextWithin limit old what reply' other →
+        (reply ≡ reply') × (one ≡ other) }
 {}

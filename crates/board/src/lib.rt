@@ -25,12 +25,13 @@ mod spec;
 pub use block_device::Extent;
 pub use board::Board;
 pub use bytes::Bytes;
+pub use console_device::Outlet;
 pub use event::{Event, EventKind};
 pub use fault::BoardFault;
 pub use guest_memory::{GuestMemory, MemoryFault};
 pub use laws::{
     a_failed_event_keeps_the_rest, a_guest_alone_has_one_run, a_step_is_a_run, each_guest_is_alone,
-    nothing_else_is_seen, one_outcome, refusals_are_noted, two_runs_are_one,
+    nothing_else_is_seen, one_outcome, one_outcome_within, refusals_are_noted, two_runs_are_one,
     want_of_memory_changes_nothing, want_of_memory_keeps_the_rest,
 };
 pub use mmio_window::DeviceKind;

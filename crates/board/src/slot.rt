@@ -4,13 +4,14 @@
 //! the board lifts that to all of its slots. `memory` has the events of the guest's memory, `window`
 //! those of its devices' windows, and `console` what is done to its console from outside.
 
-ghost use Rattle.std.specs.Prelude.{◌≡◌, ◌≢◌, ◌<◌, ◌≤◌, ◌||◌, ℕ, List, All, map, nat_lt, IfOk};
+ghost use Rattle.std.specs.Prelude.{◌≡◌, ◌≢◌, ◌<◌, ◌≤◌, ◌||◌, ℕ, List, All, map, nat_lt, Some, IfOk};
 ghost use Rattle.block_device.specs.Extent.{IsWithin, KeepsOutside};
 ghost use Rattle.board.specs.Fault.{IsMemory};
 ghost use Rattle.board.specs.Image.{Tells, bytes_of, health_of};
 ghost use Rattle.board.specs.Machine.{block_irq, console_irq};
 ghost use Rattle.board.specs.Slot.{interrupt_words, opened, state_of};
 ghost use Rattle.board.specs.World.{Serves, MayLackMemory, met_refusal};
+ghost use Rattle.board.specs.Within.{TakesWithin};
 
 mod console;
 mod memory;
@@ -21,7 +22,7 @@ use crate::features;
 use crate::reply::Reply;
 use crate::spec::SlotSpec;
 use block_device::BlockDevice;
-use console_device::ConsoleDevice;
+use console_device::{ConsoleDevice, Outlet};
 use guest_memory::GuestMemory;
 use mmio_window::{DeviceKind, Window};
 use sector_cache::{Image, SectorCache};
@@ -92,18 +93,23 @@ impl<A: Allocator + Copy> Slot<A> {
 
     /// Serves one event of the slot's guest, and notes a refusal. What its console puts out is
     /// appended to `out`.
-    pub(crate) fn serve<I: Image>(
+    pub(crate) fn serve<I: Image, O: Outlet>(
         &mut self,
         alloc: A,
         what: &EventKind<A>,
         cache: &mut SectorCache<I, A>,
-        out: &mut Vec<u8, A>,
+        out: &mut O,
     ) -> Reply<A>
         requires lies { IsWithin (I.disk cache.old).sector_count self.old.extent }
         ensures serves { Tells (I.disk cache.old) →
             Serves (state_of (bytes_of (I.disk cache.old)) self.old) what.now
             (health_of (I.disk cache.old)) (health_of (I.disk cache.new))
-            (state_of (bytes_of (I.disk cache.new)) self.new) result out.old.items out.new.items }
+            (state_of (bytes_of (I.disk cache.new)) self.new) result (O.bytes out.old) (O.bytes out.new) }
+        ensures within { (limit : ℕ) → O.limit out.old ≡ Some limit →
+            TakesWithin limit (state_of (bytes_of (I.disk cache.old)) self.old) what.now
+            (state_of (bytes_of (I.disk cache.new)) self.new)
+            (O.bytes out.old) (O.bytes out.new) result }
+        ensures limit { O.limit out.new ≡ O.limit out.old }
         ensures noted { self.new.disturbed ≡ (self.old.disturbed ||
             met_refusal result (I.disk cache.old).failures (I.disk cache.new).failures) }
 
@@ -127,19 +133,24 @@ impl<A: Allocator + Copy> Slot<A> {
     }
 
     // Handles an event, and leaves it to the caller to note a refusal.
-    fn answer<I: Image>(
+    fn answer<I: Image, O: Outlet>(
         &mut self,
         alloc: A,
         what: &EventKind<A>,
         cache: &mut SectorCache<I, A>,
-        out: &mut Vec<u8, A>,
+        out: &mut O,
     ) -> Answer<A>
         requires lies { IsWithin (I.disk cache.old).sector_count self.old.extent }
         ensures serves { Tells (I.disk cache.old) →
             Serves (state_of (bytes_of (I.disk cache.old)) self.old) what.now
             (health_of (I.disk cache.old)) (health_of (I.disk cache.new))
             (state_of (bytes_of (I.disk cache.new)) self.new) result.reply
-            out.old.items out.new.items }
+            (O.bytes out.old) (O.bytes out.new) }
+        ensures within { (limit : ℕ) → O.limit out.old ≡ Some limit →
+            TakesWithin limit (state_of (bytes_of (I.disk cache.old)) self.old) what.now
+            (state_of (bytes_of (I.disk cache.new)) self.new)
+            (O.bytes out.old) (O.bytes out.new) result.reply }
+        ensures limit { O.limit out.new ≡ O.limit out.old }
         ensures failed { result.failed ≡
             nat_lt (I.disk cache.old).failures (I.disk cache.new).failures }
         ensures rises { (I.disk cache.old).failures ≤ (I.disk cache.new).failures }

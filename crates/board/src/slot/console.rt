@@ -17,7 +17,7 @@ use std::alloc::Allocator;
 
 impl<A: Allocator + Copy> Slot<A> {
     /// Takes what is typed, and serves the receive queue.
-    pub(super) fn input(&mut self, bytes: &[u8]) -> Reply<A>
+    pub(crate) fn input(&mut self, bytes: &[u8]) -> Reply<A>
         ensures given { (image : List ℕ) (health : Health) →
             MayGive (state_of image self.old) (EventKind.Input bytes.now) health health
             (replies (state_of image self.new) result) }

@@ -1,6 +1,6 @@
 //! The accesses of a guest's drivers to the windows of its devices, and what the devices do then.
 
-ghost use Rattle.std.specs.Prelude.{◌≡◌, ◌≢◌, ◌≤◌, ◌%◌, ◌^◌, ℕ, List, nat_lt, OnOk, OnErr};
+ghost use Rattle.std.specs.Prelude.{◌≡◌, ◌≢◌, ◌≤◌, ◌%◌, ◌^◌, ℕ, List, Some, nat_lt, OnOk, OnErr};
 ghost use Rattle.block_device.specs.Extent.{IsWithin, KeepsOutside};
 ghost use Rattle.mmio_window.specs.declared.device_kind.DeviceKind.{DeviceKind};
 ghost use Rattle.board.specs.declared.event.EventKind.{EventKind};
@@ -9,10 +9,11 @@ ghost use Rattle.board.specs.Machine.{register, window_of};
 ghost use Rattle.board.specs.Outcome.{does};
 ghost use Rattle.board.specs.Slot.{state_of};
 ghost use Rattle.board.specs.World.{MayGive, MayLackMemory, Serves};
+ghost use Rattle.board.specs.Within.{TakesWithin};
 
 use crate::reply::Reply;
 use crate::slot::{Answer, Slot};
-use console_device::NoMemory;
+use console_device::{NoMemory, Outlet};
 use mmio_window::{Action, CONFIGURATION_OFFSET, DeviceKind, Window};
 use sector_cache::{Image, SectorCache};
 use std::alloc::Allocator;
@@ -50,21 +51,26 @@ impl<A: Allocator + Copy> Slot<A> {
 
     /// Writes a window's registers, and lets its device do its part. What the console puts out is appended
     /// to `out`.
-    pub(super) fn write_window<I: Image>(
+    pub(super) fn write_window<I: Image, O: Outlet>(
         &mut self,
         window: DeviceKind,
         offset: u16,
         width: u8,
         value: u32,
         cache: &mut SectorCache<I, A>,
-        out: &mut Vec<u8, A>,
+        out: &mut O,
     ) -> Answer<A>
         requires lies { IsWithin (I.disk cache.old).sector_count self.old.extent }
         ensures serves { Tells (I.disk cache.old) →
             Serves (state_of (bytes_of (I.disk cache.old)) self.old)
             (EventKind.Write window offset width value)
             (health_of (I.disk cache.old)) (health_of (I.disk cache.new))
-            (state_of (bytes_of (I.disk cache.new)) self.new) result.reply out.old.items out.new.items }
+            (state_of (bytes_of (I.disk cache.new)) self.new) result.reply (O.bytes out.old) (O.bytes out.new) }
+        ensures within { (limit : ℕ) → O.limit out.old ≡ Some limit →
+            TakesWithin {A = A} limit (state_of (bytes_of (I.disk cache.old)) self.old)
+            (EventKind.Write window offset width value)
+            (state_of (bytes_of (I.disk cache.new)) self.new) (O.bytes out.old) (O.bytes out.new) result.reply }
+        ensures limit { O.limit out.new ≡ O.limit out.old }
         ensures failed { result.failed ≡
             nat_lt (I.disk cache.old).failures (I.disk cache.new).failures }
         ensures rises { (I.disk cache.old).failures ≤ (I.disk cache.new).failures }
@@ -122,16 +128,20 @@ impl<A: Allocator + Copy> Slot<A> {
 
     // Writes the console window. Where that notifies the console of a queue, it is served (5.3.6); and the byte
     // of an emergency write is put out (5.3.4).
-    fn write_console(
+    fn write_console<O: Outlet>(
         &mut self,
         offset: u16,
         width: u8,
         value: u32,
-        out: &mut Vec<u8, A>,
+        out: &mut O,
     ) -> Reply<A>
         ensures serves { (image : List ℕ) (health : Health) →
             Serves (state_of image self.old) (EventKind.Write DeviceKind.Console offset width value)
-            health health (state_of image self.new) result out.old.items out.new.items }
+            health health (state_of image self.new) result (O.bytes out.old) (O.bytes out.new) }
+        ensures within { (limit : ℕ) → O.limit out.old ≡ Some limit → (image : List ℕ) →
+            TakesWithin {A = A} limit (state_of image self.old) (EventKind.Write DeviceKind.Console offset width value)
+            (state_of image self.new) (O.bytes out.old) (O.bytes out.new) result }
+        ensures limit { O.limit out.new ≡ O.limit out.old }
         ensures extent { self.new.extent ≡ self.old.extent }
         ensures disturbed { self.new.disturbed ≡ self.old.disturbed }
         ensures there { result ≢ Reply.BadSlot }

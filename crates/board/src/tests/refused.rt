@@ -199,17 +199,16 @@ fn a_refused_run_goes_on(rt: HostRuntime) -> Result<(), Fail> {
     Ok(())
 }
 
-/// Room for records is asked for before the 1st, the 5th, the 9th and the 17th event, then twice by the cache,
-/// for the bytes of the sector that the request reads and for its entry, and last by four reads of some bytes.
-/// Where the cache is refused nothing shows it, and all four reads find no memory; of the others' own requests
-/// the first leaves four without, the next three, two and one.
+/// Room for records is asked for before the 1st, the 5th, the 9th and the 17th event, then by four reads of some
+/// bytes: where the first is refused four find no memory, then three, two and one. The request that reads a sector
+/// asks for none.
 #[test]
 fn a_refused_request_goes_on(rt: HostRuntime) -> Result<(), Fail> {
     let heap = RefusingHeap::new(rt.alloc());
     let mut acts = bring_up(1, BLOCK, 0).to_vec(rt.alloc())?;
     acts.extend_from_slice(&request(1, 1))?;
     acts.extend_from_slice(&LOOKS)?;
-    assert_eq!(rt; counted(&rt, rt.alloc(), &heap, &acts)?, (4, 18));
+    assert_eq!(rt; counted(&rt, rt.alloc(), &heap, &acts)?, (4, 10));
     Ok(())
 }
 

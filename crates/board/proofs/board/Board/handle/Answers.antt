@@ -1,19 +1,20 @@
-use Rattle.std.proofs.Common.{◌≡◌, ℕ, List, ◌≤◌, Option, Some, length, refl, sym, ◌∙◌, ap, subst, arith}
+use Rattle.std.proofs.Common.{◌≡◌, ℕ, List, ◌≤◌, Option, Some, None, length, refl, sym, ◌∙◌, ap, subst, arith}
 use Rattle.std.specs.Prelude.{IsSomeAnd}
 use Rattle.std.specs.List.{slice_get}
-use Rattle.std.proofs.lemmas.Option.{slice_get_past, slice_get_read}
+use Rattle.std.proofs.lemmas.Option.{slice_get_past, slice_get_read, same_Some}
 use Rattle.board.specs.Slot.{BoardSlot, state_of}
 use Rattle.board.specs.Image.{Tells, bytes_of}
 use Rattle.board.specs.World.{MayLackMemory, disturbed_of, extents_of}
 use Rattle.board.proofs.Outside.{outside_kept}
 use Rattle.board.proofs.Runs.{handled_outside}
 use Rattle.board.proofs.Seats.{others_kept, set_same, extents_of-set, handles, handles_missing, noted_none, noted_set, slot_within}
+use Rattle.board.proofs.Within.{set_here}
 use Rattle.board.proofs.board.Board.handle.Goals as goal
 
 pub returns-in_default-clause-handles : goal.returns-in_default-clause-handles
 returns-in_default-clause-handles g c tells =
     let past : length c.self.inside.slots.items ≤ c.args.slot = grind (arith, c.in_default.ensures.variant.1) in
-    rw (← c.self.view_is) (handles_missing c.self.inside.slots.items (g.I.Image.disk c.self.inside.cache) (record { slot = c.args.slot; what = c.args.what.now }) c.args.out.now.items (slice_get_past c.self.inside.slots.items c.args.slot past))
+    rw (← c.self.view_is) (handles_missing c.self.inside.slots.items (g.I.Image.disk c.self.inside.cache) (record { slot = c.args.slot; what = c.args.what.now }) (g.O.Outlet.bytes c.args.out.now) (slice_get_past c.self.inside.slots.items c.args.slot past))
 
 pub returns-in_default-clause-noted : goal.returns-in_default-clause-noted
 returns-in_default-clause-noted g c =
@@ -42,7 +43,7 @@ returns-clause-handles g c tells =
     let telling : Tells old = subst (λ b. Tells (g.I.Image.disk b.image)) (sym c.self.view_is) tells in
     let kept = outside_kept c.in-Some.slot.now.extent old.told new.told telling c.serve-reply.ensures.outside.told in
     rw (← c.self.view_is)
-    (handles c.self.inside.slots.items old new (record { slot = c.args.slot; what = c.args.what.now }) c.in-Some.slot.now c.serve-reply.new.self c.serve-reply.result c.block_irq.result c.console_irq.result c.args.out.now.items c.serve-reply.new.out.items
+    (handles c.self.inside.slots.items old new (record { slot = c.args.slot; what = c.args.what.now }) c.in-Some.slot.now c.serve-reply.new.self c.serve-reply.result c.block_irq.result c.console_irq.result (g.O.Outlet.bytes c.args.out.now) (g.O.Outlet.bytes c.serve-reply.new.out)
     c.self.invariant.apart (there g c) c.serve-reply.ensures.extent c.serve-reply.ensures.noted kept.outside (c.serve-reply.ensures.serves telling) (c.block_irq.ensures.value (bytes_of new)) (c.console_irq.ensures.value (bytes_of new)))
 
 pub returns-clause-outside : goal.returns-clause-outside
@@ -76,3 +77,16 @@ returns-clause-no_memory g c lacking =
 pub returns-clause-others : goal.returns-clause-others
 returns-clause-others g c other differ =
     others_kept c.self.inside.slots.items c.args.slot c.serve-reply.new.self other differ ∙ ap (λ b. slice_get b.slots other) c.self.view_is
+
+pub returns-in_default-clause-within : goal.returns-in_default-clause-within
+returns-in_default-clause-within g c limit limited found after here =
+    let past : length c.self.inside.slots.items ≤ c.args.slot = grind (arith, c.in_default.ensures.variant.1) in
+    let none : slice_get c.args.self.now.slots c.args.slot ≡ None = rw (← c.self.view_is) (slice_get_past c.self.inside.slots.items c.args.slot past) in
+    absurd (cc)
+
+pub returns-clause-within : goal.returns-clause-within
+returns-clause-within g c limit limited found after here now =
+    let was : slice_get c.args.self.now.slots c.args.slot ≡ Some c.in-Some.slot.now = ap (λ b. slice_get b.slots c.args.slot) (sym c.self.view_is) ∙ there g c in
+    let is : c.in-Some.slot.now ≡ found = same_Some c.in-Some.slot.now found (sym was ∙ here) in
+    let set : c.serve-reply.new.self ≡ after = same_Some c.serve-reply.new.self after (sym (set_here c.self.inside.slots.items c.args.slot c.in-Some.slot.now c.serve-reply.new.self (there g c)) ∙ now) in
+    rw (← is, ← set, ← c.self.view_is) (c.serve-reply.ensures.within limit limited)

@@ -1,0 +1,32 @@
+use Rattle.std.proofs.Common.{◌≡◌, Some, length, refl, sym, ◌∙◌, ap, arith}
+use Rattle.std.specs.List.{slice_get}
+use Rattle.std.proofs.lemmas.Option.{slice_get_read}
+use Rattle.board.specs.Image.{bytes_of, health_of}
+use Rattle.board.specs.World.{disturbed_of, extents_of}
+use Rattle.board.proofs.Access.{disturbed_kept, typed_answers}
+use Rattle.board.proofs.Seats.{extents_of-set, others_kept}
+use Rattle.board.proofs.board.Board.input.Goals as goal
+
+pub invariant_of-self-2 : goal.invariant_of-self-2
+invariant_of-self-2 g c =
+    rw (extents_of-set c.self.inside.slots.items c.args.slot c.in-Some.found.now c.input.new.self (slice_get_read c.self.inside.slots.items (length c.self.inside.slots.items) c.args.slot c.in-Some.found.now refl (omega (arith, c.in-Some.ensures.variant.0 refl)) c.in-Some.ensures.value) c.input.ensures.extent)
+    c.self.invariant
+
+pub returns-clause-step : goal.returns-clause-step
+returns-clause-step g c tells =
+    rw (← c.self.view_is, ← c.in-Took.is)
+    (typed_answers _ c.self.inside.slots.items (g.I.Image.disk c.self.inside.cache) c.args.slot c.in-Some.found.now c.input.new.self c.args.bytes.now c.input.result
+    c.self.invariant.apart (slice_get_read c.self.inside.slots.items (length c.self.inside.slots.items) c.args.slot c.in-Some.found.now refl (omega (arith, c.in-Some.ensures.variant.0 refl)) c.in-Some.ensures.value) c.input.ensures.extent c.input.ensures.disturbed (rw c.input.ensures.took refl)
+    (c.input.ensures.given (bytes_of (g.I.Image.disk c.self.inside.cache)) (health_of (g.I.Image.disk c.self.inside.cache))))
+
+pub returns-clause-others : goal.returns-clause-others
+returns-clause-others g c other differ =
+    others_kept c.self.inside.slots.items c.args.slot c.input.new.self other differ ∙ ap (λ b. slice_get b.slots other) c.self.view_is
+
+pub returns-clause-extents : goal.returns-clause-extents
+returns-clause-extents g c = extents_of-set c.self.inside.slots.items c.args.slot c.in-Some.found.now c.input.new.self (slice_get_read c.self.inside.slots.items (length c.self.inside.slots.items) c.args.slot c.in-Some.found.now refl (omega (arith, c.in-Some.ensures.variant.0 refl)) c.in-Some.ensures.value) c.input.ensures.extent ∙ ap (λ b. extents_of b.slots) c.self.view_is
+
+pub returns-clause-disturbed : goal.returns-clause-disturbed
+returns-clause-disturbed g c =
+    disturbed_kept c.self.inside.slots.items c.args.slot c.in-Some.found.now c.input.new.self (slice_get_read c.self.inside.slots.items (length c.self.inside.slots.items) c.args.slot c.in-Some.found.now refl (omega (arith, c.in-Some.ensures.variant.0 refl)) c.in-Some.ensures.value) c.input.ensures.disturbed
+    ∙ ap (λ b. disturbed_of b.slots) c.self.view_is
