@@ -1,6 +1,6 @@
 -- What the board answers, as a step of the session.
 use Rattle.std.proofs.Common.{◌≡◌, ◌≢◌, inl, inr, ℕ, zero, suc, ◌+◌, ◌<◌, ◌≤◌, ◌||◌, Bool, true, false, ◌↔◌, List, [], ◌∷◌, ◌++◌, length, map, Option, Some, None, refl, sym, ◌∙◌, ap, subst, append-nil, arith}
-use Rattle.std.specs.Prelude.{nat_lt, if◌then◌else◌, slice_set, MatchOption, IsSomeAnd, unwrap_or}
+use Rattle.std.specs.Prelude.{⊤, nat_lt, if◌then◌else◌, slice_set, MatchOption, IsSomeAnd, unwrap_or}
 use Rattle.std.specs.List.{slice_get}
 use Rattle.std.proofs.lemmas.List.{set-get_or, length-map, length-set, get_or-set_same}
 use Rattle.std.proofs.lemmas.Option.{get_or_from_slice_get, slice_get-map, slice_get_within, slice_get_past, slice_get_cases, unwrap_or-slice_get, same_Some}
@@ -14,19 +14,20 @@ use Rattle.board.specs.declared.event.Event.{Event}
 use Rattle.board.specs.declared.event.EventKind.{EventKind}
 use Rattle.board.specs.declared.event.EventKind.TheVariants.{Read, Write, MemRead, MemWrite, Input, Resize}
 use Rattle.board.specs.declared.reply.Reply.{Reply}
-use Rattle.board.specs.declared.reply.Reply.TheVariants.{Done, Bytes, BadSlot, BadRange, NoMemory}
+use Rattle.board.specs.declared.reply.Reply.TheVariants.{Done, Bytes, Took, BadSlot, BadRange, NoMemory}
 use Rattle.board.specs.declared.reply.Record.{Record}
 use Rattle.board.specs.Extent.{outside_of, outside_from}
 use Rattle.board.specs.Image.{Health, bytes_of}
-use Rattle.board.specs.Machine.{holds, record_of}
+use Rattle.board.specs.Machine.{holds, record_of, task_at, with_write}
 use Rattle.board.specs.Outcome.{Outcome, replies}
 use Rattle.board.specs.Slot.{SlotState, BoardSlot, state_of}
 use Rattle.board.specs.Task.{Task, Nothing, ServeBlock, ServeReceive, ServeTransmit, PutOut, Finishes}
-use Rattle.board.specs.World.{World, Answers, IsCutShort, KeepsOthers, MayGive, MayLackMemory, MissingStep, SlotStep, bad_slot, disturbed_of, extents_of, lacks_memory, noted}
+use Rattle.board.specs.World.{World, Answers, IsCutShort, KeepsOthers, MayGive, MayLackMemory, MissingStep, SlotStep, bad_slot, disturbed_of, TakesMemory, extents_of, lacks_memory, noted}
+use Rattle.board.specs.Within.{IsPuttingOut, MayPutOut, TakesWithin}
 use Rattle.board.proofs.Seats.{extents_of-set, others_kept}
 use Rattle.embed.specs.declared.refusal.Refusal.TheVariants as refusal
 use Rattle.embed.specs.Answering.{Suits, refusing_reply}
-use Rattle.embed.specs.Session.{IsStep, KeepsOtherOutputs, SessionState, world_of}
+use Rattle.embed.specs.Session.{IsStep, KeepsOtherOutputs, HasNoRead, SessionState, Waiting, none_waiting, limit_of, world_of}
 
 -- ---- which replies an event may get
 
@@ -150,7 +151,9 @@ missing {A} s event past = record {
   outputs = λ other differ. refl;
   extents = refl;
   size = refl;
-  noted_is = refl;
+  limits = λ slot. refl;
+  within = λ found after here there. let none = none_shown s.slots s.image event.slot past in absurd (cc);
+  refused = λ is. absurd (cc);
   bad_slot = (λ is. past, λ is. refl);
   bad_slot_keeps = λ is. refl;
   bad_range_keeps = λ is. refl;
@@ -175,18 +178,25 @@ unchanged_answers s event reply output slot here lacks given = record {
   appended = sym (append-nil output);
 }
 
+-- an event that puts nothing out
+abbrev QuietEvent : {A : Type 0} → EventKind A → Type 0
+QuietEvent {A} what = (limit : ℕ) (found after : SlotState) (waiting left : List ℕ) (reply : Reply A) → TakesWithin limit found what after waiting left reply
+
 -- an event of a slot
 pub unchanged : {A : Type 0} (s : SessionState) (event : Event A) (reply : Reply A) (slot : BoardSlot) →
     slice_get s.slots event.slot ≡ Some slot → lacks_memory reply ≡ false → reply ≢ BadSlot → reply ≢ NoMemory →
     MayGive (state_of s.image slot) event.what (world_of s).health (world_of s).health (replies (state_of s.image slot) reply) →
+    QuietEvent event.what →
     IsStep s event reply s
-unchanged {A} s event reply slot here lacks there found given = record {
+unchanged {A} s event reply slot here lacks there found given quiet = record {
   answers = unchanged_answers s event reply _ slot here lacks given;
   others = λ other differ. refl;
   outputs = λ other differ. refl;
   extents = refl;
   size = refl;
-  noted_is = rw lacks refl;
+  limits = λ slot. refl;
+  within = λ found after here there. quiet _ found after _ _ reply;
+  refused = λ is. absurd (found is);
   bad_slot = (λ is. absurd (there is), λ past. let fits = slice_get_within s.slots event.slot slot here in absurd (omega arith));
   bad_slot_keeps = λ is. refl;
   bad_range_keeps = λ is. refl;
@@ -194,10 +204,6 @@ unchanged {A} s event reply slot here lacks there found given = record {
 }
 
 -- ---- an event that the board answered
-
-or_false : (b : Bool) → (b || false) ≡ b
-or_false true = refl
-or_false false = refl
 
 at_image : {A : Type 0} (o : Option BoardSlot) (image : List ℕ) (what : EventKind A) → IsSomeAnd o (λ slot. (bytes : List ℕ) → MayLackMemory (state_of bytes slot) what) → IsSomeAnd o (λ slot. MayLackMemory (state_of image slot) what)
 at_image None image what never = absurd never
@@ -218,53 +224,109 @@ as_many slots slots' same =
     sym (length-map slots' (λ (s : BoardSlot). s.extent)) ∙ (ap length same ∙ length-map slots (λ (s : BoardSlot). s.extent))
 
 -- a session over a board with these slots and this image
-abbrev pub shown : List BoardSlot → Disk → List (List ℕ) → SessionState
+abbrev pub shown : List BoardSlot → Disk → List Waiting → SessionState
 shown slots disk outputs = record { slots = slots; image = bytes_of disk; mark = disk.mark; outputs = outputs }
 
 -- a session with these slots and this image, and what its consoles put out
-abbrev session : List BoardSlot → List ℕ → Bool → List (List ℕ) → SessionState
+abbrev session : List BoardSlot → List ℕ → Bool → List Waiting → SessionState
 session slots image mark outputs = record { slots = slots; image = image; mark = mark; outputs = outputs }
 
-pub others_output : (outputs : List (List ℕ)) (h : ℕ) (new : List ℕ) → KeepsOtherOutputs h outputs (slice_set outputs h new)
+pub others_output : (outputs : List Waiting) (h : ℕ) (new : Waiting) → KeepsOtherOutputs h outputs (slice_set outputs h new)
 others_output [] h new other differ = refl
 others_output (o ∷ outputs) zero new zero differ = absurd (differ refl)
 others_output (o ∷ outputs) zero new (suc other) differ = refl
 others_output (o ∷ outputs) (suc h) new zero differ = refl
 others_output (o ∷ outputs) (suc h) new (suc other) differ = others_output outputs h new other (λ same. differ (ap suc same))
 
-pub set_there : (outputs : List (List ℕ)) (h : ℕ) (new : List ℕ) → h < length outputs → unwrap_or (slice_get (slice_set outputs h new) h) [] ≡ new
+pub set_there : (outputs : List Waiting) (h : ℕ) (new : Waiting) → h < length outputs → unwrap_or (slice_get (slice_set outputs h new) h) (none_waiting 0) ≡ new
 set_there outputs h new fits =
     let fits' : h < length (slice_set outputs h new) = omega (arith, length-set outputs h new) in
-    rw (unwrap_or-slice_get (slice_set outputs h new) h []) (get_or-set_same outputs h new [] fits)
+    rw (unwrap_or-slice_get (slice_set outputs h new) h (none_waiting 0)) (get_or-set_same outputs h new (none_waiting 0) fits)
 
-stays_there : (outputs : List (List ℕ)) (h : ℕ) (old : List ℕ) → slice_get outputs h ≡ Some old → slice_set outputs h old ≡ outputs
+stays_there : (outputs : List Waiting) (h : ℕ) (old : Waiting) → slice_get outputs h ≡ Some old → slice_set outputs h old ≡ outputs
 stays_there outputs h old here = rw (← get_or_from_slice_get outputs h old old here) (set-get_or outputs h old)
 
+pub limits_set : (outputs : List Waiting) (h : ℕ) (before after : Waiting) → slice_get outputs h ≡ Some before → after.limit ≡ before.limit → (slot : ℕ) →
+    (unwrap_or (slice_get (slice_set outputs h after) slot) (none_waiting 0)).limit ≡ (unwrap_or (slice_get outputs slot) (none_waiting 0)).limit
+limits_set [] h before after here same slot = refl
+limits_set (o ∷ outputs) zero before after here same zero = let is : o ≡ before = same_Some o before here in rw is same
+limits_set (o ∷ outputs) zero before after here same (suc slot) = refl
+limits_set (o ∷ outputs) (suc h) before after here same zero = refl
+limits_set (o ∷ outputs) (suc h) before after here same (suc slot) = limits_set outputs h before after here same slot
+
+rebuilt : (l k : List ℕ) (m n : ℕ) → l ≡ k → m ≡ n → ◌≡◌ {A = Waiting} (record { bytes = l; limit = m }) (record { bytes = k; limit = n })
+rebuilt l k m n p q = rw (p, q) refl
+
+same_outlet : (a b : Waiting) → a.bytes ≡ b.bytes → a.limit ≡ b.limit → a ≡ b
+same_outlet a b p q = rebuilt a.bytes b.bytes a.limit b.limit p q
+
+-- the slot that is seen so
+shown_back : (slots : List BoardSlot) (bytes : List ℕ) (h : ℕ) (state : SlotState) → slice_get (map (state_of bytes) slots) h ≡ Some state → (slot : BoardSlot) × (slice_get slots h ≡ Some slot) × (state_of bytes slot ≡ state)
+shown_back [] bytes h state here = absurd (cc)
+shown_back (s ∷ slots) bytes zero state here = (s, refl, same_Some (state_of bytes s) state here)
+shown_back (s ∷ slots) bytes (suc h) state here = shown_back slots bytes h state here
+
+task_puts : (task : Task) (state : SlotState) → TakesMemory task state → IsPuttingOut task
+task_puts Nothing state h = h
+task_puts ServeBlock state h = h
+task_puts ServeReceive state h = h
+task_puts ServeTransmit state h = tt
+task_puts (PutOut byte) state h = tt
+
+lacks_puts : {A : Type 0} (state : SlotState) (what : EventKind A) → HasNoRead what → MayLackMemory state what → MayPutOut state what
+lacks_puts state (Read window offset width) why h = h
+lacks_puts state (Write window offset width value) why h = task_puts (task_at window offset width value state) (with_write window offset width value state) h
+lacks_puts state (MemRead addr len) why h = absurd why
+lacks_puts state (MemWrite addr bytes) why h = h
+lacks_puts state (Input bytes) why h = h
+lacks_puts state (Resize cols rows) why h = h
+
+lacks_at : {A : Type 0} (o : Option BoardSlot) (image : List ℕ) (slot : BoardSlot) (what : EventKind A) → o ≡ Some slot → IsSomeAnd o (λ s. (bytes : List ℕ) → MayLackMemory (state_of bytes s) what) → MayLackMemory (state_of image slot) what
+lacks_at o image slot what is h = (rw is at h) image
+
+answers_at : {A : Type 0} (old new : World) (event : Event A) (reply : Reply A) (before before' after after' : List ℕ) → before' ≡ before → after' ≡ after → Answers old event reply before after new → Answers old event reply before' after' new
+answers_at old new event reply before before' after after' p q h = rw (p, q) h
+
+within_at : {A : Type 0} (what : EventKind A) (reply : Reply A) (s s' t t' : SlotState) (limit limit' : ℕ) (before before' after after' : List ℕ) → s ≡ s' → t ≡ t' → limit' ≡ limit → before' ≡ before → after' ≡ after →
+    TakesWithin limit s what t before after reply → TakesWithin limit' s' what t' before' after' reply
+within_at what reply s s' t t' limit limit' before before' after after' p q l b a h = rw (← p, ← q, l, b, a) h
+
 -- its output stands behind what was there
-pub stepped : {A : Type 0} (slots slots' : List BoardSlot) (image image' : List ℕ) (mark mark' : Bool) (outputs : List (List ℕ)) (event : Event A) (reply : Reply A) (before after : List ℕ) →
+pub stepped : {A : Type 0} (slots slots' : List BoardSlot) (image image' : List ℕ) (mark mark' : Bool) (outputs : List Waiting) (event : Event A) (reply : Reply A) (before after : Waiting) →
     slice_get outputs event.slot ≡ Some before →
     length outputs ≡ length slots →
-    Answers (world_of (session slots image mark outputs)) event reply before after (world_of (session slots' image' mark' outputs)) →
+    after.limit ≡ before.limit →
+    HasNoRead event.what →
+    ((found later : BoardSlot) → slice_get slots event.slot ≡ Some found → slice_get slots' event.slot ≡ Some later → TakesWithin before.limit (state_of image found) event.what (state_of image' later) before.bytes after.bytes reply) →
+    Answers (world_of (session slots image mark outputs)) event reply before.bytes after.bytes (world_of (session slots' image' mark' outputs)) →
     KeepsOthers event.slot slots slots' →
     extents_of slots' ≡ extents_of slots →
     outside_of (extents_of slots') image' ≡ outside_of (extents_of slots) image →
-    disturbed_of slots' ≡ noted event.slot (lacks_memory reply || false) (disturbed_of slots) →
     (reply ≡ BadSlot) ↔ (length slots ≤ event.slot) →
     (reply ≡ BadRange → session slots' image' mark' outputs ≡ session slots image mark outputs) →
     (reply ≡ NoMemory → IsSomeAnd (slice_get slots event.slot) (λ slot. (bytes : List ℕ) → MayLackMemory (state_of bytes slot) event.what)) →
     IsStep (session slots image mark outputs) event reply (session slots' image' mark' (slice_set outputs event.slot after))
-stepped {A} slots slots' image image' mark mark' outputs event reply before after here fit answers others extents outside note missing range memory =
+stepped {A} slots slots' image image' mark mark' outputs event reply before after here fit same_limit no_read decided answers others extents outside missing range memory =
     let fits : event.slot < length outputs = slice_get_within outputs event.slot before here in
     record {
-      answers = rw (set_there outputs event.slot after fits, here) answers;
+      answers = answers_at _ _ event reply before.bytes _ after.bytes _ (ap (λ (o : Option Waiting). (unwrap_or o (none_waiting 0)).bytes) here) (ap (λ (o : Waiting). o.bytes) (set_there outputs event.slot after fits)) answers;
       others = others;
       outputs = others_output outputs event.slot after;
       extents = extents;
       size = same_size (extents_of slots) (extents_of slots') image image' outside;
-      noted_is = note ∙ ap (λ b. noted event.slot b (disturbed_of slots)) (or_false (lacks_memory reply));
+      limits = limits_set outputs event.slot before after here same_limit;
+      within = λ found later was is.
+          let one = shown_back slots image event.slot found was in
+          let two = shown_back slots' image' event.slot later is in
+          within_at event.what reply _ _ _ _ before.limit _ before.bytes _ after.bytes _ one.2 two.2
+          (ap (λ (o : Option Waiting). (unwrap_or o (none_waiting 0)).limit) here) (ap (λ (o : Option Waiting). (unwrap_or o (none_waiting 0)).bytes) here) (ap (λ (o : Waiting). o.bytes) (set_there outputs event.slot after fits))
+          (decided one.0 two.0 one.1 two.1);
+      refused = λ is found was.
+          let one = shown_back slots image event.slot found was in
+          rw (← one.2) (lacks_puts (state_of image one.0) event.what no_read (lacks_at (slice_get slots event.slot) image one.0 event.what one.1 (memory is)));
       bad_slot = missing;
       bad_slot_keeps = λ is. let past : length slots ≤ event.slot = missing.0 is in absurd (omega arith);
-      bad_range_keeps = λ is. let quiet : after ≡ before = silent answers is in
+      bad_range_keeps = λ is. let quiet : after ≡ before = same_outlet after before (silent answers is) same_limit in
           rw (quiet, stays_there outputs event.slot before here) (range is);
       no_memory = λ is. at_image (slice_get slots event.slot) image event.what (memory is);
     }
@@ -294,7 +356,7 @@ read_at A s slot addr n new (Some found) here inside is =
       };
       answered = λ is. absurd (cc);
       failures = refl;
-    }))
+    })) (λ limit found after waiting left reply. tt)
 
 -- what was read of it is the answer to that read
 pub was_read : (A : Type 0) (s : SessionState) (slot addr n : ℕ) (new : List ℕ) →
@@ -304,15 +366,16 @@ was_read A s slot addr n new inside is = read_at A s slot addr n new (slice_get 
 
 refused_at : {A : Type 0} (s : SessionState) (event : Event A) (o : Option BoardSlot) → slice_get s.slots event.slot ≡ o →
     ((found : BoardSlot) → o ≡ Some found → MayGive (state_of s.image found) event.what (world_of s).health (world_of s).health (replies (state_of s.image found) BadRange)) →
+    QuietEvent event.what →
     IsStep s event (refusing_reply (if nat_lt event.slot (length s.slots) then refusal.BadRange else refusal.BadSlot)) s
-refused_at s event None here given =
+refused_at s event None here given quiet =
     let past : length s.slots ≤ event.slot = grind (arith, slice_get_cases s.slots event.slot) in
     let test : nat_lt event.slot (length s.slots) ≡ false = grind (arith, nat_tests) in
     rw test (missing s event past)
-refused_at s event (Some found) here given =
+refused_at s event (Some found) here given quiet =
     let fits : event.slot < length s.slots = slice_get_within s.slots event.slot found here in
     let test : nat_lt event.slot (length s.slots) ≡ true = grind (arith, nat_tests) in
-    rw test (unchanged s event BadRange found here refl (λ is. absurd (cc)) (λ is. absurd (cc)) (given found refl))
+    rw test (unchanged s event BadRange found here refl (λ is. absurd (cc)) (λ is. absurd (cc)) (given found refl) quiet)
 
 outside_of_slot : (o : Option BoardSlot) (addr n : ℕ) → (IsSomeAnd o (λ found. Inside found.memory addr n) → ⊥) → (found : BoardSlot) → o ≡ Some found → holds found.memory addr n ≡ false
 outside_of_slot None addr n outside found is = absurd (cc)
@@ -328,7 +391,7 @@ not_read A s slot addr n outside =
       alike = record { alike = rw (outside_of_slot (slice_get s.slots slot) addr n outside found is) refl; image = refl };
       answered = λ is. absurd (cc);
       failures = refl;
-    }))
+    })) (λ limit found after waiting left reply. tt)
 
 -- and to a write
 pub not_written : (A : Type 0) (s : SessionState) (slot addr : ℕ) (bytes : List ℕ) →
@@ -340,7 +403,7 @@ not_written A s slot addr bytes outside =
       alike = record { alike = rw (outside_of_slot (slice_get s.slots slot) addr (length bytes) outside found is) refl; image = refl };
       answered = λ is. absurd (cc);
       failures = refl;
-    }))
+    })) (λ limit found after waiting left reply. tt)
 
 -- a step that put nothing out keeps whatever stands in the output
 behind : {A : Type 0} {old : World} {event : Event A} {reply : Reply A} {new : World} (output : List ℕ) → Answers old event reply [] [] new → Answers old event reply output output new
@@ -351,13 +414,13 @@ behind {A} {old} {event} {reply} {new} output answers = record {
   appended = rw (← answers.appended) (sym (append-nil output));
 }
 
-wrote_at : (A : Type 0) (slots slots' : List BoardSlot) (image image' : List ℕ) (mark mark' : Bool) (outputs : List (List ℕ)) (slot addr : ℕ) (bytes : List ℕ) (o : Option BoardSlot) → slice_get slots slot ≡ o →
+wrote_at : (A : Type 0) (slots slots' : List BoardSlot) (image image' : List ℕ) (mark mark' : Bool) (outputs : List Waiting) (slot addr : ℕ) (bytes : List ℕ) (o : Option BoardSlot) → slice_get slots slot ≡ o →
     Answers {A = A} (world_of (session slots image mark outputs)) (record { slot = slot; what = MemWrite addr bytes }) Done [] [] (world_of (session slots' image' mark' outputs)) →
     IsSomeAnd o (λ found. slots' ≡ slice_set slots slot (record found { memory = put found.memory addr bytes })) →
-    image' ≡ image → disturbed_of slots' ≡ disturbed_of slots →
+    image' ≡ image →
     IsStep {A = A} (session slots image mark outputs) (record { slot = slot; what = MemWrite addr bytes }) Done (session slots' image' mark' outputs)
-wrote_at A slots slots' image image' mark mark' outputs slot addr bytes None here answers stands same note = absurd stands
-wrote_at A slots slots' image image' mark mark' outputs slot addr bytes (Some found) here answers stands same note =
+wrote_at A slots slots' image image' mark mark' outputs slot addr bytes None here answers stands same = absurd stands
+wrote_at A slots slots' image image' mark mark' outputs slot addr bytes (Some found) here answers stands same =
     let fits : slot < length slots = slice_get_within slots slot found here in
     record {
       answers = behind _ answers;
@@ -365,7 +428,9 @@ wrote_at A slots slots' image image' mark mark' outputs slot addr bytes (Some fo
       outputs = λ other differ. refl;
       extents = rw stands (extents_of-set slots slot found _ here refl);
       size = ap length same;
-      noted_is = note;
+      limits = λ slot. refl;
+      within = λ found after here there. tt;
+      refused = λ is. absurd (cc);
       bad_slot = (λ is. absurd (cc), λ past. absurd (omega arith));
       bad_slot_keeps = λ is. absurd (cc);
       bad_range_keeps = λ is. absurd (cc);
@@ -373,10 +438,35 @@ wrote_at A slots slots' image image' mark mark' outputs slot addr bytes (Some fo
     }
 
 -- what was written to it is the step of that write
-pub was_written : (A : Type 0) (slots slots' : List BoardSlot) (image image' : List ℕ) (mark mark' : Bool) (outputs : List (List ℕ)) (slot addr : ℕ) (bytes : List ℕ) →
+pub was_written : (A : Type 0) (slots slots' : List BoardSlot) (image image' : List ℕ) (mark mark' : Bool) (outputs : List Waiting) (slot addr : ℕ) (bytes : List ℕ) →
     Answers {A = A} (world_of (session slots image mark outputs)) (record { slot = slot; what = MemWrite addr bytes }) Done [] [] (world_of (session slots' image' mark' outputs)) →
     IsSomeAnd (slice_get slots slot) (λ found. slots' ≡ slice_set slots slot (record found { memory = put found.memory addr bytes })) →
-    image' ≡ image → disturbed_of slots' ≡ disturbed_of slots →
+    image' ≡ image →
     IsStep {A = A} (session slots image mark outputs) (record { slot = slot; what = MemWrite addr bytes }) Done (session slots' image' mark' outputs)
-was_written A slots slots' image image' mark mark' outputs slot addr bytes answers stands same note =
-    wrote_at A slots slots' image image' mark mark' outputs slot addr bytes (slice_get slots slot) refl answers stands same note
+was_written A slots slots' image image' mark mark' outputs slot addr bytes answers stands same =
+    wrote_at A slots slots' image image' mark mark' outputs slot addr bytes (slice_get slots slot) refl answers stands same
+
+-- what was typed to a slot is the step of that input
+pub typed_at : (A : Type 0) (slots slots' : List BoardSlot) (image image' : List ℕ) (mark mark' : Bool) (outputs : List Waiting) (slot taken : ℕ) (bytes : List ℕ) → slot < length slots →
+    Answers {A = A} (world_of (session slots image mark outputs)) (record { slot = slot; what = Input bytes }) (Took taken) [] [] (world_of (session slots' image' mark' outputs)) →
+    KeepsOthers slot slots slots' → extents_of slots' ≡ extents_of slots → image' ≡ image →
+    IsStep {A = A} (session slots image mark outputs) (record { slot = slot; what = Input bytes }) (Took taken) (session slots' image' mark' outputs)
+typed_at A slots slots' image image' mark mark' outputs slot taken bytes fits answers others extents same = record {
+  answers = behind _ answers;
+  others = others;
+  outputs = λ other differ. refl;
+  extents = extents;
+  size = ap length same;
+  limits = λ slot. refl;
+  within = λ found after here there. tt;
+  refused = λ is. absurd (cc);
+  bad_slot = (λ is. absurd (cc), λ past. absurd (omega arith));
+  bad_slot_keeps = λ is. absurd (cc);
+  bad_range_keeps = λ is. absurd (cc);
+  no_memory = λ is. absurd (cc);
+}
+
+pub past_of : (n m : ℕ) → (n < m → ⊥) → m ≤ n
+past_of n zero never = omega arith
+past_of zero (suc m) never = absurd (never (omega arith))
+past_of (suc n) (suc m) never = let rest = past_of n m (λ h. never (omega (arith, h))) in omega (arith, rest)

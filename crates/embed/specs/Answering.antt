@@ -5,13 +5,13 @@ use Rattle.board.specs.declared.event.EventKind.TheVariants.{Read, Write, MemRea
 use Rattle.board.specs.declared.reply.Reply.{Reply}
 use Rattle.board.specs.declared.reply.Reply.TheVariants as reply
 use Rattle.embed.specs.declared.refusal.Refusal.{Refusal}
-use Rattle.embed.specs.declared.refusal.Refusal.TheVariants.{BadSlot, BadRange, NoMemory}
+use Rattle.embed.specs.declared.refusal.Refusal.TheVariants.{BadSlot, BadRange, NoRoom}
 
--- the reply that a refusal stands for
+-- the reply that a refusal stands for: where an outlet has no room the board has no memory for the output
 abbrev pub refusing_reply : {A : Type 0} → Refusal → Reply A
 refusing_reply BadSlot = reply.BadSlot
 refusing_reply BadRange = reply.BadRange
-refusing_reply NoMemory = reply.NoMemory
+refusing_reply NoRoom = reply.NoMemory
 
 -- a reply that refuses
 abbrev pub IsRefusing : {A : Type 0} → Reply A → Type 0

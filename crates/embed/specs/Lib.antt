@@ -3,3 +3,4 @@ pub mod Session
 pub mod Answering
 pub mod Refusing
 pub mod Course
+pub mod Alone

@@ -1,13 +1,26 @@
 -- A session, as its embedder sees it, and what one event does to it.
-use Rattle.std.specs.Prelude.{◌≡◌, ◌≢◌, ◌↔◌, ℕ, ◌≤◌, Bool, false, List, [], length, map, unwrap_or, IsSomeAnd, replicate}
+use Rattle.std.specs.Prelude.{⊤, ◌≡◌, ◌≢◌, ◌↔◌, ℕ, ◌≤◌, Bool, false, List, [], length, map, Some, unwrap_or, IsSomeAnd}
 use Rattle.std.specs.List.{slice_get}
 use Rattle.sector_cache.specs.Disk.{Disk, new_disk}
 use Rattle.board.specs.declared.event.Event.{Event}
+use Rattle.board.specs.declared.event.EventKind.{EventKind}
+use Rattle.board.specs.declared.event.EventKind.TheVariants.{MemRead}
 use Rattle.board.specs.declared.reply.Reply.{Reply}
 use Rattle.board.specs.declared.reply.Reply.TheVariants.{BadSlot, BadRange, NoMemory}
 use Rattle.board.specs.declared.spec.SlotSpec.{SlotSpec}
-use Rattle.board.specs.Slot.{BoardSlot, opened, state_of}
-use Rattle.board.specs.World.{World, Answers, KeepsOthers, MayLackMemory, disturbed_of, extents_of, lacks_memory, noted, seen}
+use Rattle.board.specs.Slot.{BoardSlot, SlotState, opened, state_of}
+use Rattle.board.specs.World.{World, Answers, KeepsOthers, MayLackMemory, extents_of, seen}
+use Rattle.board.specs.Within.{MayPutOut, TakesWithin}
+use Rattle.embed.specs.declared.guest.GuestSpec.{GuestSpec}
+
+-- What a slot's console put out and nobody has taken yet, and how many bytes of it may wait.
+pub record Waiting : Type 0 where
+  pub bytes : List ℕ
+  pub limit : ℕ
+
+-- nothing waits, of so many bytes that may
+abbrev pub none_waiting : ℕ → Waiting
+none_waiting limit = record { bytes = []; limit = limit }
 
 -- A session: the slots of its board, the image's bytes and whether a write waits for a flush, and for each slot
 -- what its console put out and nobody has taken yet.
@@ -15,7 +28,7 @@ pub record SessionState : Type 0 where
   pub slots : List BoardSlot
   pub image : List ℕ
   pub mark : Bool
-  pub outputs : List (List ℕ)
+  pub outputs : List Waiting
 
 -- the image: it tells its bytes, and none of its calls fails
 abbrev pub disk_of : SessionState → Disk
@@ -27,10 +40,14 @@ world_of session = seen session.slots (disk_of session)
 
 -- what the slot's console put out and nobody has taken yet, or nothing where there is no such slot
 abbrev pub output_of : ℕ → SessionState → List ℕ
-output_of slot session = unwrap_or (slice_get session.outputs slot) []
+output_of slot session = (unwrap_or (slice_get session.outputs slot) (none_waiting 0)).bytes
+
+-- and how many bytes of it may wait
+abbrev pub limit_of : ℕ → SessionState → ℕ
+limit_of slot session = (unwrap_or (slice_get session.outputs slot) (none_waiting 0)).limit
 
 -- every slot's output but that one's is kept as it was
-abbrev pub KeepsOtherOutputs : ℕ → List (List ℕ) → List (List ℕ) → Type 0
+abbrev pub KeepsOtherOutputs : ℕ → List Waiting → List Waiting → Type 0
 KeepsOtherOutputs slot old new = (other : ℕ) → other ≢ slot → slice_get new other ≡ slice_get old other
 
 -- An event of a slot is handled, and this is the reply: a step of the board, whose output stands behind what
@@ -45,8 +62,17 @@ pub record IsStep {A : Type 0} (old : SessionState) (event : Event A) (reply : R
   pub outputs : KeepsOtherOutputs event.slot old.outputs new.outputs
   pub extents : extents_of new.slots ≡ extents_of old.slots
   pub size : length new.image ≡ length old.image
-  -- a want of memory is noted for the slot, and nothing else is
-  pub noted_is : disturbed_of new.slots ≡ noted event.slot (lacks_memory reply) (disturbed_of old.slots)
+  -- what waits of the slot's output, and how much may, decide what is put out; nothing else is refused for want
+  -- of room, and each limit stays
+  pub within :
+      (found after : SlotState) → slice_get (world_of old).slots event.slot ≡ Some found →
+      slice_get (world_of new).slots event.slot ≡ Some after →
+      TakesWithin (limit_of event.slot old) found event.what after (output_of event.slot old)
+      (output_of event.slot new) reply
+  pub refused :
+      reply ≡ NoMemory → (found : SlotState) → slice_get (world_of old).slots event.slot ≡ Some found →
+      MayPutOut found event.what
+  pub limits : (slot : ℕ) → limit_of slot new ≡ limit_of slot old
   -- which events are refused, and what a refusal keeps
   pub bad_slot : (reply ≡ BadSlot) ↔ (length old.slots ≤ event.slot)
   pub bad_slot_keeps : reply ≡ BadSlot → new ≡ old
@@ -55,11 +81,20 @@ pub record IsStep {A : Type 0} (old : SessionState) (event : Event A) (reply : R
       reply ≡ NoMemory →
       IsSomeAnd (slice_get old.slots event.slot) (λ slot. MayLackMemory (state_of old.image slot) event.what)
 
+-- the guests' slots of the board
+abbrev pub slots_of : List GuestSpec → List SlotSpec
+slots_of guests = map (λ guest. guest.slot) guests
+
 -- a new session: the slots of a new board, the image as it was handed over, and nothing put out yet
-abbrev pub new_session : List SlotSpec → List ℕ → SessionState
-new_session slots image = record {
-  slots = map opened slots;
+abbrev pub new_session : List GuestSpec → List ℕ → SessionState
+new_session guests image = record {
+  slots = map opened (slots_of guests);
   image = image;
   mark = false;
-  outputs = replicate (length slots) [];
+  outputs = map (λ guest. none_waiting guest.outlet) guests;
 }
+
+-- an event that is no read of memory
+abbrev pub HasNoRead : {A : Type 0} → EventKind A → Type 0
+HasNoRead (MemRead addr len) = ⊥
+HasNoRead what = ⊤

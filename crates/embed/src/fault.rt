@@ -9,6 +9,9 @@ pub enum SessionFault {
     /// The image isn't whole sectors of 512 bytes.
     #[error("the image isn't whole sectors of 512 bytes")]
     BadImage,
+    /// More output of a guest may wait than 2^24 bytes.
+    #[error("an outlet keeps 16777216 bytes at most")]
+    BadOutlet,
     /// The board was refused, for another reason than want of memory.
     #[error("{0}")]
     Board(BoardFault),

@@ -1,18 +1,57 @@
 //! What holds of every session, by itself. The bodies are empty: each contract is a theorem.
 
-ghost use Rattle.std.specs.Prelude.{◌≡◌, ℕ, List, Some};
+ghost use Rattle.std.specs.Prelude.{◌≡◌, ◌/◌, ℕ, List, [], ◌∷◌, length, Some};
 ghost use Rattle.std.specs.List.{slice_get};
+ghost use Rattle.board.specs.Fault.{IsAccepted};
 ghost use Rattle.board.specs.Slot.{SlotState};
-ghost use Rattle.embed.specs.Course.{Deed, HadMemory, IsCourse, RunsAlone};
-ghost use Rattle.embed.specs.Session.{SessionState, world_of};
+ghost use Rattle.board.specs.Within.{Seat};
+ghost use Rattle.embed.specs.declared.guest.GuestSpec.{GuestSpec};
+ghost use Rattle.embed.specs.Alone.{Answer, Call, IsSeatCourse, IsSeatedAlone, SeeAlike, at_front, new_session_alone, own_calls, part_of_image};
+ghost use Rattle.embed.specs.Course.{Deed, HadRoom, IsCourse, RunsAlone};
+ghost use Rattle.embed.specs.Refusing.{AreOutlets};
+ghost use Rattle.embed.specs.Session.{SessionState, limit_of, new_session, output_of, slots_of, world_of};
 
 use std::alloc::Allocator;
 
-/// Whatever is called of a session and in which order: a guest none of whose events found memory wanting is
-/// answered what it would be answered alone, and what its console puts out, taken in whatever pieces or waiting
-/// still, is what it would put out alone.
+/// Whatever is called of a session and in which order: each guest sees what it would see in a session of its own
+/// over its part of the image, where the same is called for it. No premise says that nothing was refused.
 pub fn each_guest_is_alone<A: Allocator>()
+    ensures alone { (g : ℕ) (guests : List GuestSpec) (guest : GuestSpec) (image : List ℕ)
+        (deeds more : List (Deed A)) (new last : SessionState) → slice_get guests g ≡ Some guest →
+        IsCourse (new_session guests image) deeds new →
+        IsCourse (new_session_alone guest image) more last → own_calls 0 more ≡ own_calls g deeds →
+        SeeAlike g deeds new 0 more last }
+
+    // there is such a session: it is never refused, but for want of memory
+    ensures there { (g cache : ℕ) (guests : List GuestSpec) (guest : GuestSpec) (image : List ℕ) →
+        slice_get guests g ≡ Some guest → AreOutlets guests →
+        IsAccepted (length image / 512) (slots_of guests) cache →
+        AreOutlets (at_front guest ∷ []) ×
+        IsAccepted (length (part_of_image guest image) / 512) (slots_of (at_front guest ∷ [])) cache }
+
+    // and from whatever state on: a guest of one session and one of another, as the same slot with the same output
+    ensures alike { (g h : ℕ) (old new other last : SessionState) (deeds more : List (Deed A)) (state : SlotState) →
+        IsCourse old deeds new → IsCourse other more last →
+        slice_get (world_of old).slots g ≡ Some state → slice_get (world_of other).slots h ≡ Some state →
+        output_of h other ≡ output_of g old → limit_of h other ≡ limit_of g old →
+        own_calls h more ≡ own_calls g deeds → SeeAlike g deeds new h more last }
+{}
+
+/// What a guest of a session sees is what the one-slot machine with its outlet gives, which has one answer to each
+/// call.
+pub fn the_outlet_decides<A: Allocator>()
+    ensures runs { (g : ℕ) (old new : SessionState) (deeds : List (Deed A)) (state : SlotState) →
+        IsCourse old deeds new → slice_get (world_of old).slots g ≡ Some state →
+        IsSeatedAlone g state old deeds new }
+    ensures once { (limit : ℕ) (old one other : Seat) (calls : List (Call A)) (answers answers' : List (Answer A)) →
+        IsSeatCourse limit old calls answers one → IsSeatCourse limit old calls answers' other →
+        (answers ≡ answers') × (one ≡ other) }
+{}
+
+/// A guest that was never refused for want of room is answered what the one-slot machine gives, and what its console
+/// puts out, taken in whatever pieces or waiting still, is what that machine puts out.
+pub fn a_guest_with_room_runs_alone<A: Allocator>()
     ensures { (g : ℕ) (old new : SessionState) (deeds : List (Deed A)) (state : SlotState) →
-        IsCourse old deeds new → HadMemory g deeds → slice_get (world_of old).slots g ≡ Some state →
+        IsCourse old deeds new → HadRoom g deeds → slice_get (world_of old).slots g ≡ Some state →
         RunsAlone g state old deeds new }
 {}

@@ -1,19 +1,22 @@
 //! A board in a program that isn't written in Rattle, or that would rather call than make events: a session, which
 //! is one board over an image in memory, and what each guest's console put out until somebody takes it.
 //!
-//! `session` is the session, a module for each kind of call: `registers`, `memory`, `console` and `image`. `outlet`
-//! keeps what a console put out. `fault` says why there is no session, `refusal` why a call was refused.
+//! `session` is the session, a module for each kind of call: `registers`, `memory`, `console` and `image`. `guest` is
+//! what it is made of, and `output_ring` keeps what a console put out. `fault` says why there is no session, `refusal`
+//! why a call was refused.
 #![tactic(auto)]
 
 mod fault;
+mod guest;
 mod laws;
-mod outlet;
+mod output_ring;
 mod refusal;
 mod session;
 
 pub use board::{BoardFault, CacheFault, DeviceKind, Extent, GuestMemory, MemoryFault, SlotSpec};
 pub use fault::SessionFault;
-pub use laws::each_guest_is_alone;
+pub use guest::GuestSpec;
+pub use laws::{a_guest_with_room_runs_alone, each_guest_is_alone, the_outlet_decides};
 pub use refusal::Refusal;
 pub use session::Session;
 

@@ -16,9 +16,9 @@ pub enum Refusal {
     /// Not all of the range lies inside the slot's memory. Nothing has changed.
     #[error("not all of the range lies inside the guest's memory")]
     BadRange,
-    /// There was no memory for what the call needs.
-    #[error("no memory for the call")]
-    NoMemory,
+    /// What the guest's console puts out next doesn't fit behind what waits. What came before it was put out.
+    #[error("the guest's output has no room until some of it is taken")]
+    NoRoom,
 }
 
 impl Refusal {
@@ -28,7 +28,7 @@ impl Refusal {
         ensures { reply.now ≡ refusing_reply result }
     {
         match reply {
-            Reply::NoMemory => Refusal::NoMemory,
+            Reply::NoMemory => Refusal::NoRoom,
             Reply::BadRange => Refusal::BadRange,
             _ => Refusal::BadSlot,
         }

@@ -1,12 +1,15 @@
 //! The session: a board over an image in memory, and what its consoles put out.
 
-ghost use Rattle.std.specs.Prelude.{◌≡◌, ◌≢◌, ◌⊎◌, ◌↔◌, ◌%◌, ◌/◌, ◌≤◌, [], map, length, IfOk, OnOk, IfErr, IsErrAnd, IsErrOf, replicate};
+ghost use Rattle.std.specs.Prelude.{◌≡◌, ◌≢◌, ◌⊎◌, ◌↔◌, ◌%◌, ◌/◌, map, length, IsTrue, IfOk, OnOk, IfErr, IsErrAnd, IsErrOf};
 ghost use Rattle.board.specs.declared.fault.BoardFault.{BoardFault};
-ghost use Rattle.board.specs.Fault.{IsAccepted};
+ghost use Rattle.sector_cache.specs.Disk.{new_disk};
+ghost use Rattle.sector_cache.specs.MemoryImage.{disk_of};
+ghost use Rattle.board.specs.Fault.{IsAccepted, Refuses};
+ghost use Rattle.board.specs.Slot.{opened};
 ghost use Rattle.embed.specs.declared.fault.SessionFault.{SessionFault};
 ghost use Rattle.embed.specs.Answering.{Suits};
-ghost use Rattle.embed.specs.Session.{IsStep, new_session};
-ghost use Rattle.embed.specs.Refusing.{IsBoardFault, IsRefusedFor, session_fault};
+ghost use Rattle.embed.specs.Session.{HasNoRead, IsStep, new_session, none_waiting, slots_of};
+ghost use Rattle.embed.specs.Refusing.{AreOutlets, IsBoardFault, IsRefusedFor, session_fault};
 
 mod console;
 mod image;
@@ -14,7 +17,8 @@ mod memory;
 mod registers;
 
 use crate::fault::SessionFault;
-use crate::outlet::Outlet;
+use crate::guest::GuestSpec;
+use crate::output_ring::OutputRing;
 use board::{Board, BoardFault, Event, MemoryImage, Refused, Reply, SlotSpec};
 use std::alloc::{AllocError, Allocator, Global};
 use std::marker::Model;
@@ -22,12 +26,14 @@ use std::marker::Model;
 /// The length of a sector in bytes (5.2).
 const SECTOR_LEN: usize = 512;
 
-/// Up to sixteen guests over one image in memory.
+/// How many bytes of one guest's output may wait at most.
+const MOST_WAITING: u32 = 0x100_0000;
+
+/// Up to sixteen guests over one image in memory. All room is made when it is made: no call takes memory.
 #[derive(Drop)]
 pub struct Session<A: Allocator = Global> {
     board: Board<MemoryImage<A>, A>,
-    outlets: Vec<Outlet<A>, A>,
-    alloc: A,
+    outputs: Vec<OutputRing<A>, A>,
 }
 
 impl<A: Allocator> Model for Session<A> {
@@ -42,73 +48,122 @@ impl<A: Allocator> Model for Session<A> {
       slots = s.board.slots;
       image = bytes_of (memory_disk_of s.board.image);
       mark = (memory_disk_of s.board.image).mark;
-      outputs = s.outlets.items;
+      outputs = s.outputs.items;
     } };
 
-    ghost invariant = { λ s. length s.outlets.items ≡ length s.board.slots };
+    ghost invariant = { λ s. length s.outputs.items ≡ length s.board.slots };
 }
 
 impl<A: Allocator + Copy> Session<A> {
-    /// A session over a copy of these bytes, with these slots and a cache of at most `cache` sectors before
+    /// A session over a copy of these bytes, with these guests and a cache of at most `cache` sectors before
     /// the image.
     pub fn new(
         alloc: A,
-        slots: &[SlotSpec],
+        guests: &[GuestSpec],
         image: &[u8],
         cache: u32,
     ) -> Result<Session<A>, SessionFault>
-        ensures made { IfOk result (λ session. session ≡ new_session slots.now image.now) }
-        ensures accepted { OnOk result (IsAccepted (length image.now / 512) slots.now cache) }
-        ensures fault { IfErr result (IsRefusedFor slots.now image.now cache) }
+        ensures made { IfOk result (λ session. session ≡ new_session guests.now image.now) }
+        ensures accepted { OnOk result (IsAccepted (length image.now / 512) (slots_of guests.now) cache) }
+        ensures outlets { OnOk result (AreOutlets guests.now) }
+        ensures fault { IfErr result (IsRefusedFor guests.now image.now cache) }
 
         // exactly that fault, but that want of memory may come before the board's
         ensures bad_image { IsErrOf result SessionFault.BadImage ↔ (length image.now % 512 ≢ 0) }
-        ensures bad_board { (fault : BoardFault) → IsBoardFault slots.now image.now cache fault →
+        ensures bad_outlet { IsErrOf result SessionFault.BadOutlet ↔
+            ((length image.now % 512 ≡ 0) × ¬ AreOutlets guests.now) }
+        ensures bad_board { (fault : BoardFault) → IsBoardFault guests.now image.now cache fault →
             IsErrAnd result (λ why. (why ≡ SessionFault.Board fault) ⊎ (why ≡ SessionFault.NoMemory)) }
     {
         if !image.len().is_multiple_of(SECTOR_LEN) {
             return Err(SessionFault::BadImage);
         }
-        let Ok(bytes) = Vec::from_slice(alloc, image) else {
-            return Err(SessionFault::NoMemory);
-        };
-        let Ok(image) = MemoryImage::new(bytes) else {
-            return Err(SessionFault::BadImage);
-        };
-        let Ok(outlets) = outlets(alloc, slots.len()) else {
-            return Err(SessionFault::NoMemory);
-        };
-        match Board::new(alloc, slots, image, cache) {
-            Ok(board) => Ok(Session {
-                board,
-                outlets,
-                alloc,
-            }),
-            Err(Refused { image: _, why }) => Err(why_not(why)),
+        if !are_outlets(guests) {
+            return Err(SessionFault::BadOutlet);
+        }
+        let board = board_of(alloc, guests, image, cache)?;
+        match outputs(alloc, guests) {
+            Ok(outputs) => Ok(Session { board, outputs }),
+            Err(AllocError) => Err(SessionFault::NoMemory),
         }
     }
 
     // Handles an event to its end.
     fn step(&mut self, event: &Event<A>) -> Reply<A>
+        requires { HasNoRead event.now.what }
         ensures step { IsStep self.old event.now result self.new }
         ensures suits { Suits event.now.what result }
     {
-        let Some(outlet) = self.outlets.get_mut(event.slot as usize) else {
+        let Some(output) = self.outputs.get_mut(event.slot as usize) else {
             return Reply::BadSlot;
         };
-        outlet.step(&mut self.board, event)
+        output.step(&mut self.board, event)
     }
 }
 
-// An empty outlet for each slot.
-fn outlets<A: Allocator + Copy>(alloc: A, count: usize) -> Result<Vec<Outlet<A>, A>, AllocError>
-    ensures { IfOk result (λ outlets. outlets.items ≡ replicate count []) }
+// Whether no guest's output is to have more room than it may.
+fn are_outlets(guests: &[GuestSpec]) -> bool
+    ensures { IsTrue result ↔ AreOutlets guests.now }
 {
-    let mut outlets = Vec::with_capacity(alloc, count)?;
-    for _ in 0..count {
-        outlets.push(Outlet::new(alloc))?;
+    guests.iter().all(|guest| guest.outlet <= MOST_WAITING)
+}
+
+// The board of the guests' slots, over a copy of these bytes.
+fn board_of<A: Allocator + Copy>(
+    alloc: A,
+    guests: &[GuestSpec],
+    image: &[u8],
+    cache: u32,
+) -> Result<Board<MemoryImage<A>, A>, SessionFault>
+    requires whole { length image.now % 512 ≡ 0 }
+    requires outlets { AreOutlets guests.now }
+    ensures slots { IfOk result (λ board. board.slots ≡ map opened (slots_of guests.now)) }
+    ensures image { IfOk result (λ board. disk_of board.image ≡ new_disk image.now) }
+    ensures accepted { OnOk result (IsAccepted (length image.now / 512) (slots_of guests.now) cache) }
+    ensures fault { IfErr result (λ why. IsRefusedFor guests.now image.now cache why) }
+    ensures other { IfErr result (λ why. (why ≢ SessionFault.BadImage) × (why ≢ SessionFault.BadOutlet)) }
+    ensures bad_board { (fault : BoardFault) → fault ≢ BoardFault.NoMemory →
+        Refuses (length image.now / 512) (slots_of guests.now) cache fault →
+        IsErrAnd result (λ why. (why ≡ SessionFault.Board fault) ⊎ (why ≡ SessionFault.NoMemory)) }
+{
+    let Ok(slots) = slots(alloc, guests) else {
+        return Err(SessionFault::NoMemory);
+    };
+    let Ok(bytes) = Vec::from_slice(alloc, image) else {
+        return Err(SessionFault::NoMemory);
+    };
+    let Ok(image) = MemoryImage::new(bytes) else {
+        unreachable!()
+    };
+    match Board::new(alloc, &slots, image, cache) {
+        Ok(board) => Ok(board),
+        Err(Refused { image: _, why }) => Err(why_not(why)),
     }
-    Ok(outlets)
+}
+
+// The guests' slots of the board.
+fn slots<A: Allocator + Copy>(
+    alloc: A,
+    guests: &[GuestSpec],
+) -> Result<Vec<SlotSpec, A>, AllocError>
+    ensures { IfOk result (λ slots. slots.items ≡ slots_of guests.now) }
+{
+    guests.iter().map(|guest| guest.slot).collect(alloc)
+}
+
+// Room for each guest's output, in which nothing waits.
+fn outputs<A: Allocator + Copy>(
+    alloc: A,
+    guests: &[GuestSpec],
+) -> Result<Vec<OutputRing<A>, A>, AllocError>
+    ensures { IfOk result (λ outputs.
+        outputs.items ≡ map (λ guest. none_waiting guest.outlet) guests.now) }
+{
+    let mut outputs = Vec::with_capacity(alloc, guests.len())?;
+    for guest in guests {
+        outputs.push(OutputRing::new(alloc, guest.outlet)?)?;
+    }
+    Ok(outputs)
 }
 
 // Why there is no session where there is no board.

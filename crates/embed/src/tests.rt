@@ -1,6 +1,9 @@
 //! Each call, and what it does for want of memory.
 
 use super::*;
+
+mod outlets;
+
 use refusing::RefusingHeap;
 use std::alloc::{AllocError, Allocator, Global};
 use std::fmt::Debug;
@@ -25,8 +28,9 @@ fn slot(start: u64) -> SlotSpec {
     }
 }
 
-fn two_slots() -> [SlotSpec; 2] {
-    [slot(0), slot(4)]
+/// Two guests, each of whose outputs has so much room.
+fn two_guests(outlet: u32) -> [GuestSpec; 2] {
+    [slot(0), slot(4)].map(|slot| GuestSpec { slot, outlet })
 }
 
 /// An image of eight sectors, in which each byte of sector k is 0x10 + k.
@@ -41,7 +45,7 @@ fn eight_sectors(alloc: Global) -> Result<Vec<u8>, AllocError> {
 /// A session of both slots over it.
 fn session<A: Allocator + Copy>(alloc: Global, heap: A) -> Result<Session<A>, Fail> {
     let image = eight_sectors(alloc)?;
-    Ok(Session::new(heap, &two_slots(), &image, 8)?)
+    Ok(Session::new(heap, &two_guests(4096), &image, 8)?)
 }
 
 fn same<R: Debug, T: PartialEq + Debug>(rt: &impl Abort, row: &R, found: &T, wanted: &T) {
@@ -154,12 +158,24 @@ fn each_output_waits_for_itself(rt: HostRuntime) -> Result<(), Fail> {
         check_row(&rt, &mut session, row);
     }
     let (mut two, mut four) = ([0; 2], *b"....");
-    assert!(rt; session.output(0) == Some(b"abc".as_slice()));
+    assert!(rt;
+        session
+            .output(0)
+            .is_some_and(|parts| parts.0 == b"abc".as_slice() && parts.1.is_empty())
+    );
     assert!(rt; session.take_output(0, &mut []) == Some(0));
     assert!(rt; session.take_output(0, &mut two) == Some(2) && two == *b"ab");
-    assert!(rt; session.output(0) == Some(b"c".as_slice()));
+    assert!(rt;
+        session
+            .output(0)
+            .is_some_and(|parts| parts.0 == b"c".as_slice() && parts.1.is_empty())
+    );
     assert!(rt; session.take_output(0, &mut four) == Some(1) && four == *b"c...");
-    assert!(rt; session.output(1) == Some(b"z".as_slice()));
+    assert!(rt;
+        session
+            .output(1)
+            .is_some_and(|parts| parts.0 == b"z".as_slice() && parts.1.is_empty())
+    );
     assert!(rt; session.take_output(2, &mut four).is_none() && session.output(2).is_none());
     Ok(())
 }
@@ -204,7 +220,9 @@ fn a_driver_says_hello(rt: HostRuntime) -> Result<(), Fail> {
     for row in &TRANSMIT {
         check_row(&rt, &mut session, row);
     }
-    assert!(rt; session.output(1) == Some(b"hello".as_slice()));
+    assert!(rt;
+        session.output(1).is_some_and(|parts| parts.0 == b"hello".as_slice() && parts.1.is_empty())
+    );
     let words = [
         session.interrupts(0),
         session.interrupts(1),
@@ -218,56 +236,39 @@ fn a_driver_says_hello(rt: HostRuntime) -> Result<(), Fail> {
     Ok(())
 }
 
-/// Where there is no memory for them, nothing is typed, and nothing put out.
-const REFUSED: [Row; 2] = [
-    (0, Act::Type(b"ls"), Err(Refusal::NoMemory)),
-    (1, Act::Set(CONSOLE, 0x108, 0x41), Err(Refusal::NoMemory)),
-];
+/// Why there is no session of both guests over so many bytes, with outputs of so much room and a cache of so many
+/// sectors.
+type Asked = (usize, u32, u32, Result<(), SessionFault>);
 
-/// And afterwards both are.
-const FOUND: [Row; 2] = [
-    (0, Act::Type(&[0x61; 5000]), Ok(4096)),
-    (1, Act::Set(CONSOLE, 0x108, 0x42), Ok(0)),
-];
-
-#[test]
-fn a_call_may_find_no_memory(rt: HostRuntime) -> Result<(), Fail> {
-    let heap = RefusingHeap::new(rt.alloc());
-    let mut session = session(rt.alloc(), &heap)?;
-    heap.refuse_from(1);
-    for row in &REFUSED {
-        check_row(&rt, &mut session, row);
-    }
-    heap.refuse_from(0);
-    for row in &FOUND {
-        check_row(&rt, &mut session, row);
-    }
-    let disturbed = [
-        session.disturbed(0),
-        session.disturbed(1),
-        session.disturbed(2),
-    ];
-    assert!(rt; disturbed == [Some(false), Some(true), None]);
-    assert!(rt; session.output(1) == Some(b"B".as_slice()));
-    Ok(())
-}
-
-/// Why there is no session of both slots over so many bytes, with a cache of so many sectors.
-const FAULTS: [(usize, u32, SessionFault); 4] = [
-    (4095, 8, SessionFault::BadImage),
-    (4095, 0, SessionFault::BadImage),
-    (3584, 0, SessionFault::Board(BoardFault::ExtentOutside)),
+const FAULTS: [Asked; 7] = [
+    (4095, 0x100_0001, 8, Err(SessionFault::BadImage)),
+    (4095, 4096, 0, Err(SessionFault::BadImage)),
+    (3584, 0x100_0001, 0, Err(SessionFault::BadOutlet)),
+    (4096, 0x100_0001, 8, Err(SessionFault::BadOutlet)),
+    (4096, 0x100_0000, 8, Ok(())),
     (
+        3584,
         4096,
         0,
-        SessionFault::Board(BoardFault::Cache(CacheFault::BadCapacity)),
+        Err(SessionFault::Board(BoardFault::ExtentOutside)),
+    ),
+    (
+        4096,
+        4096,
+        0,
+        Err(SessionFault::Board(BoardFault::Cache(CacheFault::BadCapacity))),
     ),
 ];
 
-fn check_fault(rt: &impl Abort, alloc: Global, image: &[u8], row: &(usize, u32, SessionFault)) {
-    let (len, cache, wanted) = *row;
-    let made = Session::new(alloc, &two_slots(), &image[..len.min(image.len())], cache);
-    same(rt, row, &made.map(|_| ()), &Err(wanted));
+fn check_fault(rt: &impl Abort, alloc: Global, image: &[u8], row: &Asked) {
+    let (len, outlet, cache, wanted) = *row;
+    let made = Session::new(
+        alloc,
+        &two_guests(outlet),
+        &image[..len.min(image.len())],
+        cache,
+    );
+    same(rt, row, &made.map(|_| ()), &wanted);
 }
 
 #[test]
@@ -285,7 +286,7 @@ fn a_refused_session_says_so(rt: HostRuntime) -> Result<(), Fail> {
     let image = eight_sectors(rt.alloc())?;
     for n in 1..100 {
         heap.refuse_from(n);
-        let made = Session::new(&heap, &two_slots(), &image, 8).map(|_| ());
+        let made = Session::new(&heap, &two_guests(4096), &image, 8).map(|_| ());
         if made == Ok(()) {
             assert!(rt; !heap.has_refused() && n > 5);
             return Ok(());

@@ -1,6 +1,6 @@
 //! A guest's console, from the outside: what is typed, its size, and what it puts out.
 
-ghost use Rattle.std.specs.Prelude.{◌≡◌, ◌≢◌, ◌<◌, ◌↔◌, length, min, take, drop, ◌++◌, Err, slice_set, IsSome, IfSome, IfNone};
+ghost use Rattle.std.specs.Prelude.{◌≡◌, ◌<◌, ◌↔◌, length, min, take, drop, ◌++◌, IsSome, IfSome, IfNone, IfErr};
 ghost use Rattle.board.specs.declared.event.EventKind.{EventKind};
 ghost use Rattle.embed.specs.declared.refusal.Refusal.{Refusal};
 ghost use Rattle.embed.specs.Answering.{done_reply, took_reply};
@@ -9,37 +9,22 @@ ghost use Rattle.embed.specs.Session.{IsStep, output_of};
 
 use crate::refusal::Refusal;
 use crate::session::Session;
-use board::{Bytes, Event, EventKind, Reply};
+use board::{Event, EventKind, Reply};
 use std::alloc::Allocator;
-
-/// How many bytes of input a console keeps until its guest reads them.
-const MOST_PENDING: usize = 4096;
 
 impl<A: Allocator + Copy> Session<A> {
     /// Types bytes to the guest's console, and answers how many were taken: the first ones. A console keeps
-    /// 4096 until its guest reads them. Where there is no memory for the bytes nothing is typed.
-    #[tactic(auto, using(crate::proofs::Typed::typed))]
+    /// 4096 until its guest reads them. It is refused for a bad slot alone.
     pub fn input(&mut self, slot: u8, bytes: &[u8]) -> Result<usize, Refusal>
-        ensures step { result ≢ Err Refusal.NoMemory → IsStep {A = A} self.old
+        ensures step { IsStep {A = A} self.old
             (record { slot = slot; what = EventKind.Input bytes.now })
             (took_reply result) self.new }
-        ensures no_memory { result ≡ Err Refusal.NoMemory → self.new ≡ self.old }
-        ensures no_memory_there { result ≡ Err Refusal.NoMemory → slot < length self.old.slots }
+        ensures refused { IfErr result (λ why. why ≡ Refusal.BadSlot) }
     {
-        if self.board.slots() <= usize::from(slot) {
+        let Some(taken) = self.board.input(slot, bytes) else {
             return Err(Refusal::BadSlot);
-        }
-        let few = &bytes[..bytes.len().min(MOST_PENDING)];
-        let Ok(few) = Vec::from_slice(self.alloc, few) else {
-            return Err(Refusal::NoMemory);
         };
-        let what = EventKind::Input {
-            bytes: Bytes::from(few),
-        };
-        match self.step(&Event { slot, what }) {
-            Reply::Took(taken) => Ok(taken),
-            reply => Err(Refusal::of(&reply)),
-        }
+        Ok(taken)
     }
 
     /// Gives the guest's console another size, of which its driver is told. It is refused for a bad slot
@@ -58,13 +43,13 @@ impl<A: Allocator + Copy> Session<A> {
 }
 
 impl<A: Allocator> Session<A> {
-    /// What the slot's console put out and nobody has taken yet.
-    pub fn output(&self, slot: u8) -> Option<&[u8]>
+    /// What the slot's console put out and nobody has taken yet, in two parts.
+    pub fn output(&self, slot: u8) -> Option<(&[u8], &[u8])>
         ensures there { IsSome result ↔ (slot < length self.now.slots) }
-        ensures value { IfSome result (λ bytes. bytes.now ≡ output_of slot self.now) }
+        ensures value { IfSome result (λ parts. parts.0.now ++ parts.1.now ≡ output_of slot self.now) }
     {
-        let outlet = self.outlets.get(slot as usize)?;
-        Some(outlet.waiting())
+        let output = self.outputs.get(slot as usize)?;
+        Some(output.waiting())
     }
 
     /// Moves the first bytes of what the slot's console put out into `into`, as many as find room, and
@@ -75,15 +60,12 @@ impl<A: Allocator> Session<A> {
             count ≡ min (length (output_of slot self.old)) (length into.old)) }
         ensures moved { IfSome result (λ count.
             into.new ≡ take count (output_of slot self.old) ++ drop count into.old) }
-        ensures left { IfSome result (λ count. self.new ≡ record self.old {
-          outputs = slice_set self.old.outputs slot (drop count (output_of slot self.old));
-        }) }
         ensures taken { IfSome result (λ count.
-            IsTaken self.old slot (take count (output_of slot self.old)) self.new) }
+            IsTaken self.old slot (length into.old) (take count (output_of slot self.old)) self.new) }
         ensures missing { IfNone result (self.new ≡ self.old) }
         ensures missing_into { IfNone result (into.new ≡ into.old) }
     {
-        let outlet = self.outlets.get_mut(slot as usize)?;
-        Some(outlet.take(into))
+        let output = self.outputs.get_mut(slot as usize)?;
+        Some(output.take(into))
     }
 }

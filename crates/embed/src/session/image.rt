@@ -17,11 +17,7 @@ impl<A: Allocator> Session<A> {
     pub fn into_image(self) -> Vec<u8, A>
         ensures { result.items ≡ self.image }
     {
-        let Session {
-            board,
-            outlets: _,
-            alloc: _,
-        } = self;
+        let Session { board, outputs: _ } = self;
         board.into_image().into_bytes()
     }
 }

@@ -1,11 +1,10 @@
 //! What a guest does to its devices' registers, and the words that stand for its interrupt lines.
 
-ghost use Rattle.std.specs.Prelude.{◌≡◌, length};
+ghost use Rattle.std.specs.Prelude.{◌≡◌, length, false};
 ghost use Rattle.std.specs.List.{slice_get};
 ghost use Rattle.std.specs.Option.{option_map};
 ghost use Rattle.board.specs.declared.event.EventKind.{EventKind};
 ghost use Rattle.board.specs.Slot.{interrupt_words};
-ghost use Rattle.board.specs.World.{disturbed_of};
 ghost use Rattle.embed.specs.Answering.{done_reply, value_reply};
 ghost use Rattle.embed.specs.Session.{IsStep};
 
@@ -39,8 +38,9 @@ impl<A: Allocator + Copy> Session<A> {
         }
     }
 
-    /// A guest's write. What it notifies is served to its end. Where a console finds no memory for what it
-    /// puts out the chain stays on offer for the next notification.
+    /// A guest's write. What it notifies is served to its end. Where what its console puts out doesn't fit
+    /// behind what waits it is refused: the chain stays on offer, those before it are served, and the same write
+    /// goes on with it once there is room.
     pub fn write(
         &mut self,
         slot: u8,
@@ -75,12 +75,11 @@ impl<A: Allocator> Session<A> {
         self.board.interrupts(slot)
     }
 
-    /// Whether an event of the slot was ever refused for want of memory. Of a slot that isn't disturbed the
-    /// promise holds in full that its guest sees what it would see alone.
+    /// Whether a call of the image failed in an event of the slot. None of an image in memory does.
     pub fn disturbed(&self, slot: u8) -> Option<bool>
-        ensures { result ≡ slice_get (disturbed_of self.now.slots) slot }
+        ensures { result ≡ option_map (λ found. false) (slice_get self.now.slots slot) }
     {
-        self.board.disturbed(slot)
+        self.board.memory(slot).map(|_| false)
     }
 
     /// How many slots there are, from 1 to 16. They are numbered from 0.

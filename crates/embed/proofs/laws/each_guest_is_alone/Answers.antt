@@ -1,6 +1,13 @@
--- A guest of a session is alone.
-use Rattle.embed.proofs.Courses.{runs_alone}
+-- Each guest of a session is alone.
+use Rattle.embed.proofs.Alone.{see_alike}
+use Rattle.embed.proofs.Made.{accepted_alone, made_alone}
 use Rattle.embed.proofs.laws.each_guest_is_alone.Goals as goal
 
-pub returns : goal.returns
-returns g c = λ guest old new deeds state. runs_alone guest old deeds new state
+pub returns-clause-alone : goal.returns-clause-alone
+returns-clause-alone g c = made_alone
+
+pub returns-clause-there : goal.returns-clause-there
+returns-clause-there g c = accepted_alone
+
+pub returns-clause-alike : goal.returns-clause-alike
+returns-clause-alike g c = see_alike

@@ -11,8 +11,8 @@ returns-then-write_memory g c =
     record {
       step =
           rw (← c.self.view_is)
-          (was_written _ c.self.inside.board.slots c.write_memory.new.self.slots _ _ _ _ c.self.inside.outlets.items c.args.slot c.args.addr c.args.from.now
-          (told.step refl) told.put (ap (λ image. bytes_of (memory_disk_of image)) told.image) told.disturbed);
+          (was_written _ c.self.inside.board.slots c.write_memory.new.self.slots _ _ _ _ c.self.inside.outputs.items c.args.slot c.args.addr c.args.from.now
+          (told.step refl) told.put (ap (λ image. bytes_of (memory_disk_of image)) told.image));
     }
 
 pub returns : goal.returns
