@@ -16,6 +16,10 @@
  *
  * Nothing of the caller's is kept: a call copies what it needs. Each answers a number, and after any but
  * KALYUBOS_DONE its out parameters are as they were.
+ *
+ * kalyubos_create takes all memory that a board needs, and kalyubos_destroy gives it back. No other call takes or
+ * gives any, so no guest can be refused memory for what another did: what a guest sees is decided by its own slot's
+ * calls alone.
  */
 #ifndef KALYUBOS_H
 #define KALYUBOS_H
@@ -35,7 +39,7 @@ enum {
     KALYUBOS_HAS_BOARD = 2,         /* the handle holds a board already, and goes on holding it */
     KALYUBOS_BAD_SLOT = 3,          /* the board has no such slot; nothing changed */
     KALYUBOS_BAD_RANGE = 4,         /* not all of the range lies in the memory or the image; nothing changed */
-    KALYUBOS_NO_MEMORY = 5,         /* the heap refused */
+    KALYUBOS_NO_MEMORY = 5,         /* the heap refused; no call but kalyubos_create answers this */
     KALYUBOS_BAD_WINDOW = 6,        /* no window has this number; nothing changed */
     KALYUBOS_BAD_IMAGE = 7,         /* the image isn't whole sectors of 512 bytes */
     KALYUBOS_NO_SLOTS = 8,          /* a board needs a slot */
@@ -44,7 +48,9 @@ enum {
     KALYUBOS_BAD_MEMORY_BASE = 11,  /* a memory's base is no multiple of 4096, or the memory passes 2^64 */
     KALYUBOS_EXTENT_OUTSIDE = 12,   /* an extent passes the image's end */
     KALYUBOS_EXTENTS_OVERLAP = 13,  /* two extents share a sector */
-    KALYUBOS_BAD_CACHE = 14         /* a cache keeps 1 to 65536 sectors */
+    KALYUBOS_BAD_CACHE = 14,        /* a cache keeps 1 to 65536 sectors */
+    KALYUBOS_NO_ROOM = 15,          /* the console's next output doesn't fit behind what waits; see kalyubos_write */
+    KALYUBOS_BAD_OUTLET = 16        /* an outlet keeps 2^24 bytes at most */
 };
 
 /* A slot's windows, each of 4096 bytes. */
@@ -66,14 +72,18 @@ struct kalyubos_slot {
     uint64_t count;  /* how many sectors it shows */
     uint16_t cols;   /* the columns of its console */
     uint16_t rows;   /* and its rows */
+    uint32_t outlet; /* how many bytes of what it puts out may wait to be taken */
     bool read_only;  /* whether its disk refuses writes */
 };
 
 /*
  * Makes a board of `slots_len` slots over a copy of the image, with a cache of at most `cache` sectors before it,
- * and puts it into an empty handle. A refusal leaves the handle as it was and keeps no memory. Of the numbers from
- * BAD_IMAGE on it is the first that holds, those of a slot looked for slot by slot; NO_MEMORY may come in the place of
- * each but BAD_IMAGE.
+ * and puts it into an empty handle. A refusal leaves the handle as it was and keeps no memory. It is BAD_IMAGE where
+ * that holds, else BAD_OUTLET, else the first of the numbers from NO_SLOTS to BAD_CACHE that holds, those of a slot
+ * looked for slot by slot; NO_MEMORY may come in the place of the latter.
+ *
+ * Choose each outlet for the longest chain that the guest's driver sends: one that is longer than `outlet` is never
+ * let through, however often it is tried. Linux's console sends up to 32 KiB at once.
  */
 uint32_t kalyubos_create(struct kalyubos *board, const struct kalyubos_slot *slots, size_t slots_len,
                          const uint8_t *image, size_t image_len, uint32_t cache);
@@ -89,20 +99,24 @@ uint32_t kalyubos_read(struct kalyubos *board, uint8_t slot, uint8_t window, uin
                        uint32_t *value);
 
 /*
- * A guest's write. What it notifies is served before the call returns. NO_MEMORY: the console found no memory
- * for what a chain puts out; the chains before it are served, and the next notification goes on with it.
+ * A guest's write. What it notifies is served before the call returns. NO_ROOM: what the console puts out next, a
+ * chain of its transmit queue or the byte of an emergency write, doesn't fit behind what waits in the slot's outlet.
+ * The chains before it are served; it is still on offer, and nothing of it is put out. Take the output and make the
+ * same write again, as long as it is answered NO_ROOM and there was output to take: a driver that waits for its
+ * buffer doesn't notify again, and Linux's console spins for ever on it.
  */
 uint32_t kalyubos_write(struct kalyubos *board, uint8_t slot, uint8_t window, uint16_t offset, uint8_t width,
                         uint32_t value);
 
-/* Copies bytes out of the slot's memory, and into it, from address `addr` on. Neither takes memory. */
+/* Copies bytes out of the slot's memory, and into it, from address `addr` on. */
 uint32_t kalyubos_read_memory(struct kalyubos *board, uint8_t slot, uint64_t addr, uint8_t *into, size_t into_len);
 uint32_t kalyubos_write_memory(struct kalyubos *board, uint8_t slot, uint64_t addr, const uint8_t *from,
                                size_t from_len);
 
 /*
  * Types bytes to the slot's console; `took` is how many it took, the first ones: it keeps 4096 until its guest
- * reads them. NO_MEMORY: nothing was typed.
+ * reads them. Type the others again until none is taken, then after the guest's next calls: what was taken may have
+ * gone to the guest's buffers at once, and a driver that finds buffers enough doesn't notify for more.
  */
 uint32_t kalyubos_input(struct kalyubos *board, uint8_t slot, const uint8_t *bytes, size_t bytes_len, size_t *took);
 
@@ -118,7 +132,7 @@ uint32_t kalyubos_take_output(struct kalyubos *board, uint8_t slot, uint8_t *int
 /* InterruptStatus of both windows of a slot. A window's line is high while its word isn't 0. */
 uint32_t kalyubos_interrupts(struct kalyubos *board, uint8_t slot, uint8_t *block, uint8_t *console);
 
-/* Whether an event of the slot ever met a want of memory. While not, its guest sees what it would see alone. */
+/* Whether a call of the image ever failed for the slot: never, since the image is in memory. */
 uint32_t kalyubos_disturbed(struct kalyubos *board, uint8_t slot, bool *disturbed);
 
 /* The image's length in bytes, and a copy of bytes of it from byte `start` on, as they stand. */
@@ -126,10 +140,10 @@ uint32_t kalyubos_image_len(struct kalyubos *board, size_t *len);
 uint32_t kalyubos_read_image(struct kalyubos *board, size_t start, uint8_t *into, size_t into_len);
 
 /*
- * The heap, which the host defines; examples/embed/heap.c has it over malloc. All three are of one heap.
- * A block is aligned to `align`, a power of two up to 16. `found` is false where there is no memory, and `at` is
- * then any address; a block that couldn't be resized stands as it was. Of a
- * block that is resized the first `kept` bytes stay. A block of size 0 is a block as any other.
+ * The heap, which the host defines; examples/embed/heap.c has it over malloc. All three are of one heap, and are
+ * called within kalyubos_create and kalyubos_destroy alone. A block is aligned to `align`, a power of two up to 16.
+ * `found` is false where there is no memory, and `at` is then any address; a block that couldn't be resized stands as
+ * it was. Of a block that is resized the first `kept` bytes stay. A block of size 0 is a block as any other.
  */
 struct kalyubos_block {
     bool found;

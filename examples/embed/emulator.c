@@ -14,7 +14,7 @@
 /* Where a guest finds what, in physical addresses. */
 static const uint64_t ROM = 0x1000, WINDOWS = 0x0a000000, MEMORY = 0x80000000;
 
-enum { PAGE = 0x1000, MEMORY_LEN = 0x10000, GUESTS = 2, TURN = 20, TURNS = 1000 };
+enum { PAGE = 0x1000, MEMORY_LEN = 0x10000, OUTLET = 64, GUESTS = 2, TURN = 20, TURNS = 1000 };
 
 struct guest {
     uint8_t slot;
@@ -132,8 +132,8 @@ int main(void)
     strcpy((char *)image, "the first half of the image\n");
     strcpy((char *)image + 2 * 512, "the second half\n");
     struct kalyubos_slot slots[GUESTS] = {
-        { MEMORY, MEMORY_LEN, 0, 2, 80, 25, false },
-        { MEMORY, MEMORY_LEN, 2, 2, 80, 25, false },
+        { MEMORY, MEMORY_LEN, 0, 2, 80, 25, OUTLET, false },
+        { MEMORY, MEMORY_LEN, 2, 2, 80, 25, OUTLET, false },
     };
     must(kalyubos_create(&board, slots, GUESTS, image, sizeof image, 8), "create");
 

@@ -27,9 +27,26 @@ static uint32_t get(uint8_t window, uint16_t offset)
     return value;
 }
 
+/* The terminal: it takes what the console put out, and tells whether there was any. */
+static bool show(void)
+{
+    uint8_t out[64];
+    size_t taken, all = 0;
+    do {
+        must(kalyubos_take_output(&board, 0, out, sizeof out, &taken), "take_output");
+        all += fwrite(out, 1, taken, stdout);
+    } while (taken != 0);
+    return all != 0;
+}
+
+/* A store. Where the console has no room for what comes of it, room is made, and the same store is made again. */
 static void set(uint8_t window, uint16_t offset, uint32_t value)
 {
-    must(kalyubos_write(&board, 0, window, offset, 4, value), "write");
+    uint32_t answer;
+    do
+        answer = kalyubos_write(&board, 0, window, offset, 4, value);
+    while (answer == KALYUBOS_NO_ROOM && show());
+    must(answer, "write");
 }
 
 static void store(uint64_t addr, const void *from, size_t len)
@@ -46,6 +63,7 @@ static void load(uint64_t addr, void *into, size_t len)
 
 static const uint64_t MEMORY = 0x80000000;
 
+enum { OUTLET = 0x8000 /* a chain of Linux's console has 32 KiB at most */ };
 enum { MEMORY_LEN = 0x10000, TABLE = 0x1000, AVAIL = 0x2000, USED = 0x3000, DATA = 0x4000 };
 enum { NEXT = 1, WRITE = 2 };
 
@@ -136,18 +154,19 @@ int main(void)
 {
     static uint8_t image[2 * 512];
     strcpy((char *)image + 512, "hello from sector 1\n");
-    struct kalyubos_slot slot = { MEMORY, MEMORY_LEN, 0, 2, 80, 25, false };
+    struct kalyubos_slot slot = {
+        .base = MEMORY, .len = MEMORY_LEN, .start = 0, .count = 2, .cols = 80, .rows = 25, .outlet = OUTLET,
+    };
     must(kalyubos_create(&board, &slot, 1, image, sizeof image, 8), "create");
 
     guest();
 
-    uint8_t out[64], block, console;
-    size_t taken;
+    uint8_t block, console;
     bool disturbed;
-    must(kalyubos_take_output(&board, 0, out, sizeof out, &taken), "take_output");
+    printf("console: ");
+    show();
     must(kalyubos_interrupts(&board, 0, &block, &console), "interrupts");
     must(kalyubos_disturbed(&board, 0, &disturbed), "disturbed");
-    printf("console: %.*s", (int)taken, (const char *)out);
     printf("interrupts: %u and %u, disturbed: %d\n", block, console, disturbed);
     must(kalyubos_destroy(&board), "destroy");
     return 0;

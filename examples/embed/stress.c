@@ -1,7 +1,8 @@
 /*
  * Four boards of sixteen guests, and calls of random kind and value.
  *
- *     stress CALLS SEED                   under a heap that refuses at random; ends with 1 where a block leaks
+ *     stress CALLS SEED                   under a heap that refuses at random; ends with 1 where a block leaks, and
+ *                                         where a call but create and destroy comes to the heap
  *     stress CALLS SEED TRACE RECORDS     with ample memory; the first board's events are written as a trace, and
  *                                         what they were answered as records, for vreplay to say the same
  */
@@ -12,8 +13,9 @@
 
 #include "kalyubos.h"
 
-enum { BOARDS = 4, SLOTS = 16, MEMORY_LEN = 0x8000, SECTORS = 64, BUFFER = 2048 };
+enum { BOARDS = 4, SLOTS = 16, MEMORY_LEN = 0x8000, SECTORS = 64, BUFFER = 2048, MOST_OUTPUT = 1 << 20 };
 static const uint64_t MEMORY = 0x80000000;
+static const uint32_t OUTLETS[] = { 0, 1, 4095, 1 << 16 };
 
 /* ---- chance: the same numbers from the same seed */
 
@@ -27,12 +29,22 @@ static uint64_t chance(uint64_t below)
     return (state >> 11) % below;
 }
 
-/* ---- the heap: it counts what it gave, and refuses one growth in `refuses` */
+/* ---- the heap: it counts what it gave, refuses one growth in `refuses`, and is open to create and destroy alone */
 
 static uint64_t refuses, refused, live;
+static bool heap_is_open;
+
+static void need_open(void)
+{
+    if (!heap_is_open) {
+        fprintf(stderr, "a call but create and destroy came to the heap\n");
+        exit(1);
+    }
+}
 
 static bool refuse(void)
 {
+    need_open();
     bool no = refuses != 0 && chance(refuses) == 0;
     refused += no;
     return no;
@@ -54,6 +66,7 @@ struct kalyubos_block rattle_realloc(void *at, size_t kept, size_t size, size_t 
 
 void rattle_dealloc(void *at)
 {
+    need_open();
     live -= at != NULL;
     free(at);
 }
@@ -82,7 +95,7 @@ static void put_bytes(FILE *file, const uint8_t *bytes, size_t len)
 /* Writes the rest of an event's record, after its reply: the output, and both interrupt words. */
 static void end_record(struct kalyubos *board, uint8_t slot)
 {
-    static uint8_t out[1 << 20];
+    static uint8_t out[MOST_OUTPUT];
     uint8_t block = 0, console = 0;
     size_t taken = 0;
     kalyubos_take_output(board, slot, out, sizeof out, &taken);
@@ -95,7 +108,7 @@ static void end_record(struct kalyubos *board, uint8_t slot)
 static void begin_record(uint8_t slot, uint32_t answer, const char *done)
 {
     const char *reply = answer == KALYUBOS_DONE ? done : answer == KALYUBOS_BAD_SLOT ? "badslot"
-                        : answer == KALYUBOS_BAD_RANGE ? "badrange" : "nomem";
+                        : answer == KALYUBOS_BAD_RANGE ? "badrange" : "noroom";
     fprintf(records, "%x %s", slot, reply);
 }
 
@@ -248,10 +261,19 @@ static void offer(struct kalyubos *board, uint8_t slot, uint8_t window)
 static void make(struct kalyubos *board)
 {
     bool had = board->at != NULL;
+    heap_is_open = true;
     uint32_t answer = kalyubos_create(board, slots, chance(50) ? SLOTS : chance(SLOTS + 2), image, sizeof image,
                                       chance(50) ? 8 : 0);
+    heap_is_open = false;
     if ((answer == KALYUBOS_HAS_BOARD) != had || (answer == KALYUBOS_DONE || had) != (board->at != NULL))
         fail("create", answer);
+}
+
+static void end(struct kalyubos *board)
+{
+    heap_is_open = true;
+    kalyubos_destroy(board);
+    heap_is_open = false;
 }
 
 static void call(struct kalyubos *board)
@@ -280,7 +302,7 @@ static void call(struct kalyubos *board)
     default: offer(board, slot, window);
     }
     if (records == NULL && chance(2000) == 0)
-        chance(2) ? (void)kalyubos_destroy(board) : make(board);
+        chance(2) ? end(board) : make(board);
 }
 
 static void open_files(const char *trace_path, const char *records_path)
@@ -289,6 +311,8 @@ static void open_files(const char *trace_path, const char *records_path)
     records = fopen(records_path, "w");
     if (trace == NULL || records == NULL)
         fail("files", 0);
+    for (int i = 0; i < SLOTS; i++)
+        slots[i].outlet = MOST_OUTPUT;
     fprintf(trace, "vreplay 1\ncache 8\n");
     for (int i = 0; i < SLOTS; i++)
         fprintf(trace, "slot %" PRIx64 " %x %" PRIx64 " %" PRIx64 " %s %x %x\n", slots[i].base, MEMORY_LEN,
@@ -300,12 +324,15 @@ int main(int argc, char **argv)
     uint64_t calls = argc > 1 ? strtoull(argv[1], NULL, 10) : 1000;
     state = 0x9e3779b97f4a7c15 + (argc > 2 ? strtoull(argv[2], NULL, 10) : 0);
     for (int i = 0; i < SLOTS; i++)
-        slots[i] = (struct kalyubos_slot){ MEMORY, MEMORY_LEN, 4 * (uint64_t)i, 4, 80, 25, i % 5 == 4 };
+        slots[i] = (struct kalyubos_slot){ MEMORY, MEMORY_LEN, 4 * (uint64_t)i, 4, 80, 25, OUTLETS[i % 4],
+                                           i % 5 == 4 };
     if (argc > 4)
         open_files(argv[3], argv[4]);
+    heap_is_open = true;
     for (int i = 0; i < BOARDS; i++)
         if (kalyubos_create(&boards[i], slots, SLOTS, image, sizeof image, 8) != KALYUBOS_DONE)
             fail("first create", 0);
+    heap_is_open = false;
     refuses = records == NULL ? 50 : 0;
     for (uint64_t i = 0; i < calls; i++) {
         struct kalyubos *board = &boards[chance(BOARDS)];
@@ -314,7 +341,7 @@ int main(int argc, char **argv)
         call(board);
     }
     for (int i = 0; i < BOARDS; i++)
-        kalyubos_destroy(&boards[i]);
+        end(&boards[i]);
     printf("%" PRIu64 " turns, %" PRIu64 " growths refused, %" PRIu64 " blocks left\n", calls, refused, live);
     return live != 0;
 }

@@ -1,2 +1,3 @@
 pub mod AsBox
 pub mod HandleSteps
+pub mod Outlets

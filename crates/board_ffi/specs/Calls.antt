@@ -1,5 +1,5 @@
 -- What a call does to the board behind its handle.
-use Rattle.std.specs.Prelude.{◌≡◌, ℕ, ◌==◌, if◌then◌else◌, ◌<◌, ◌≤◌, ◌+◌, ◌++◌, Bool, List, Option, Some, None, IsTrue, MatchOption, IsSomeAnd, length, min, take, drop, slice_set}
+use Rattle.std.specs.Prelude.{◌≡◌, ℕ, ◌==◌, if◌then◌else◌, ◌<◌, ◌≤◌, ◌+◌, ◌++◌, Bool, List, Option, Some, None, IsTrue, MatchOption, IsSomeAnd, length, min, take, drop, false}
 use Rattle.std.specs.List.{slice_get}
 use Rattle.std.specs.Option.{option_map}
 use Rattle.std.specs.Global.{Global}
@@ -8,7 +8,7 @@ use Rattle.mmio_window.specs.declared.device_kind.DeviceKind.TheVariants.{Block,
 use Rattle.board.specs.declared.event.EventKind.{EventKind}
 use Rattle.board.specs.declared.reply.Reply.{Reply}
 use Rattle.board.specs.Slot.{interrupt_words}
-use Rattle.board.specs.World.{disturbed_of}
+use Rattle.embed.specs.Course.{IsTaken}
 use Rattle.embed.specs.Session.{SessionState, IsStep, output_of}
 use Rattle.board_ffi.specs.Codes.{is_reply, reply_of}
 use Rattle.board_ffi.specs.Handle.{Held}
@@ -34,7 +34,7 @@ pub record MovesOutput (slot : ℕ) (into_old into_new : List ℕ) (taken : ℕ)
   pub there : slot < length old.slots
   pub count : taken ≡ min (length (output_of slot old)) (length into_old)
   pub moved : into_new ≡ take taken (output_of slot old) ++ drop taken into_old
-  pub left : new ≡ record old { outputs = slice_set old.outputs slot (drop taken (output_of slot old)) }
+  pub left : IsTaken old slot (length into_old) (take taken (output_of slot old)) new
 
 -- there is no such slot, and nothing changes
 pub record IsMissing (slot code : ℕ) (old new : SessionState) : Type 0 where
@@ -47,9 +47,10 @@ pub record HasWords (slot block console : ℕ) (old new : SessionState) : Type 0
   pub words : option_map interrupt_words (slice_get old.slots slot) ≡ Some (block, console)
   pub kept : new ≡ old
 
--- whether an event of a slot ever met a refusal, and nothing changes
-pub record IsNotedAs (slot : ℕ) (disturbed : Bool) (old new : SessionState) : Type 0 where
-  pub noted : slice_get (disturbed_of old.slots) slot ≡ Some disturbed
+-- there is such a slot, no call of its image failed, and nothing changes
+pub record IsUndisturbed (slot : ℕ) (disturbed : Bool) (old new : SessionState) : Type 0 where
+  pub there : slot < length old.slots
+  pub noted : disturbed ≡ false
   pub kept : new ≡ old
 
 -- the image's length, and nothing changes

@@ -9,7 +9,7 @@ use Rattle.board.specs.declared.reply.Reply.TheVariants as reply
 use Rattle.board.specs.declared.fault.BoardFault.{BoardFault}
 use Rattle.board.specs.declared.fault.BoardFault.TheVariants as board
 use Rattle.embed.specs.declared.refusal.Refusal.{Refusal}
-use Rattle.embed.specs.declared.refusal.Refusal.TheVariants.{BadSlot, BadRange, NoMemory}
+use Rattle.embed.specs.declared.refusal.Refusal.TheVariants.{BadSlot, BadRange, NoRoom}
 use Rattle.embed.specs.declared.fault.SessionFault.{SessionFault}
 use Rattle.embed.specs.declared.fault.SessionFault.TheVariants as session
 
@@ -17,9 +17,10 @@ use Rattle.embed.specs.declared.fault.SessionFault.TheVariants as session
 abbrev pub refusal_code : Refusal → ℕ
 refusal_code BadSlot = 3
 refusal_code BadRange = 4
-refusal_code NoMemory = 5
+refusal_code NoRoom = 15
 
--- the board's reply that a number stands for, where this one is what a call that is done is replied
+-- the board's reply that a number stands for, where this one is what a call that is done is replied; where an outlet
+-- has no room the board has no memory for the output
 abbrev pub reply_of : {A : Type 0} → ℕ → Reply A → Reply A
 reply_of code done =
     if code == 0 then done
@@ -27,7 +28,7 @@ reply_of code done =
 
 -- the numbers that a call answers which comes to a board's reply
 abbrev pub is_reply : ℕ → Bool
-is_reply code = (code == 0) || (code == 3) || (code == 4) || (code == 5)
+is_reply code = (code == 0) || (code == 3) || (code == 4) || (code == 15)
 
 -- a board that was refused
 abbrev pub board_code : BoardFault → ℕ
@@ -45,5 +46,6 @@ board_code board.NoMemory = 5
 -- a session that was refused
 abbrev pub fault_code : SessionFault → ℕ
 fault_code session.BadImage = 7
+fault_code session.BadOutlet = 16
 fault_code (session.Board why) = board_code why
 fault_code session.NoMemory = 5

@@ -35,6 +35,10 @@ pub(crate) const EXTENTS_OVERLAP: u32 = 13;
 
 pub(crate) const BAD_CACHE: u32 = 14;
 
+pub(crate) const NO_ROOM: u32 = 15;
+
+pub(crate) const BAD_OUTLET: u32 = 16;
+
 /// The number of a call that was refused.
 pub(crate) fn of_refusal(why: Refusal) -> u32
     ensures { result ≡ refusal_code why }
@@ -42,7 +46,7 @@ pub(crate) fn of_refusal(why: Refusal) -> u32
     match why {
         Refusal::BadSlot => BAD_SLOT,
         Refusal::BadRange => BAD_RANGE,
-        Refusal::NoMemory => NO_MEMORY,
+        Refusal::NoRoom => NO_ROOM,
     }
 }
 
@@ -52,6 +56,7 @@ pub(crate) fn of_fault(why: SessionFault) -> u32
 {
     match why {
         SessionFault::BadImage => BAD_IMAGE,
+        SessionFault::BadOutlet => BAD_OUTLET,
         SessionFault::Board(why) => of_board_fault(why),
         SessionFault::NoMemory => NO_MEMORY,
     }

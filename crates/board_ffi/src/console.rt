@@ -1,6 +1,6 @@
 //! A guest's console from the outside: what is typed, its size, and what it puts out.
 
-ghost use Rattle.std.specs.Prelude.{◌≡◌, ◌≢◌, ◌<◌, length, IsSomeAnd};
+ghost use Rattle.std.specs.Prelude.{◌≡◌, ◌≢◌, ◌⊎◌};
 ghost use Rattle.board.specs.declared.event.EventKind.{EventKind};
 ghost use Rattle.board.specs.declared.reply.Reply.{Reply};
 ghost use Rattle.board_ffi.specs.Calls.{Calls, IsMissing, MovesOutput, Takes};
@@ -18,10 +18,9 @@ pub extern "C" fn kalyubos_input(
     bytes: &[u8],
     took: &mut usize,
 ) -> u32
-    ensures step { result ≢ 5 → Calls board.old.session board.new.session result
+    ensures step { Calls board.old.session board.new.session result
         (Takes slot (EventKind.Input bytes.now) result (Reply.Took took.new)) }
-    ensures no_memory { result ≡ 5 → board.new.session ≡ board.old.session }
-    ensures no_memory_there { result ≡ 5 → IsSomeAnd board.old.session (λ old. slot < length old.slots) }
+    ensures refused { (result ≡ 0) ⊎ (result ≡ 1) ⊎ (result ≡ 3) }
     ensures kept { result ≢ 0 → took.new ≡ took.old }
 {
     let Some(mut session) = board.take(alloc) else {

@@ -1,21 +1,24 @@
 //! A board is made of what C describes, and is destroyed.
 
-ghost use Rattle.std.specs.Prelude.{◌≡◌, ◌≢◌, ◌⊎◌, ◌/◌, ◌%◌, Some, None, MatchOption, IfOk, IfErr, OnOk, IfSome, IsErrAnd, IsErrOf, length, map};
+ghost use Rattle.std.specs.Prelude.{◌≡◌, ◌≢◌, ◌⊎◌, ◌↔◌, ◌≤◌, ◌/◌, ◌%◌, All, IsTrue, Some, None, MatchOption, IfOk, IfErr, OnOk, IfSome, IsErrAnd, IsErrOf, length, map};
 ghost use Rattle.board.specs.declared.fault.BoardFault.{BoardFault};
 ghost use Rattle.board.specs.Fault.{IsAccepted};
 ghost use Rattle.embed.specs.declared.fault.SessionFault.{SessionFault};
-ghost use Rattle.embed.specs.Refusing.{IsBoardFault, IsRefusedFor};
-ghost use Rattle.embed.specs.Session.{new_session};
+ghost use Rattle.embed.specs.Refusing.{AreOutlets, IsBoardFault, IsRefusedFor};
+ghost use Rattle.embed.specs.Session.{new_session, slots_of};
 ghost use Rattle.board_ffi.specs.Codes.{board_code};
-ghost use Rattle.board_ffi.specs.Create.{IsMade, IsNotMade, spec_of};
+ghost use Rattle.board_ffi.specs.Create.{IsMade, IsNotMade, guest_of};
 
 use crate::codes::{DONE, HAS_BOARD, NO_BOARD, NO_MEMORY, of_fault};
 use crate::handle::Handle;
-use embed::{Extent, Session, SessionFault, SlotSpec};
+use embed::{Extent, GuestSpec, Session, SessionFault, SlotSpec};
 use std::alloc::{AllocError, Global};
 
 /// The length of a sector in bytes (5.2).
 const SECTOR_LEN: usize = 512;
+
+/// How many bytes of a console's output may wait at most.
+const MOST_WAITING: u32 = 0x100_0000;
 
 /// A slot, as C describes it.
 #[derive(Clone, Copy)]
@@ -27,15 +30,16 @@ pub struct Slot {
     pub count: u64,
     pub cols: u16,
     pub rows: u16,
+    pub outlet: u32,
     pub read_only: bool,
 }
 
 impl Slot {
-    // What the board calls it.
-    fn spec(&self) -> SlotSpec
-        ensures { result ≡ spec_of self.now }
+    // Its guest.
+    fn guest(&self) -> GuestSpec
+        ensures { result ≡ guest_of self.now }
     {
-        SlotSpec {
+        let slot = SlotSpec {
             base: self.base,
             len: self.len,
             extent: Extent {
@@ -45,6 +49,10 @@ impl Slot {
             read_only: self.read_only,
             cols: self.cols,
             rows: self.rows,
+        };
+        GuestSpec {
+            slot,
+            outlet: self.outlet,
         }
     }
 }
@@ -61,14 +69,16 @@ pub extern "C" fn kalyubos_create(
 ) -> u32
     ensures full { IfSome board.old.session (λ old. (result ≡ 2) × (board.new.session ≡ Some old)) }
     ensures made { board.old.session ≡ None → result ≡ 0 →
-        IsMade (map spec_of slots.now) image.now cache board.new.session }
+        IsMade (map guest_of slots.now) image.now cache board.new.session }
     ensures not_made { board.old.session ≡ None → result ≢ 0 →
-        IsNotMade (map spec_of slots.now) image.now cache result board.new.session }
+        IsNotMade (map guest_of slots.now) image.now cache result board.new.session }
 
     // exactly that number, but that want of memory may come before a board's
     ensures bad_image { board.old.session ≡ None → length image.now % 512 ≢ 0 → result ≡ 7 }
+    ensures bad_outlet { board.old.session ≡ None → length image.now % 512 ≡ 0 →
+        ¬ AreOutlets (map guest_of slots.now) → result ≡ 16 }
     ensures bad_board { board.old.session ≡ None → (fault : BoardFault) →
-        IsBoardFault (map spec_of slots.now) image.now cache fault →
+        IsBoardFault (map guest_of slots.now) image.now cache fault →
         (result ≡ board_code fault) ⊎ (result ≡ 5) }
 {
     if let Some(held) = board.take(alloc) {
@@ -106,33 +116,49 @@ fn session(
     image: &[u8],
     cache: u32,
 ) -> Result<Box<Session>, SessionFault>
-    ensures made { IfOk result (λ session. session.value ≡ new_session (map spec_of slots.now) image.now) }
-    ensures accepted { OnOk result (IsAccepted (length image.now / 512) (map spec_of slots.now) cache) }
-    ensures fault { IfErr result (IsRefusedFor (map spec_of slots.now) image.now cache) }
+    ensures made { IfOk result (λ session. session.value ≡ new_session (map guest_of slots.now) image.now) }
+    ensures accepted { OnOk result (IsAccepted (length image.now / 512) (slots_of (map guest_of slots.now)) cache) }
+    ensures outlets { OnOk result (AreOutlets (map guest_of slots.now)) }
+    ensures fault { IfErr result (IsRefusedFor (map guest_of slots.now) image.now cache) }
     ensures bad_image { length image.now % 512 ≢ 0 → IsErrOf result SessionFault.BadImage }
-    ensures bad_board { (fault : BoardFault) → IsBoardFault (map spec_of slots.now) image.now cache fault →
+    ensures bad_outlet { length image.now % 512 ≡ 0 → ¬ AreOutlets (map guest_of slots.now) →
+        IsErrOf result SessionFault.BadOutlet }
+    ensures bad_board { (fault : BoardFault) → IsBoardFault (map guest_of slots.now) image.now cache fault →
         IsErrAnd result (λ why. (why ≡ SessionFault.Board fault) ⊎ (why ≡ SessionFault.NoMemory)) }
 {
     if !image.len().is_multiple_of(SECTOR_LEN) {
         return Err(SessionFault::BadImage);
     }
-    let Ok(specs) = specs(alloc, slots) else {
+    if !are_outlets(slots) {
+        return Err(SessionFault::BadOutlet);
+    }
+    let Ok(guests) = guests(alloc, slots) else {
         return Err(SessionFault::NoMemory);
     };
-    let session = Session::new(alloc, &specs, image, cache)?;
+    let session = Session::new(alloc, &guests, image, cache)?;
     match Box::new(alloc, session) {
         Ok(session) => Ok(session),
         Err(_) => Err(SessionFault::NoMemory),
     }
 }
 
-// The slots as the board calls them.
-fn specs(alloc: Global, slots: &[Slot]) -> Result<Vec<SlotSpec>, AllocError>
-    ensures { IfOk result (λ specs. specs.items ≡ map spec_of slots.now) }
+// Whether no slot's outlet is larger than it may be.
+fn are_outlets(slots: &[Slot]) -> bool
+    ensures { IsTrue result ↔ AreOutlets (map guest_of slots.now) }
 {
-    let mut specs = Vec::with_capacity(alloc, slots.len())?;
-    for slot in slots {
-        specs.push(slot.spec())?;
-    }
-    Ok(specs)
+    no_slot_passes(slots, MOST_WAITING)
+}
+
+// Whether no slot's outlet passes so many bytes.
+fn no_slot_passes(slots: &[Slot], most: u32) -> bool
+    ensures { IsTrue result ↔ All (λ slot. slot.outlet ≤ most) slots.now }
+{
+    slots.iter().all(|slot| slot.outlet <= most)
+}
+
+// The guests of these slots.
+fn guests(alloc: Global, slots: &[Slot]) -> Result<Vec<GuestSpec>, AllocError>
+    ensures { IfOk result (λ guests. guests.items ≡ map guest_of slots.now) }
+{
+    slots.iter().map(|slot| slot.guest()).collect(alloc)
 }

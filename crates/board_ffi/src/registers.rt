@@ -3,7 +3,7 @@
 ghost use Rattle.std.specs.Prelude.{◌≡◌, ◌≢◌, MatchOption};
 ghost use Rattle.board.specs.declared.event.EventKind.{EventKind};
 ghost use Rattle.board.specs.declared.reply.Reply.{Reply};
-ghost use Rattle.board_ffi.specs.Calls.{Calls, HasWords, IsMissing, IsNotedAs, Takes, window_of};
+ghost use Rattle.board_ffi.specs.Calls.{Calls, HasWords, IsMissing, IsUndisturbed, Takes, window_of};
 
 use crate::codes::{BAD_SLOT, BAD_WINDOW, DONE, NO_BOARD, of_refusal};
 use crate::handle::Handle;
@@ -115,7 +115,7 @@ pub extern "C" fn kalyubos_interrupts(
     }
 }
 
-/// Tells whether an event of a guest ever met a want of memory.
+/// Tells whether a call of the image failed for a guest: none does, of an image in memory.
 #[unsafe(no_mangle)]
 pub extern "C" fn kalyubos_disturbed(
     alloc: Global,
@@ -124,7 +124,7 @@ pub extern "C" fn kalyubos_disturbed(
     disturbed: &mut bool,
 ) -> u32
     ensures told { result ≡ 0 → Calls board.old.session board.new.session result
-        (IsNotedAs slot disturbed.new) }
+        (IsUndisturbed slot disturbed.new) }
     ensures missing { result ≢ 0 → Calls board.old.session board.new.session result
         (IsMissing slot result) }
     ensures kept { result ≢ 0 → disturbed.new ≡ disturbed.old }

@@ -18,6 +18,7 @@ const SLOT: Slot = Slot {
     count: 2,
     cols: 80,
     rows: 25,
+    outlet: 2,
     read_only: false,
 };
 
@@ -57,8 +58,17 @@ fn a_handle_goes_to_another_thread_with_its_board(rt: HostRuntime) -> Result<(),
 const CUT: [u8; 768] = [7; 768];
 
 /// Slots, an image, the cache's capacity, and what creating them answers.
-const BOARDS: [(&[Slot], &[u8], u32, u32); 9] = [
+const BOARDS: [(&[Slot], &[u8], u32, u32); 10] = [
     (&[SLOT], &CUT, 1, 7),
+    (
+        &[Slot {
+            outlet: 0x100_0001,
+            ..SLOT
+        }; 17],
+        &IMAGE,
+        1,
+        16,
+    ),
     (&[], &IMAGE, 1, 8),
     (&[SLOT; 17], &IMAGE, 1, 9),
     (&[Slot { len: 0x800, ..SLOT }], &IMAGE, 1, 10),
@@ -216,6 +226,50 @@ fn what_a_console_puts_out_is_taken(rt: HostRuntime) -> Result<(), Fail> {
         kalyubos_take_output(alloc, &mut board, 1, &mut out, &mut taken),
         3,
     );
+    Ok(())
+}
+
+/// Two guests, each of which may have two bytes waiting.
+const TWO: [Slot; 2] = [
+    Slot { count: 1, ..SLOT },
+    Slot {
+        start: 1,
+        count: 1,
+        ..SLOT
+    },
+];
+
+/// An emergency write of this byte.
+fn say(alloc: Global, board: &mut Handle, slot: u8, byte: u8) -> u32 {
+    kalyubos_write(alloc, board, slot, 1, 0x108, 4, byte as u32)
+}
+
+#[test]
+fn a_full_outlet_refuses_its_own_guest_alone(rt: HostRuntime) -> Result<(), Fail> {
+    let alloc = rt.alloc();
+    let mut board = Handle::empty(alloc);
+    same(&rt, kalyubos_create(alloc, &mut board, &TWO, &IMAGE, 1), 0);
+    // slot, byte and answer, one after another
+    for (slot, byte, want) in &[
+        (0, b'a', 0),
+        (0, b'b', 0),
+        (0, b'c', 15),
+        (1, b'd', 0),
+        (0, b'c', 15),
+        (1, b'e', 0),
+        (1, b'f', 15),
+    ] {
+        same(&rt, say(alloc, &mut board, *slot, *byte), *want);
+    }
+    let (mut out, mut taken) = ([0; 1], 9);
+    same(
+        &rt,
+        kalyubos_take_output(alloc, &mut board, 0, &mut out, &mut taken),
+        0,
+    );
+    same(&rt, (out, taken), ([b'a'], 1));
+    same(&rt, say(alloc, &mut board, 1, b'f'), 15);
+    same(&rt, say(alloc, &mut board, 0, b'c'), 0);
     Ok(())
 }
 

@@ -26,6 +26,7 @@ pub struct Slot {
     pub count: u64,
     pub cols: u16,
     pub rows: u16,
+    pub outlet: u32,
     pub read_only: bool,
 }
 

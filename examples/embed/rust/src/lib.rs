@@ -31,14 +31,16 @@ pub enum Refusal {
     ExtentOutside = 12,
     ExtentsOverlap = 13,
     BadCache = 14,
+    NoRoom = 15,
+    BadOutlet = 16,
 }
 
 /// What a call's number says.
 fn answer(number: u32) -> Result<(), Refusal> {
     use Refusal::*;
-    const REFUSALS: [Refusal; 14] = [
+    const REFUSALS: [Refusal; 16] = [
         NoBoard, HasBoard, BadSlot, BadRange, NoMemory, BadWindow, BadImage, NoSlots, TooManySlots,
-        BadMemorySize, BadMemoryBase, ExtentOutside, ExtentsOverlap, BadCache,
+        BadMemorySize, BadMemoryBase, ExtentOutside, ExtentsOverlap, BadCache, NoRoom, BadOutlet,
     ];
     match number {
         0 => Ok(()),

@@ -122,6 +122,7 @@ fn main() -> Result<(), Refusal> {
         count: 2,
         cols: 80,
         rows: 25,
+        outlet: 0x8000,
         read_only: false,
     };
     let mut board = Board::new(&[slot], &image, 8)?;
