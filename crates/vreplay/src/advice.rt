@@ -4,9 +4,11 @@ ghost use Rattle.std.specs.Prelude.{◌≡◌, Err};
 
 use crate::fault::Fault;
 use crate::line_table::{Shape, field_at_fault, line_of, row_of};
+use crate::whose::{slot_at_fault, slot_of};
 use board::BoardFault;
 use guest_memory::MemoryFault;
-use sector_cache::CacheFault;
+use sector_cache::{BackingFile, CacheFault, FileCall, FileFailure, FileImage};
+use std::alloc::Allocator;
 use std::fmt::{Display, Formatter};
 use std::{fmt, io};
 use trace::{FaultKind, ReplayFault, TraceFault};
@@ -24,6 +26,10 @@ pub enum Advice<'a> {
     Unread(&'a str),
     /// A file of which the length is none of an image.
     Ragged(&'a str),
+    /// What can't be served in place, since it is neither a file nor a block device, and what somebody else holds a
+    /// lock on.
+    NoFile(&'a str),
+    Locked(&'a str),
     /// A file that can't be saved to, because it can't be made, or written whole.
     Unmade(&'a str, io::Error),
     Unsaved(&'a str),
@@ -31,7 +37,12 @@ pub enum Advice<'a> {
     Output,
     /// A line of a trace that is refused, and its text.
     Line(TraceFault, &'a [u8]),
-    Board(BoardFault),
+    /// A board that is refused, and the slot at which.
+    Board(BoardFault, Option<usize>),
+    /// How many calls of an image that was served in place failed, the first, and whose sector that was.
+    Failed(&'a str, u64, FileFailure, Option<usize>),
+    /// The numbers of the standard streams can't be held.
+    Streams(io::Error),
     /// Want of memory, and what it was wanted for.
     Memory(&'static str),
 }
@@ -49,18 +60,40 @@ pub fn refuse<T, F, R: Eprint>(rt: &R, fault: F, advice: Advice<'_>) -> Result<T
     Err(fault)
 }
 
-/// Tells a person why this text's replay did not come to its end, where it didn't.
-pub fn told<T, R: Eprint>(
+/// Tells a person why this text's replay over so many sectors did not come to its end, where it didn't.
+pub fn told<T, A: Allocator + Copy, R: Eprint>(
     rt: &R,
+    alloc: A,
     text: &[u8],
+    sectors: u64,
     outcome: Result<T, ReplayFault>,
 ) -> Result<T, ReplayFault>
     ensures { result ≡ outcome }
 {
     if let Err(fault) = &outcome {
-        tell(rt, Advice::on_replay(*fault, text));
+        tell(
+            rt,
+            Advice::on_replay(*fault, text).at_slot(alloc, text, sectors),
+        );
     }
     outcome
+}
+
+/// Tells a person how many calls of an image that was served in place have failed, where any has.
+pub fn tell_failures<A: Allocator + Copy, R: Eprint, F: BackingFile>(
+    rt: &R,
+    alloc: A,
+    text: &[u8],
+    path: &str,
+    image: &FileImage<F>,
+) {
+    if let Some(first) = image.first_failure() {
+        let slot = match first.sector {
+            Some(sector) => slot_of(alloc, text, sector),
+            None => None,
+        };
+        tell(rt, Advice::Failed(path, image.failures(), first, slot));
+    }
 }
 
 impl<'a> Advice<'a> {
@@ -77,9 +110,19 @@ impl<'a> Advice<'a> {
                 | BoardFault::Memory(MemoryFault::NoMemory)
                 | BoardFault::Cache(CacheFault::NoMemory),
             ) => Advice::Memory("the board"),
-            ReplayFault::Board(fault) => Advice::Board(fault),
+            ReplayFault::Board(fault) => Advice::Board(fault, None),
             ReplayFault::Run(_) | ReplayFault::NoMemory => Advice::Memory("the records"),
             ReplayFault::Write => Advice::Output,
+        }
+    }
+
+    // The same, with the slot at which a board is refused over an image of so many sectors.
+    fn at_slot<A: Allocator + Copy>(self, alloc: A, text: &[u8], sectors: u64) -> Advice<'a> {
+        match self {
+            Advice::Board(fault, _) => {
+                Advice::Board(fault, slot_at_fault(alloc, text, sectors, fault))
+            }
+            other => other,
         }
     }
 
@@ -111,13 +154,59 @@ impl Display for Advice<'_> {
                 f,
                 "{name:?} is no image, which is whole sectors of 512 bytes each"
             ),
+            Advice::NoFile(name) => write!(
+                f,
+                "{name:?} is neither a file nor a block device, so it can't be served in place"
+            ),
+            Advice::Locked(name) => write!(f, "{name:?} is locked: somebody else uses it"),
             Advice::Unmade(name, error) => write!(f, "{name:?} can't be made: {error}"),
             Advice::Unsaved(name) => write!(f, "{name:?} can't be written whole"),
             Advice::Output => write!(f, "standard output can't be written"),
             Advice::Line(fault, line) => write_line(f, *fault, line),
-            Advice::Board(fault) => write!(f, "the trace's board: {fault}"),
+            Advice::Board(fault, slot) => write_board(f, *fault, *slot),
+            Advice::Failed(name, count, first, slot) => {
+                write!(f, "{name:?}: {count} failed of its calls, first ")?;
+                write_failure(f, *first, *slot)
+            }
+            Advice::Streams(error) => write!(f, "the standard streams can't be held: {error}"),
             Advice::Memory(what) => write!(f, "no memory for {what}"),
         }
+    }
+}
+
+// Why a board is refused, and the slot at which, with the line where that stands.
+fn write_board<W: fmt::Write>(
+    f: &mut Formatter<W>,
+    fault: BoardFault,
+    slot: Option<usize>,
+) -> fmt::Result {
+    match slot {
+        Some(number) => {
+            let line = number.saturating_add(3);
+            write!(f, "slot {number} (line {line}): {fault}")
+        }
+        None => write!(f, "the trace's board: {fault}"),
+    }
+}
+
+// Which call of a file failed, whose sector it was, and the system's error.
+fn write_failure<W: fmt::Write>(
+    f: &mut Formatter<W>,
+    first: FileFailure,
+    slot: Option<usize>,
+) -> fmt::Result {
+    let call = match first.call {
+        FileCall::Read => "a read",
+        FileCall::Write => "a write",
+        FileCall::Sync => "a sync after a write",
+    };
+    let error = first.error;
+    match (first.sector, slot) {
+        (Some(sector), Some(number)) => {
+            write!(f, "{call} of sector {sector} (slot {number}): {error}")
+        }
+        (Some(sector), None) => write!(f, "{call} of sector {sector}: {error}"),
+        (None, _) => write!(f, "a sync: {error}"),
     }
 }
 

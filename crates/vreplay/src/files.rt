@@ -6,17 +6,17 @@ ghost use Rattle.std.specs.Fs.{asks_append, asks_create, asks_create_new, asks_r
 ghost use Rattle.trace.specs.LastLine.{AppendsFront};
 ghost use Rattle.vreplay.specs.Words.{saved_to};
 
-use crate::advice::{Advice, refuse, told};
+use crate::advice::{Advice, refuse, tell_failures, told};
 use crate::image::{NoImage, read_image};
-use crate::replayed::{replayed, replayed_over};
+use crate::replayed::replayed;
 use crate::words::{Call, Keeping};
-use sector_cache::{BackingFile, FileImage, FileImageFault, MemoryImage};
+use sector_cache::{BackingFile, FileImage, FileImageFault, Image, MemoryImage};
 use std::alloc::Allocator;
 use std::fs;
 use std::fs::OpenOptions;
 use std::io::Write;
 use std::rt::Files;
-use trace::{ReplayFault, gather, write_whole};
+use trace::{ReplayFault, gather, replay_text, write_whole};
 
 /// Replays the call's trace over its image. Where the call asks for it the image's bytes are then saved, or
 /// else the image is served in place. The answer is the file that was saved to. A person is told of each fault.
@@ -64,10 +64,17 @@ fn replay_whole<A: Allocator + Copy, R: Eprint + Files, W: Write>(
 ) -> Result<MemoryImage<A>, ReplayFault> {
     let image = image_in(rt, alloc, call.image)?;
     let text = text_in(rt, alloc, call.trace)?;
-    told(rt, &text, replayed(alloc, &text, out, image))
+    let sectors = image.sectors();
+    told(
+        rt,
+        alloc,
+        &text,
+        sectors,
+        replayed(alloc, &text, out, image),
+    )
 }
 
-// Replays the trace over the image's own file.
+// Replays the trace over the image's own file. A person is told where calls of that failed.
 fn replay_in_place<A: Allocator + Copy, R: Eprint + Files, W: Write>(
     rt: &R,
     alloc: A,
@@ -79,7 +86,11 @@ where
 {
     let image = image_at(rt, call.image)?;
     let text = text_in(rt, alloc, call.trace)?;
-    told(rt, &text, replayed_over(alloc, &text, out, image))
+    let (image, outcome) = replay_text(alloc, &text, out, image);
+    tell_failures(rt, alloc, &text, call.image, &image);
+    let sectors = image.sectors();
+    told(rt, alloc, &text, sectors, outcome)?;
+    Ok(image)
 }
 
 // The image of a file's bytes.
@@ -107,6 +118,8 @@ where
         Ok(image) => Ok(image),
         Err(FileImageFault::Io) => refuse(rt, ReplayFault::Read, Advice::Unread(path)),
         Err(FileImageFault::BadSize) => refuse(rt, ReplayFault::Read, Advice::Ragged(path)),
+        Err(FileImageFault::BadKind) => refuse(rt, ReplayFault::Read, Advice::NoFile(path)),
+        Err(FileImageFault::Locked) => refuse(rt, ReplayFault::Read, Advice::Locked(path)),
     }
 }
 

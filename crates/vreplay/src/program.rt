@@ -10,7 +10,7 @@ use crate::image::zero_image;
 use crate::last_line::end;
 use crate::replayed::replayed;
 use crate::words::read_words;
-use sector_cache::BackingFile;
+use sector_cache::{BackingFile, Image};
 use std::alloc::Allocator;
 use std::io;
 use std::io::{ErrorKind, Write};
@@ -57,6 +57,14 @@ pub fn refuse_words<R: Print + Eprint>(rt: &R, error: &io::Error) -> u8
     finish(&Err(fault), &mut io::writer(rt))
 }
 
+/// Writes the last line where the numbers of the standard streams can't be held, and answers the status.
+pub fn refuse_streams<R: Print + Eprint>(rt: &R, error: io::Error) -> u8
+    ensures { result ≡ 3 }
+{
+    tell(rt, Advice::Streams(error));
+    finish(&Err(ReplayFault::Read), &mut io::writer(rt))
+}
+
 // Does what the words ask for, all but the last line.
 fn carry_out<A: Allocator + Copy, R: Input + Eprint + Files + AllocGlobal, W: Write>(
     rt: &R,
@@ -95,6 +103,13 @@ fn replay_input<A: Allocator + Copy, R: Input + Eprint, W: Write>(
         Ok(text) => text,
         Err(fault) => return refuse(rt, fault, Advice::on_reading(fault, "standard input")),
     };
-    told(rt, &text, replayed(alloc, &text, out, image))?;
+    let sectors = image.sectors();
+    told(
+        rt,
+        alloc,
+        &text,
+        sectors,
+        replayed(alloc, &text, out, image),
+    )?;
     Ok(())
 }

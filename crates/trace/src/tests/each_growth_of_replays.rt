@@ -175,13 +175,13 @@ fn named(alloc: Global, places: &[Place]) -> Result<Vec<u64>, AllocError> {
 }
 
 /// Whether the places are answered in their order: four times the input, the lines, the board, once the text, and then
-/// the room for a record or its bytes.
+/// the room for records, asked for before the 1st, the 5th and the 9th of a piece of sixteen, and the bytes of 28.
 fn are_all(places: &[Place]) -> bool {
     are_in_order(places)
         && times(places, Place::Input) == 4
         && times(places, Place::Board) > 13
         && times(places, Place::Text) == 1
-        && times(places, Place::Run) > 34
+        && times(places, Place::Run) == 31
 }
 
 /// All places are answered, and each line that takes memory is named once.

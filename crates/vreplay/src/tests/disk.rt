@@ -3,7 +3,7 @@
 ghost use Rattle.std.specs.Prelude.{None, ⊤};
 
 use super::machine::unsupported;
-use sector_cache::BackingFile;
+use sector_cache::{BackingFile, FileImageFault};
 use std::alloc::Global;
 use std::cell::{Cell, RefCell};
 use std::fs::{Metadata, OpenFile, OpenOptions};
@@ -134,6 +134,10 @@ impl BackingFile for DiskFile<'_> {
     ghost held = { λ _. None };
 
     ghost IsSynced = { λ _. ⊤ };
+
+    fn hold(&mut self) -> Result<(), FileImageFault> {
+        Ok(())
+    }
 
     fn length(&mut self) -> io::Result<u64> {
         self.disk.call()?;

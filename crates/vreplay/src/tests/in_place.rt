@@ -8,21 +8,24 @@ use std::test::Fail;
 
 /// From which call on the files fail and how many bytes of the image are read or written at once, with the last
 /// record or line, the status, how many calls of the files there were, and how many bytes of the sector were
-/// written. The calls are: open the image, find its length, open the trace, read it and read its end, write the
-/// sector, sync it. A guest whose request failed finds the status 01.
+/// written. The calls are: open the image, find its length, open the trace, read it and read its end, find the image's
+/// length again, write the sector, whole or in pieces, and sync it. A guest whose request failed finds the status 01.
 type Row = (u32, usize, &'static [u8], u8, u32, usize);
 
-static ROWS: [Row; 10] = [
+static ROWS: [Row; 13] = [
     (0, 512, b"fault input\n", 3, 1, 0),
     (1, 512, b"fault input\n", 3, 2, 0),
     (2, 512, b"fault input\n", 3, 3, 0),
     (3, 512, b"fault input\n", 3, 4, 0),
     (4, 512, b"fault input\n", 3, 5, 0),
     (5, 512, b"0 b:01 - 1 0\n", 0, 6, 0),
-    (6, 512, b"0 b:01 - 1 0\n", 0, 7, 512),
-    (7, 256, b"0 b:01 - 1 0\n", 0, 6, 256),
-    (7, 0, b"0 b:01 - 1 0\n", 0, 6, 0),
-    (7, 512, b"0 b:00 - 1 0\n", 0, 7, 512),
+    (6, 512, b"0 b:01 - 1 0\n", 0, 7, 0),
+    (7, 512, b"0 b:01 - 1 0\n", 0, 8, 512),
+    (7, 256, b"0 b:01 - 1 0\n", 0, 8, 256),
+    (8, 256, b"0 b:01 - 1 0\n", 0, 9, 512),
+    (9, 256, b"0 b:00 - 1 0\n", 0, 9, 512),
+    (8, 0, b"0 b:01 - 1 0\n", 0, 7, 0),
+    (8, 512, b"0 b:00 - 1 0\n", 0, 8, 512),
 ];
 
 #[test]
@@ -61,6 +64,46 @@ fn expect_row(
         &(held.get(..split), held.get(split..)),
         &(front, rest),
     );
+    Ok(())
+}
+
+/// From which call on the files fail, and what a person is told.
+type Told = (u32, &'static [u8]);
+
+static TOLD: [Told; 4] = [
+    (
+        5,
+        b"\"image\": 1 failed of its calls, first a write of sector 2 (slot 0): other error\n",
+    ),
+    (
+        6,
+        b"\"image\": 1 failed of its calls, first a write of sector 2 (slot 0): other error\n",
+    ),
+    (
+        7,
+        b"\"image\": 1 failed of its calls, first a sync after a write of sector 2 (slot 0): other error\n",
+    ),
+    (8, b""),
+];
+
+#[test]
+fn a_person_is_told_of_the_first(rt: HostRuntime) -> Result<(), Fail> {
+    for row in &TOLD {
+        expect_told(&rt, row)?;
+    }
+    Ok(())
+}
+
+fn expect_told(rt: &(impl Abort + AllocGlobal), row: &Told) -> Result<(), Fail> {
+    let (fails_from, told) = *row;
+    let call = Call {
+        words: &["trace", "image", "--in-place"],
+        trace: WRITING,
+        fails_from,
+        ..SAVING
+    };
+    let done = made(rt, rt.alloc(), call)?;
+    same(rt, row, &done.told.as_slice(), &told);
     Ok(())
 }
 

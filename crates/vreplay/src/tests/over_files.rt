@@ -137,8 +137,8 @@ static ENDS: [End; 19] = [
     (("trace", "short", IN_PLACE), INPUT, 3),
     (("trace", "missing", IN_PLACE), INPUT, 3),
     (("trace", ".", IN_PLACE), INPUT, 3),
-    // a device that can't be sought in, where the system has one
-    (("trace", "/dev/ptmx", IN_PLACE), INPUT, 3),
+    // neither a file nor a block device
+    (("trace", "/dev/null", IN_PLACE), INPUT, 3),
     (("trace", "image", Keeping::Saved(".")), UNSAVED, 3),
     (
         ("trace", "image", Keeping::Saved("missing/saved")),

@@ -47,19 +47,19 @@ static TEXTS: [Text; 13] = [
     ),
     (
         b"vreplay 1\ncache 1\nslot 80000000 1000 0 9 rw 50 19\n",
-        "the trace's board: an extent passes the end of the image\n",
+        "slot 0 (line 3): an extent passes the end of the image\n",
     ),
     (
         b"vreplay 1\ncache 1\nslot 0 1000 0 2 rw 50 19\nslot 0 1000 1 1 ro 50 19\n",
-        "the trace's board: two extents share a sector\n",
+        "slot 1 (line 4): two extents share a sector\n",
     ),
     (
         b"vreplay 1\ncache 1\nslot 0 fff 0 1 rw 50 19\n",
-        "the trace's board: a guest's memory: the size is no multiple of 4096 from 4096 to 2^28\n",
+        "slot 0 (line 3): a guest's memory: the size is no multiple of 4096 from 4096 to 2^28\n",
     ),
     (
-        b"vreplay 1\ncache 1\nslot 1 1000 0 1 rw 50 19\n",
-        "the trace's board: a guest's memory: the base is no multiple of 4096, or the memory passes 2^64\n",
+        b"vreplay 1\ncache 1\nslot 0 1000 0 1 rw 50 19\nslot 1 1000 1 1 rw 50 19\n",
+        "slot 1 (line 4): a guest's memory: the base is no multiple of 4096, or the memory passes 2^64\n",
     ),
     (
         b"vreplay 1\ncache 0\nslot 0 1000 0 1 rw 50 19\n",
