@@ -1,0 +1,60 @@
+/*
+ * device.h: a virtio-mmio device that lives in this process, as the suite drives it.
+ *
+ * Fill a `struct device` in with your device, link it to run.c, and the program replays traces on it:
+ *
+ *     cc -std=c11 -O2 -o my_device run.c trace.c my_device.c
+ *     ../run-on --adapter --after --save ./my_device
+ */
+#ifndef DEVICE_H
+#define DEVICE_H
+
+#include <stdbool.h>
+#include <stddef.h>
+#include <stdint.h>
+
+/* One guest: its memory, the sectors of the image that its disk shows, and its console's size. */
+struct guest {
+    uint64_t base, len;
+    uint64_t start, count;
+    bool read_only;
+    uint16_t cols, rows;
+};
+
+/* All guests, and the image behind their disks: whole sectors of 512 bytes, the device's to read and to write. */
+struct setup {
+    const struct guest *guests;
+    size_t guests_len;
+    uint8_t *image;
+    size_t image_len;
+    uint32_t cache;
+};
+
+enum { BLOCK_WINDOW = 0, CONSOLE_WINDOW = 1 };
+
+/* The device. What a write or an input notifies is served before the call returns. */
+struct device {
+    /* A guest reads or writes `width` bytes (1, 2 or 4) at an offset of a window. A read has no effect. */
+    uint32_t (*read)(unsigned guest, unsigned window, unsigned offset, unsigned width);
+    void (*write)(unsigned guest, unsigned window, unsigned offset, unsigned width, uint32_t value);
+    /* Copies bytes into a guest's memory (`put`) or out of it. False, and nothing changed: not all of them lie in it. */
+    bool (*memory)(unsigned guest, uint64_t address, uint8_t *bytes, size_t len, bool put);
+    /* Types bytes to a guest's console; how many of them it took, the first ones. */
+    size_t (*input)(unsigned guest, const uint8_t *bytes, size_t len);
+    /* Gives a guest's console another size. */
+    void (*resize)(unsigned guest, uint16_t cols, uint16_t rows);
+    /*
+     * Makes the device before the first event, with memories of zeros; a null pointer, or the name of the fault for
+     * which there is none, as "BadSize". And ends it: the image then holds what the guests wrote.
+     */
+    const char *(*make)(const struct setup *setup);
+    void (*end)(void);
+};
+
+/* The device that run.c drives, and that fuzz.c compares with the C library of this repository. */
+extern const struct device device;
+
+/* A device calls this with what a guest's console puts out. */
+void put_out(unsigned guest, const uint8_t *bytes, size_t len);
+
+#endif

@@ -1,0 +1,69 @@
+/*
+ * A target for libFuzzer: bytes are read as a trace's text and replayed on `device`, yours, and on `kalyubos`, the C
+ * library of this repository. The first event whose records differ ends the program, and both records are told.
+ *
+ *     clang -std=c11 -g -O1 -fsanitize=fuzzer,address -I ../../board_ffi -DOURS -o fuzz fuzz.c trace.c kalyubos.c \
+ *         my_device.c ../../../examples/embed/heap.c ../../board_ffi/out/libboard_ffi.a
+ *     ./fuzz -only_ascii=1 -max_len=4000 found ../data/scenarios/reads ../data/scenarios/packed_rings
+ */
+#include <stdio.h>
+#include <stdlib.h>
+#include <string.h>
+
+#include "trace.h"
+
+extern const struct device kalyubos;
+
+enum { IMAGE = 8 * 512, MOST_MEMORY = 1 << 20 };
+
+/* One run: the device is made anew over sectors of 0x10, 0x11 and so on. */
+static bool begin(const struct device *one, const struct trace *trace, uint8_t *image)
+{
+    for (size_t i = 0; i < IMAGE; i++)
+        image[i] = (uint8_t)(0x10 + i / 512);
+    struct setup setup = {trace->guests, trace->guests_len, image, IMAGE, trace->cache};
+    return !one->make(&setup);
+}
+
+/* Whether the two records are the same; else the program ends. */
+static void compare(const struct text *ours, const struct text *theirs)
+{
+    if (ours->len == theirs->len && !memcmp(ours->at, theirs->at, ours->len))
+        return;
+    fprintf(stderr, "the board   %.*sthe device  %.*s", (int)ours->len, ours->at, (int)theirs->len, theirs->at);
+    abort();
+}
+
+static void replay_both(struct trace *trace)
+{
+    static struct text ours, theirs;
+    struct event event;
+    while (read_event(trace, &event)) {
+        ours.len = theirs.len = 0;
+        replay_event(&kalyubos, trace, &event, &ours);
+        replay_event(&device, trace, &event, &theirs);
+        compare(&ours, &theirs);
+        free(event.bytes);
+    }
+}
+
+int LLVMFuzzerTestOneInput(const uint8_t *bytes, size_t len)
+{
+    static uint8_t images[2][IMAGE];
+    struct trace trace;
+    if (!read_setup((const char *)bytes, len, &trace))
+        return -1;
+    for (size_t i = 0; i < trace.guests_len; i++)
+        if (trace.guests[i].len > MOST_MEMORY)
+            return -1;
+    if (!begin(&kalyubos, &trace, images[0]))
+        return -1;
+    if (!begin(&device, &trace, images[1])) {
+        fputs("the device refuses guests that the board takes\n", stderr);
+        abort();
+    }
+    replay_both(&trace);
+    kalyubos.end();
+    device.end();
+    return 0;
+}

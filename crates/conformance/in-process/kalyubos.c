@@ -1,0 +1,111 @@
+/*
+ * The C library of this repository as the suite's device: crates/board_ffi/kalyubos.h. With OURS defined it is called
+ * `kalyubos` and not `device`, so that another device can stand beside it.
+ */
+#include "kalyubos.h"
+
+#include <stdio.h>
+#include <stdlib.h>
+
+#include "device.h"
+
+static struct kalyubos board;
+static uint8_t *image;
+static size_t image_len;
+
+/* Ends the program where a call doesn't answer what it must. */
+static void must(uint32_t answer)
+{
+    if (answer != KALYUBOS_DONE) {
+        fprintf(stderr, "the library answers %u\n", (unsigned)answer);
+        exit(3);
+    }
+}
+
+static const char *name_of(uint32_t answer)
+{
+    switch (answer) {
+    case KALYUBOS_DONE: return NULL;
+    case KALYUBOS_NO_SLOTS: return "NoSlots";
+    case KALYUBOS_TOO_MANY_SLOTS: return "TooManySlots";
+    case KALYUBOS_BAD_MEMORY_SIZE: return "BadSize";
+    case KALYUBOS_BAD_MEMORY_BASE: return "BadBase";
+    case KALYUBOS_EXTENT_OUTSIDE: return "ExtentOutside";
+    case KALYUBOS_EXTENTS_OVERLAP: return "ExtentsOverlap";
+    case KALYUBOS_BAD_CACHE: return "BadCapacity";
+    default: return "memory";
+    }
+}
+
+static const char *make(const struct setup *setup)
+{
+    struct kalyubos_slot slots[17] = {0};
+    for (size_t i = 0; i < setup->guests_len && i < 17; i++) {
+        const struct guest *guest = &setup->guests[i];
+        slots[i] = (struct kalyubos_slot){guest->base, guest->len, guest->start, guest->count,
+                                          guest->cols, guest->rows, guest->read_only};
+    }
+    image = setup->image;
+    image_len = setup->image_len;
+    return name_of(kalyubos_create(&board, slots, setup->guests_len, image, image_len, setup->cache));
+}
+
+static void end(void)
+{
+    must(kalyubos_read_image(&board, 0, image, image_len));
+    must(kalyubos_destroy(&board));
+}
+
+/* Hands on what a guest's console put out. */
+static void take_output(unsigned guest)
+{
+    uint8_t part[4096];
+    size_t taken;
+    do {
+        must(kalyubos_take_output(&board, (uint8_t)guest, part, sizeof part, &taken));
+        put_out(guest, part, taken);
+    } while (taken == sizeof part);
+}
+
+static uint32_t read(unsigned guest, unsigned window, unsigned offset, unsigned width)
+{
+    uint32_t value = 0;
+    must(kalyubos_read(&board, (uint8_t)guest, (uint8_t)window, (uint16_t)offset, (uint8_t)width, &value));
+    return value;
+}
+
+static void write(unsigned guest, unsigned window, unsigned offset, unsigned width, uint32_t value)
+{
+    must(kalyubos_write(&board, (uint8_t)guest, (uint8_t)window, (uint16_t)offset, (uint8_t)width, value));
+    take_output(guest);
+}
+
+static bool memory(unsigned guest, uint64_t address, uint8_t *bytes, size_t len, bool put)
+{
+    static uint8_t none[1];
+    bytes = bytes ? bytes : none;
+    return (put ? kalyubos_write_memory(&board, (uint8_t)guest, address, bytes, len)
+                : kalyubos_read_memory(&board, (uint8_t)guest, address, bytes, len)) == KALYUBOS_DONE;
+}
+
+static size_t input(unsigned guest, const uint8_t *bytes, size_t len)
+{
+    static const uint8_t none[1];
+    size_t took = 0;
+    must(kalyubos_input(&board, (uint8_t)guest, bytes ? bytes : none, len, &took));
+    take_output(guest);
+    return took;
+}
+
+static void resize(unsigned guest, uint16_t cols, uint16_t rows)
+{
+    must(kalyubos_resize(&board, (uint8_t)guest, cols, rows));
+}
+
+#ifdef OURS
+extern const struct device kalyubos;
+#define NAME kalyubos
+#else
+#define NAME device
+#endif
+const struct device NAME = {read, write, memory, input, resize, make, end};

@@ -1,0 +1,287 @@
+#include "trace.h"
+
+#include <stdio.h>
+#include <stdlib.h>
+#include <string.h>
+
+/* What the event that is replayed puts out. */
+static struct text output;
+
+static void append(struct text *text, const void *bytes, size_t len)
+{
+    if (text->len + len > text->room) {
+        text->room = 2 * (text->len + len);
+        text->at = realloc(text->at, text->room);
+        if (!text->at) {
+            fputs("no memory\n", stderr);
+            exit(3);
+        }
+    }
+    if (len)
+        memcpy(text->at + text->len, bytes, len);
+    text->len += len;
+}
+
+void put_out(unsigned guest, const uint8_t *bytes, size_t len)
+{
+    (void)guest;
+    append(&output, bytes, len);
+}
+
+/* --- reading */
+
+/* A field of a line: up to the next space or the line's end. */
+struct field {
+    const char *at;
+    size_t len;
+};
+
+/* Splits a line into at most `most` fields; how many there are, or 0. */
+static size_t split(const char *line, size_t len, struct field *fields, size_t most)
+{
+    size_t count = 0;
+    const char *end = line + len;
+    for (const char *at = line; count < most; at++) {
+        const char *space = memchr(at, ' ', (size_t)(end - at));
+        fields[count++] = (struct field){at, (size_t)((space ? space : end) - at)};
+        if (!space)
+            return count;
+        at = space;
+    }
+    return 0;
+}
+
+static int digit(char c)
+{
+    return c >= '0' && c <= '9' ? c - '0' : c >= 'a' && c <= 'f' ? c - 'a' + 10 : -1;
+}
+
+/* A number of at most 64 bits. */
+static bool number(struct field field, uint64_t most, uint64_t *value)
+{
+    *value = 0;
+    if (!field.len || field.len > 16)
+        return false;
+    for (size_t i = 0; i < field.len; i++) {
+        if (digit(field.at[i]) < 0)
+            return false;
+        *value = *value << 4 | (unsigned)digit(field.at[i]);
+    }
+    return *value <= most;
+}
+
+static bool is(struct field field, const char *word)
+{
+    return field.len == strlen(word) && !memcmp(field.at, word, field.len);
+}
+
+/* The next line of a text, without its LF. */
+static bool next_line(const char **at, const char *end, struct field *line)
+{
+    const char *feed = *at < end ? memchr(*at, '\n', (size_t)(end - *at)) : NULL;
+    if (!feed)
+        return false;
+    *line = (struct field){*at, (size_t)(feed - *at)};
+    *at = feed + 1;
+    return true;
+}
+
+static bool read_guest(const struct field *fields, struct guest *guest)
+{
+    uint64_t cols, rows;
+    bool good = number(fields[1], UINT64_MAX, &guest->base) && number(fields[2], UINT64_MAX, &guest->len) &&
+                number(fields[3], UINT64_MAX, &guest->start) && number(fields[4], UINT64_MAX, &guest->count) &&
+                (is(fields[5], "rw") || is(fields[5], "ro")) && number(fields[6], 0xffff, &cols) &&
+                number(fields[7], 0xffff, &rows);
+    guest->read_only = is(fields[5], "ro");
+    guest->cols = good ? (uint16_t)cols : 0;
+    guest->rows = good ? (uint16_t)rows : 0;
+    return good;
+}
+
+bool read_setup(const char *text, size_t len, struct trace *trace)
+{
+    struct field line, fields[8];
+    uint64_t value;
+    *trace = (struct trace){.events = text, .end = text + len};
+    if (!next_line(&trace->events, trace->end, &line) || !is(line, "vreplay 1") ||
+        !next_line(&trace->events, trace->end, &line) || split(line.at, line.len, fields, 8) != 2 ||
+        !is(fields[0], "cache") || !number(fields[1], UINT32_MAX, &value))
+        return false;
+    trace->cache = (uint32_t)value;
+    for (const char *at = trace->events; next_line(&at, trace->end, &line); trace->events = at) {
+        if (line.len < 5 || memcmp(line.at, "slot ", 5))
+            return true;
+        if (trace->guests_len == MOST_GUESTS || split(line.at, line.len, fields, 8) != 8 ||
+            !read_guest(fields, &trace->guests[trace->guests_len++]))
+            return false;
+    }
+    return true;
+}
+
+static bool read_bytes(struct field field, struct event *event)
+{
+    if (is(field, "-"))
+        return true;
+    if (!field.len || field.len % 2)
+        return false;
+    event->bytes = malloc(field.len / 2);
+    if (!event->bytes)
+        return false;
+    for (; event->len < field.len / 2; event->len++) {
+        int high = digit(field.at[2 * event->len]), low = digit(field.at[2 * event->len + 1]);
+        if (high < 0 || low < 0)
+            return false;
+        event->bytes[event->len] = (uint8_t)(16 * high + low);
+    }
+    return true;
+}
+
+/* The window, offset and width of a register access. */
+static bool read_place(const struct field *fields, struct event *event)
+{
+    uint64_t offset, width;
+    if (!is(fields[2], "b") && !is(fields[2], "c"))
+        return false;
+    event->window = is(fields[2], "c") ? CONSOLE_WINDOW : BLOCK_WINDOW;
+    if (fields[3].len != 3 || !number(fields[3], 0xfff, &offset) || !number(fields[4], 4, &width))
+        return false;
+    event->offset = (unsigned)offset;
+    event->width = (unsigned)width;
+    return width == 1 || width == 2 || width == 4;
+}
+
+static bool read_fields(const struct field *fields, size_t count, struct event *event)
+{
+    uint64_t value, other;
+    if (!number(fields[1], 0xff, &value))
+        return false;
+    event->guest = (unsigned)value;
+    if (is(fields[0], "r") && count == 5) {
+        event->kind = READ;
+        return read_place(fields, event);
+    }
+    if (is(fields[0], "w") && count == 6) {
+        event->kind = WRITE;
+        if (!read_place(fields, event) || fields[5].len != 2 * event->width || !number(fields[5], UINT32_MAX, &value))
+            return false;
+        event->value = (uint32_t)value;
+        return true;
+    }
+    if (is(fields[0], "mr") && count == 4) {
+        event->kind = MEMORY_READ;
+        if (!number(fields[2], UINT64_MAX, &event->address) || !number(fields[3], UINT32_MAX, &value))
+            return false;
+        event->len = (size_t)value;
+        return true;
+    }
+    if (is(fields[0], "mw") && count == 4) {
+        event->kind = MEMORY_WRITE;
+        return number(fields[2], UINT64_MAX, &event->address) && read_bytes(fields[3], event);
+    }
+    if (is(fields[0], "in") && count == 3) {
+        event->kind = INPUT;
+        return read_bytes(fields[2], event);
+    }
+    if (is(fields[0], "sz") && count == 4 && number(fields[2], 0xffff, &value) && number(fields[3], 0xffff, &other)) {
+        event->kind = RESIZE;
+        event->cols = (uint16_t)value;
+        event->rows = (uint16_t)other;
+        return true;
+    }
+    return false;
+}
+
+bool read_event(struct trace *trace, struct event *event)
+{
+    struct field line, fields[6];
+    *event = (struct event){0};
+    if (!next_line(&trace->events, trace->end, &line))
+        return false;
+    size_t count = split(line.at, line.len, fields, 6);
+    if (count >= 3 && read_fields(fields, count, event))
+        return true;
+    free(event->bytes);
+    event->bytes = NULL;
+    return false;
+}
+
+/* --- replaying */
+
+static void append_word(struct text *text, const char *word)
+{
+    append(text, word, strlen(word));
+}
+
+static void append_bytes(struct text *text, const uint8_t *bytes, size_t len)
+{
+    static const char digits[] = "0123456789abcdef";
+    if (!len)
+        append_word(text, "-");
+    for (size_t i = 0; i < len; i++) {
+        char pair[2] = {digits[bytes[i] >> 4], digits[bytes[i] & 15]};
+        append(text, pair, 2);
+    }
+}
+
+/* What a look at a guest's memory answers. */
+static void look(const struct device *device, const struct trace *trace, const struct event *event,
+                 struct text *record)
+{
+    uint8_t *into = event->len <= trace->guests[event->guest].len ? malloc(event->len + 1) : NULL;
+    if (into && device->memory(event->guest, event->address, into, event->len, false)) {
+        append_word(record, "b:");
+        append_bytes(record, into, event->len);
+    } else {
+        append_word(record, "badrange");
+    }
+    free(into);
+}
+
+static void reply(const struct device *device, const struct trace *trace, const struct event *event,
+                  struct text *record)
+{
+    char word[32] = "done";
+    switch (event->kind) {
+    case READ:
+        snprintf(word, sizeof word, "v:%08x",
+                 (unsigned)device->read(event->guest, event->window, event->offset, event->width));
+        break;
+    case WRITE:
+        device->write(event->guest, event->window, event->offset, event->width, event->value);
+        break;
+    case MEMORY_READ:
+        look(device, trace, event, record);
+        return;
+    case MEMORY_WRITE:
+        if (!device->memory(event->guest, event->address, event->bytes, event->len, true))
+            strcpy(word, "badrange");
+        break;
+    case INPUT:
+        snprintf(word, sizeof word, "took:%zx", device->input(event->guest, event->bytes, event->len));
+        break;
+    case RESIZE:
+        device->resize(event->guest, event->cols, event->rows);
+        break;
+    }
+    append_word(record, word);
+}
+
+void replay_event(const struct device *device, const struct trace *trace, const struct event *event,
+                  struct text *record)
+{
+    char word[32];
+    snprintf(word, sizeof word, "%x ", event->guest);
+    append_word(record, word);
+    if (event->guest >= trace->guests_len) {
+        append_word(record, "badslot - 0 0\n");
+        return;
+    }
+    output.len = 0;
+    reply(device, trace, event, record);
+    append_word(record, " ");
+    append_bytes(record, (const uint8_t *)output.at, output.len);
+    snprintf(word, sizeof word, " %x %x\n", (unsigned)device->read(event->guest, BLOCK_WINDOW, 0x060, 4),
+             (unsigned)device->read(event->guest, CONSOLE_WINDOW, 0x060, 4));
+    append_word(record, word);
+}

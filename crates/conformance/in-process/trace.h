@@ -1,0 +1,44 @@
+/* trace.h: a trace's text, read line by line and replayed on a device. */
+#ifndef TRACE_H
+#define TRACE_H
+
+#include "device.h"
+
+enum { MOST_GUESTS = 16 };
+
+/* What stands before a trace's events. */
+struct trace {
+    uint32_t cache;
+    struct guest guests[MOST_GUESTS];
+    size_t guests_len;
+    const char *events, *end;
+};
+
+/* One event, with its bytes in `bytes`. */
+struct event {
+    enum { READ, WRITE, MEMORY_READ, MEMORY_WRITE, INPUT, RESIZE } kind;
+    unsigned guest, window, offset, width;
+    uint64_t address;
+    uint32_t value;
+    uint16_t cols, rows;
+    uint8_t *bytes;
+    size_t len;
+};
+
+/* A text that grows. */
+struct text {
+    char *at;
+    size_t len, room;
+};
+
+/* Reads what stands before the events. False: the text isn't a trace that this program can replay. */
+bool read_setup(const char *text, size_t len, struct trace *trace);
+
+/* Reads the next event and moves `trace->events` behind it; its bytes are to be freed. False: it isn't one. */
+bool read_event(struct trace *trace, struct event *event);
+
+/* Has the device do the event, and writes its record, a line with its LF. */
+void replay_event(const struct device *device, const struct trace *trace, const struct event *event,
+                  struct text *record);
+
+#endif

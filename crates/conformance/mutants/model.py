@@ -1,0 +1,729 @@
+#!/usr/bin/env python3
+"""A small model of the board, written from docs/model.md and docs/formats.md alone; `changes` has what to break in it.
+
+    model.py TRACE IMAGE [--save FILE] [--fails N,..] [--lacks FEATURE]
+
+Each rule stands on a line of its own, so that one change breaks one rule. It is slow and plain on purpose.
+"""
+import os
+import sys
+
+NEXT, WRITE, INDIRECT, AVAIL, USED = 1, 2, 4, 0x80, 0x8000
+ACKNOWLEDGE, DRIVER, DRIVER_OK, FEATURES_OK, NEEDS_RESET, FAILED = 1, 2, 4, 8, 64, 128
+FEATURE = {"indirect_desc": 28, "event_idx": 29, "version_1": 32, "ring_packed": 34, "notification_data": 38, "seg_max": 2, "ro": 5,
+           "blk_size": 6, "flush": 9, "write_zeroes": 14, "size": 0, "emerg_write": 2}
+EVERY = ["indirect_desc", "event_idx", "version_1", "ring_packed", "notification_data"]
+OK, IOERR, UNSUPP = 0, 1, 2
+IN, OUT, FLUSH, GET_ID = 0, 1, 4, 8
+WRITE_ZEROES = 13
+IDENTITY = b"vreplay-block" + bytes(7)
+SECTOR = 512
+
+
+class Fault(Exception):
+    """A ring or a chain that no driver makes."""
+
+
+class ImageFails(Exception):
+    """A call of the image that failed."""
+
+
+class Memory:
+    def __init__(self, base, length):
+        self.base, self.bytes = base, bytearray(length)
+
+    def holds(self, at, count):
+        return self.base <= at and at + count <= self.base + len(self.bytes)
+
+    def part(self, at, count):
+        at -= self.base
+        return bytes(self.bytes[at:at + count])
+
+    def put(self, at, new):
+        at -= self.base
+        self.bytes[at:at + len(new)] = new
+
+    def number(self, at, count):
+        return int.from_bytes(self.part(at, count), "little")
+
+    def put_number(self, at, count, value):
+        self.put(at, value.to_bytes(count, "little"))
+
+
+class Image:
+    """The image, its numbered calls, and those that fail."""
+
+    def __init__(self, content, fails):
+        self.bytes, self.fails, self.calls, self.flushes = bytearray(content), fails, 0, 0
+
+    def call(self):
+        self.calls += 1
+        return self.calls - 1 not in self.fails
+
+    def read(self, sector):
+        if not self.call():
+            raise ImageFails
+        return bytes(self.bytes[sector * SECTOR:sector * SECTOR + SECTOR])
+
+    def write(self, sector, new):
+        went_well = self.call()
+        new = new if went_well else new[:256]
+        self.bytes[sector * SECTOR:sector * SECTOR + len(new)] = new
+        if not went_well:
+            raise ImageFails
+
+    def flush(self):
+        self.flushes += 1
+        if not self.call():
+            raise ImageFails
+
+
+class Cache:
+    """Sectors that were used last are kept, `capacity` of them."""
+
+    def __init__(self, image, capacity):
+        self.image, self.capacity, self.kept = image, capacity, {}
+
+    def keep(self, sector, content):
+        self.kept.pop(sector, None)
+        self.kept[sector] = content
+        if len(self.kept) > self.capacity:
+            del self.kept[next(iter(self.kept))]
+
+    def read(self, sector):
+        content = self.kept[sector] if sector in self.kept else self.image.read(sector)
+        self.keep(sector, content)
+        return content
+
+    def write(self, sector, new):
+        self.kept.pop(sector, None)
+        self.image.write(sector, new)
+        self.keep(sector, new)
+
+    def flush(self):
+        self.image.flush()
+
+
+class Chain:
+    """The buffers of one chain."""
+
+    def __init__(self, memory):
+        self.memory, self.buffers, self.total = memory, [], 0
+        self.head = self.id = 0
+        self.members = 1
+
+    def append(self, address, length, flags):
+        if not self.memory.holds(address, length):
+            raise Fault("Range")
+        if len(self.buffers) >= 256:
+            raise Fault("TooMany")
+        if self.total + length > 2**32 - 1:
+            raise Fault("TooLong")
+        self.total += length
+        self.buffers.append((address, length, flags & WRITE))
+
+    def readable(self):
+        return b"".join(self.memory.part(at, count) for at, count, write in self.buffers if not write)
+
+    def front(self, most):
+        """The first readable bytes; all of them may be more than there is memory for."""
+        found = b""
+        for at, count, write in self.buffers:
+            if not write and len(found) < most:
+                found += self.memory.part(at, min(count, most - len(found)))
+        return found
+
+    def count(self):
+        return sum(count for _, count, write in self.buffers if not write)
+
+    def room(self):
+        return sum(count for _, count, write in self.buffers if write)
+
+    def write(self, place, new):
+        """Writes over the writable places from `place` on."""
+        for at, count, write in self.buffers:
+            if write:
+                part = new[:max(0, count - place)]
+                self.memory.put(at + place, part)
+                new, place = new[len(part):], max(0, place - count)
+
+
+def descriptor(memory, at):
+    return memory.number(at, 8), memory.number(at + 8, 4), memory.number(at + 12, 2), memory.number(at + 14, 2)
+
+
+class Queue:
+    def __init__(self, size_limit):
+        self.exists = size_limit > 0
+        self.reset()
+
+    def reset(self):
+        self.number = 0
+        self.areas = [0, 0, 0]
+        self.ready = False
+        self.place = 0
+
+    # --- opening, closing, notifications
+
+    def open(self, memory):
+        self.passed, self.begin = 0, self.place
+        if not self.packed:
+            idx = memory.number(self.areas[1] + 2, 2)
+            self.left = (idx - self.place) % 65536
+            if self.left > self.number:
+                raise Fault("Jump")
+
+    def take(self, memory):
+        """The next chain, or none."""
+        if self.packed:
+            return self.take_packed(memory)
+        if self.left == 0:
+            return None
+        chain = Chain(memory)
+        chain.head = memory.number(self.areas[1] + 4 + 2 * (self.place % self.number), 2)
+        self.walk(chain, self.areas[0], self.number, chain.head, memory, False)
+        return chain
+
+    def walk(self, chain, table, number, index, memory, in_table):
+        if index >= number:
+            raise Fault("Index")
+        members = 0
+        while True:
+            address, length, flags, following = descriptor(memory, table + 16 * index)
+            members += 1
+            if flags & INDIRECT:
+                if in_table:
+                    raise Fault("Nested")
+                self.table(chain, address, length, flags, memory, False)
+                return
+            chain.append(address, length, flags)
+            if not flags & NEXT:
+                return
+            if members >= number:
+                raise Fault("Loop")
+            if following >= number:
+                raise Fault("Index")
+            index = following
+
+    def table(self, chain, address, length, flags, memory, behind):
+        if not self.indirect:
+            raise Fault("NoIndirect")
+        if flags & NEXT or self.packed and behind:
+            raise Fault("Joined")
+        if length == 0 or length % 16 != 0 or length > 4096:
+            raise Fault("Table")
+        if not memory.holds(address, length):
+            raise Fault("Range")
+        if self.packed:
+            for entry in range(length // 16):
+                chain.append(*descriptor(memory, address + 16 * entry)[:2], memory.number(address + 16 * entry + 14, 2))
+        else:
+            self.walk(chain, address, length // 16, 0, memory, True)
+
+    def take_packed(self, memory):
+        size = self.number
+        at = self.areas[0] + 16 * (self.place % size)
+        flags, wrap = memory.number(at + 14, 2), self.place < size
+        if self.passed >= size or bool(flags & AVAIL) != wrap or bool(flags & USED) == wrap:
+            return None
+        chain, members = Chain(memory), 0
+        while True:
+            at = self.areas[0] + 16 * ((self.place + members) % size)
+            address, length, chain.id, flags = descriptor(memory, at)
+            members += 1
+            chain.members = members
+            if flags & INDIRECT:
+                self.table(chain, address, length, flags, memory, members > 1)
+                return chain
+            chain.append(address, length, flags)
+            if not flags & NEXT:
+                return chain
+            if members >= size:
+                raise Fault("Loop")
+
+    def give(self, memory, chain, length, wrote):
+        if self.packed:
+            return self.give_packed(memory, chain, length, wrote)
+        entry = self.areas[2] + 4 + 8 * (self.place % self.number)
+        memory.put_number(entry, 4, chain.head)
+        memory.put_number(entry + 4, 4, length)
+        self.place = (self.place + 1) % 65536
+        memory.put_number(self.areas[2] + 2, 2, self.place)
+        self.left -= 1
+        self.passed += 1
+
+    def give_packed(self, memory, chain, length, wrote):
+        at, wrap = self.areas[0] + 16 * (self.place % self.number), self.place < self.number
+        memory.put_number(at + 8, 4, length)
+        memory.put_number(at + 12, 2, chain.id)
+        memory.put_number(at + 14, 2, (AVAIL | USED if wrap else 0) | (WRITE if wrote else 0))
+        self.place = (self.place + chain.members) % (2 * self.number)
+        self.passed += chain.members
+
+    def close(self, memory):
+        """The closing writes; whether a notification is wanted."""
+        if self.packed:
+            memory.put(self.areas[2], bytes(4))
+            return self.packed_wants(memory)
+        memory.put_number(self.areas[2], 2, 0)
+        if self.event_idx:
+            memory.put_number(self.areas[2] + 4 + 8 * self.number, 2, self.place)
+        return self.split_wants(memory)
+
+    def split_wants(self, memory):
+        if self.passed == 0:
+            return False
+        if self.event_idx:
+            used_event = memory.number(self.areas[1] + 4 + 2 * self.number, 2)
+            return (used_event - self.begin) % 65536 < self.passed
+        return not memory.number(self.areas[1], 2) & 1
+
+    def packed_wants(self, memory):
+        named, flags = memory.number(self.areas[1], 2), memory.number(self.areas[1] + 2, 2) & 3
+        if self.passed == 0:
+            return False
+        if flags == 1:
+            return False
+        if flags != 2 or not self.event_idx:
+            return True
+        offset, wrap = named & 0x7fff, named >> 15
+        if offset >= self.number:
+            return False
+        place = offset if wrap else self.number + offset
+        return (place - self.begin) % (2 * self.number) < self.passed
+
+    def make_ready(self, memory, negotiated):
+        number, self.packed = self.number, "ring_packed" in negotiated
+        if not 1 <= number <= 256:
+            return
+        if not self.packed and number & (number - 1):
+            return
+        split = [(16 * number, 16), (6 + 2 * number, 2), (6 + 8 * number, 4)]
+        packed = [(16 * number, 16), (4, 4), (4, 4)]
+        for address, (length, alignment) in zip(self.areas, packed if self.packed else split):
+            if address % alignment or not memory.holds(address, length):
+                return
+        self.indirect, self.event_idx = "indirect_desc" in negotiated, "event_idx" in negotiated
+        self.place = 0
+        self.ready = True
+
+
+class Window:
+    def __init__(self, kind, offered):
+        self.kind, self.offered, self.generation = kind, offered, 0
+        self.queues = [Queue(256) for _ in range(1 if kind == "b" else 2)]
+        self.reset()
+
+    def reset(self):
+        self.status = 0
+        self.driver_features = 0
+        self.queue_sel = 0
+        self.device_sel = 0
+        self.driver_sel = 0
+        self.interrupts = 0
+        for queue in self.queues:
+            queue.reset()
+
+    def offers(self, name):
+        return 1 << FEATURE[name] if name in self.offered else 0
+
+    def offered_bits(self):
+        return sum(self.offers(name) for name in self.offered)
+
+    def negotiated(self):
+        if not self.status & FEATURES_OK:
+            return set()
+        return {name for name in self.offered if self.driver_features >> FEATURE[name] & 1}
+
+    def live(self):
+        wanted = DRIVER_OK | FEATURES_OK
+        return self.status & (wanted | FAILED | NEEDS_RESET) == wanted
+
+    def queue(self):
+        return self.queues[self.queue_sel] if self.queue_sel < len(self.queues) else None
+
+    def read(self, offset):
+        if offset == 0x000:
+            return 0x74726976
+        if offset == 0x004:
+            return 2
+        if offset == 0x008:
+            return 2 if self.kind == "b" else 3
+        if offset == 0x00c:
+            return 0x4f424d56
+        if offset == 0x010:
+            return self.offered_bits() >> 32 * self.device_sel & 0xffffffff if self.device_sel < 2 else 0
+        if offset == 0x034:
+            return 256 if self.queue() else 0
+        if offset == 0x044:
+            return int(self.queue().ready) if self.queue() else 0
+        if offset == 0x060:
+            return self.interrupts
+        if offset == 0x070:
+            return self.status
+        if offset in (0x0b0, 0x0b4, 0x0b8, 0x0bc):
+            return 0xffffffff
+        if offset == 0x0fc:
+            return self.generation
+        return 0
+
+    def write_status(self, value):
+        if value == 0:
+            self.reset()
+            return
+        value &= 0x8f
+        acceptable = not self.driver_features & ~self.offered_bits() and self.driver_features >> 32 & 1
+        if value & FEATURES_OK and not acceptable:
+            value &= ~FEATURES_OK
+        self.status |= value
+
+    def write(self, offset, value, memory):
+        if offset == 0x014:
+            self.device_sel = value
+        elif offset == 0x020:
+            self.write_driver_features(value)
+        elif offset == 0x024:
+            self.driver_sel = value
+        elif offset == 0x030:
+            self.queue_sel = value
+        elif offset == 0x064:
+            self.interrupts &= ~value
+        elif offset == 0x070:
+            self.write_status(value)
+        elif self.queue():
+            self.write_queue(self.queue(), offset, value, memory)
+
+    def write_driver_features(self, value):
+        if self.status & FEATURES_OK:
+            return
+        if self.driver_sel == 0:
+            self.driver_features = self.driver_features & ~0xffffffff | value
+        elif self.driver_sel == 1:
+            self.driver_features = self.driver_features & 0xffffffff | value << 32
+
+    def write_queue(self, queue, offset, value, memory):
+        if offset == 0x044:
+            if value == 0:
+                queue.ready = False
+            elif value == 1 and not queue.ready and self.status & FEATURES_OK:
+                queue.make_ready(memory, self.negotiated())
+        elif queue.ready:
+            return
+        elif offset == 0x038:
+            queue.number = value
+        elif offset in (0x080, 0x090, 0x0a0):
+            area = (offset - 0x080) // 16
+            queue.areas[area] = queue.areas[area] & ~0xffffffff | value
+        elif offset in (0x084, 0x094, 0x0a4):
+            area = (offset - 0x084) // 16
+            queue.areas[area] = queue.areas[area] & 0xffffffff | value << 32
+
+
+class Slot:
+    def __init__(self, fields, cache, lacks):
+        base, length, self.start, self.count, mode, self.cols, self.rows = fields
+        self.memory, self.cache, self.read_only = Memory(base, length), cache, mode == "ro"
+        block = EVERY + ["seg_max", "blk_size", "flush", "write_zeroes"] + (["ro"] if self.read_only else [])
+        console = EVERY + ["size", "emerg_write"]
+        self.windows = {"b": Window("b", [name for name in block if name not in lacks]),
+                        "c": Window("c", [name for name in console if name not in lacks])}
+        self.pending = b""
+
+    # --- registers
+
+    def read(self, window, offset, width):
+        if offset >= 0x100:
+            return self.read_configuration(window, offset - 0x100, width)
+        if width != 4 or offset % 4:
+            return 0
+        return self.windows[window].read(offset)
+
+    def configuration(self, window):
+        fields = bytearray(64)
+        if window == "b":
+            fields[0:8] = self.count.to_bytes(8, "little")
+            fields[12:16] = (126).to_bytes(4, "little")
+            fields[20:24] = (512).to_bytes(4, "little")
+            fields[48:52] = (65536).to_bytes(4, "little")
+            fields[52:56] = (32).to_bytes(4, "little")
+        else:
+            fields[0:2] = self.cols.to_bytes(2, "little")
+            fields[2:4] = self.rows.to_bytes(2, "little")
+        return bytes(fields)
+
+    def read_configuration(self, window, at, width):
+        if at % width:
+            return 0
+        return int.from_bytes(self.configuration(window)[at:at + width], "little")
+
+    def write(self, window, offset, width, value):
+        """What it puts out."""
+        if offset >= 0x100:
+            if window == "c" and offset == 0x108 and width in (1, 2, 4):
+                return bytes([value & 0xff])
+            return b""
+        if width != 4 or offset % 4:
+            return b""
+        if offset == 0x050:
+            told = "notification_data" in self.windows[window].negotiated()
+            return self.notify(window, value & 0xffff if told else value)
+        self.windows[window].write(offset, value, self.memory)
+        return b""
+
+    # --- services
+
+    def notify(self, window, index):
+        if not self.windows[window].live():
+            return b""
+        if index >= len(self.windows[window].queues) or not self.windows[window].queues[index].ready:
+            return b""
+        return self.serve(window, index)
+
+    def serve(self, window, index):
+        """What the service puts out."""
+        queue, output, fault = self.windows[window].queues[index], b"", False
+        try:
+            queue.open(self.memory)
+            while (window, index) != ("c", 0) or self.pending:
+                chain = queue.take(self.memory)
+                if chain is None:
+                    break
+                if window == "b":
+                    queue.give(self.memory, chain, *self.request(chain))
+                elif index == 0:
+                    queue.give(self.memory, chain, *self.receive(chain))
+                else:
+                    output += chain.readable()
+                    queue.give(self.memory, chain, 0, False)
+        except Fault:
+            fault = True
+        if queue.close(self.memory):
+            self.windows[window].interrupts |= 1
+        if fault:
+            self.windows[window].status |= NEEDS_RESET
+            self.windows[window].interrupts |= 2
+        return output
+
+    # --- block device
+
+    def request(self, chain):
+        """The used len, and whether a byte was written."""
+        room = chain.room()
+        if room == 0:
+            return 0, False
+        status, written = self.perform(chain, chain.front(16), chain.count(), room - 1)
+        chain.write(room - 1, bytes([status]))
+        return room if written == room - 1 else written, True
+
+    def perform(self, chain, header, count, room):
+        """The status, and how many bytes were written from the front on."""
+        if count < 16:
+            return IOERR, 0
+        kind, sector = int.from_bytes(header[0:4], "little"), int.from_bytes(header[8:16], "little")
+        if kind not in (IN, OUT, FLUSH, GET_ID, WRITE_ZEROES):
+            return UNSUPP, 0
+        if kind in (OUT, WRITE_ZEROES) and self.read_only:
+            return IOERR, 0
+        size = room if kind == IN else count - 16
+        if kind in (IN, OUT) and (size % SECTOR or sector + size // SECTOR > self.count):
+            return IOERR, 0
+        if kind == GET_ID and room < 20:
+            return IOERR, 0
+        if kind == IN:
+            return self.read_sectors(chain, sector, size // SECTOR)
+        if kind == OUT:
+            return self.write_sectors(chain.readable()[16:], sector), 0
+        if kind == FLUSH:
+            return self.flush(), 0
+        if kind == WRITE_ZEROES:
+            return self.write_zeroes(chain, count - 16), 0
+        chain.write(0, IDENTITY)
+        return OK, 20
+
+    def read_sectors(self, chain, sector, count):
+        written = 0
+        for one in range(sector, sector + count):
+            try:
+                content = self.cache.read(self.start + one)
+            except ImageFails:
+                return IOERR, written
+            chain.write(written, content)
+            written += SECTOR
+        return OK, written
+
+    def write_sectors(self, content, sector):
+        try:
+            for at in range(0, len(content), SECTOR):
+                self.cache.write(self.start + sector + at // SECTOR, content[at:at + SECTOR])
+        except ImageFails:
+            return IOERR
+        return self.flush()
+
+    def write_zeroes(self, chain, size):
+        if size == 0 or size % 16 or size > 16 * 32:
+            return IOERR
+        content = chain.readable()[16:]
+        segments = [tuple(int.from_bytes(content[at + first:at + end], "little") for first, end in ((0, 8), (8, 12), (12, 16)))
+                    for at in range(0, size, 16)]
+        if any(flags & ~1 for _, _, flags in segments):
+            return UNSUPP
+        if any(count > 65536 or sector + count > self.count for sector, count, _ in segments):
+            return IOERR
+        zeroed = [sector + one for sector, count, _ in segments for one in range(count)]
+        try:
+            for sector in zeroed:
+                self.cache.write(self.start + sector, bytes(SECTOR))
+        except ImageFails:
+            return IOERR
+        return self.flush()
+
+    def flush(self):
+        try:
+            self.cache.flush()
+        except ImageFails:
+            return IOERR
+        return OK
+
+    # --- console
+
+    def receive(self, chain):
+        count = min(chain.room(), len(self.pending))
+        chain.write(0, self.pending[:count])
+        self.pending = self.pending[count:]
+        return count, count > 0
+
+    def input(self, typed):
+        took = min(len(typed), 4096 - len(self.pending))
+        self.pending += typed[:took]
+        if self.windows["c"].live() and self.windows["c"].queues[0].ready:
+            self.serve("c", 0)
+        return took
+
+    def resize(self, cols, rows):
+        self.cols, self.rows = cols, rows
+        window = self.windows["c"]
+        window.generation = (window.generation + 1) % 2**32
+        if window.status & DRIVER_OK:
+            window.interrupts |= 2
+
+
+class BadBoard(Exception):
+    """A board that is refused, by the fault's name."""
+
+
+def board_of(slots, capacity, image, lacks):
+    if not slots:
+        raise BadBoard("NoSlots")
+    if len(slots) > 16:
+        raise BadBoard("TooManySlots")
+    taken = []
+    for base, length, start, count, *_ in slots:
+        if length % 4096 or not 4096 <= length <= 2**28:
+            raise BadBoard("BadSize")
+        if base % 4096 or base + length > 2**64:
+            raise BadBoard("BadBase")
+        if start + count > len(image.bytes) // SECTOR:
+            raise BadBoard("ExtentOutside")
+        if count and any(start < end and first < start + count for first, end in taken):
+            raise BadBoard("ExtentsOverlap")
+        if count:
+            taken.append((start, start + count))
+    if not 1 <= capacity <= 65536:
+        raise BadBoard("BadCapacity")
+    cache = Cache(image, capacity)
+    return [Slot(fields, cache, lacks) for fields in slots]
+
+
+def bytes_of(field):
+    return b"" if field == "-" else bytes.fromhex(field)
+
+
+def spelled(content):
+    return content.hex() or "-"
+
+
+def record_of(slots, word, fields):
+    number = int(fields[0], 16)
+    if number >= len(slots):
+        return f"{number:x} badslot - 0 0"
+    slot = slots[number]
+    reply, output = REPLIES[word](slot, *fields[1:])
+    return f"{number:x} {reply} {spelled(output)} {slot.windows['b'].interrupts} {slot.windows['c'].interrupts}"
+
+
+def read(slot, window, offset, width):
+    return f"v:{slot.read(window, int(offset, 16), int(width)):08x}", b""
+
+
+def write(slot, window, offset, width, value):
+    return "done", slot.write(window, int(offset, 16), int(width), int(value, 16))
+
+
+def memory_read(slot, address, length):
+    at, count = int(address, 16), int(length, 16)
+    if not slot.memory.holds(at, count):
+        return "badrange", b""
+    return f"b:{spelled(slot.memory.part(at, count))}", b""
+
+
+def memory_write(slot, address, content):
+    at, new = int(address, 16), bytes_of(content)
+    if not slot.memory.holds(at, len(new)):
+        return "badrange", b""
+    slot.memory.put(at, new)
+    return "done", b""
+
+
+def typed(slot, content):
+    return f"took:{slot.input(bytes_of(content)):x}", b""
+
+
+def resized(slot, cols, rows):
+    slot.resize(int(cols, 16), int(rows, 16))
+    return "done", b""
+
+
+REPLIES = {"r": read, "w": write, "mr": memory_read, "mw": memory_write, "in": typed, "sz": resized}
+
+
+def replay(text, content, fails=(), lacks=(), fault_of=None):
+    """The output, the status, and the image afterwards with how often it was flushed."""
+    image = Image(content, fails)
+    fault = fault_of(text) if fault_of else None
+    if fault:
+        return f"fault trace {fault[0]} {fault[1]}\n", 1, image
+    lines = [line.split(" ") for line in text.decode("ascii").split("\n")[:-1]]
+    slots = [[field if field in ("rw", "ro") else int(field, 16) for field in line[1:]]
+             for line in lines if line[0] == "slot"]
+    try:
+        board = board_of(slots, int(lines[1][1], 16), image, lacks)
+    except BadBoard as refused:
+        return f"fault board {refused}\n", 1, image
+    events = lines[2 + len(slots):]
+    return "".join(record_of(board, word, fields) + "\n" for word, *fields in events), 0, image
+
+
+def main(words):
+    options = {"--save": None, "--fails": "", "--lacks": ""}
+    files = []
+    rest = iter(words)
+    for word in rest:
+        if word in options:
+            options[word] = next(rest)
+        else:
+            files.append(word)
+    sys.path.insert(0, os.path.join(os.path.dirname(os.path.abspath(__file__)), "..", "..", "..", "fuzz"))
+    sys.dont_write_bytecode = True
+    from reader import fault_of
+    with open(files[0], "rb") as trace, open(files[1], "rb") as before:
+        fails = {int(one) for one in options["--fails"].split(",") if one}
+        output, status, image = replay(trace.read(), before.read(), fails, options["--lacks"].split(","), fault_of)
+    sys.stdout.write(output)
+    if options["--save"] and not status:
+        with open(options["--save"], "wb") as after:
+            after.write(image.bytes)
+    return status
+
+
+if __name__ == "__main__":
+    sys.exit(main(sys.argv[1:]))

@@ -1,0 +1,148 @@
+"""A device's run over one scenario, and in what it differs from what must be."""
+import dataclasses
+import os
+import subprocess
+import tempfile
+from typing import List, Optional
+
+from .scenarios import SECTOR
+
+# A device that can't be asked a scenario says so by this status, and why in its last line on standard error.
+CANNOT = 77
+
+
+@dataclasses.dataclass(frozen=True)
+class Device:
+    """How a device is called: COMMAND TRACE IMAGE, and what its options are."""
+
+    command: List[str]
+    after: Optional[str] = None
+    in_place: Optional[str] = None
+    fails: Optional[str] = None
+    seconds: float = 60.0
+
+    def words(self, room, trace, scenario):
+        """The words of the call, and the file that holds the image afterwards, if any."""
+        words = [*self.command, trace, os.path.join(room, "image")]
+        held = None
+        if self.after:
+            held = os.path.join(room, "after")
+            words += [self.after, held]
+        if self.in_place:
+            held = os.path.join(room, "image")
+            words += [self.in_place] if self.in_place != "-" else []
+        if self.fails and scenario.fails is not None:
+            words += [self.fails, ",".join(map(str, scenario.fails))]
+        return words, held
+
+    def run(self, scenario):
+        """The outcome of the scenario's trace on the device."""
+        with tempfile.TemporaryDirectory() as room:
+            with open(os.path.join(room, "image"), "wb") as file:
+                file.write(scenario.image)
+            words, held = self.words(room, scenario.path + ".trace", scenario)
+            try:
+                ran = subprocess.run(words, stdin=subprocess.DEVNULL, capture_output=True, timeout=self.seconds)
+            except subprocess.TimeoutExpired:
+                return Outcome(late=True)
+            except OSError as error:
+                raise SystemExit(f"{words[0]} can't be run: {error.strerror}") from None
+            return Outcome(ran.returncode, ran.stdout.decode("latin-1"), ran.stderr.decode("latin-1"),
+                           content_of(held), held is not None)
+
+
+def content_of(path):
+    try:
+        with open(path, "rb") as file:
+            return file.read()
+    except (OSError, TypeError):
+        return None
+
+
+@dataclasses.dataclass(frozen=True)
+class Outcome:
+    """What a device answered: its status, its two outputs, and the image where it tells one."""
+
+    status: int = 0
+    output: str = ""
+    error: str = ""
+    image: Optional[bytes] = None
+    tells_image: bool = False
+    late: bool = False
+
+    @property
+    def cannot(self):
+        """Why the device can't be asked this, or None."""
+        if self.status != CANNOT:
+            return None
+        return (self.error.strip().split("\n") or [""])[-1] or "no reason told"
+
+    def found(self):
+        """The text to compare with the records: the output and a line with the status."""
+        ended = "" if self.output == "" or self.output.endswith("\n") else "\n"
+        return f"{self.output}{ended}status {self.status}\n"
+
+
+@dataclasses.dataclass(frozen=True)
+class Difference:
+    """The first thing that differs: at which record, of which event, what was expected and what was found."""
+
+    expected: str
+    found: str
+    record: Optional[int] = None
+    event: Optional[object] = None
+
+    def lines(self):
+        """It for a reader."""
+        if self.event:
+            yield f"line {self.event.line}: {shortened(self.event.text)}: {self.event.in_words()}"
+        yield f"expected {shortened(self.expected)}"
+        yield f"found    {shortened(self.found)}"
+
+
+def shortened(text, most=100):
+    return text if len(text) <= most else f"{text[:most]}.. ({len(text)} characters)"
+
+
+def difference(scenario, outcome, seconds):
+    """The first difference of an outcome from what the scenario's files say, or None."""
+    if outcome.late:
+        return Difference("an answer", f"none after {seconds:g} seconds")
+    different = first_line(scenario, outcome)
+    if different or not outcome.tells_image:
+        return different
+    return different_image(scenario, outcome)
+
+
+def first_line(scenario, outcome):
+    expected, found = scenario.records.split("\n"), outcome.found().split("\n")
+    for number in range(max(len(expected), len(found))):
+        wanted = expected[number] if number < len(expected) else "no more lines"
+        has = found[number] if number < len(found) else "no more lines"
+        if wanted != has:
+            event = scenario.events[number] if number < len(scenario.events) else None
+            return Difference(wanted, told(has, outcome), number, event)
+    return None
+
+
+def told(line, outcome):
+    """A line that was found, and what the device said of a failure."""
+    if line.startswith("status ") and outcome.error.strip():
+        return f"{line} ({shortened(outcome.error.strip().splitlines()[-1])})"
+    return line
+
+
+def different_image(scenario, outcome):
+    if outcome.image is None:
+        if outcome.status:
+            return None
+        return Difference("an image afterwards", "none")
+    wanted, has = scenario.image_after, outcome.image
+    if len(wanted) != len(has):
+        return Difference(f"an image of {len(wanted)} bytes afterwards", f"one of {len(has)}")
+    for start in range(0, len(wanted), SECTOR):
+        if wanted[start:start + SECTOR] != has[start:start + SECTOR]:
+            byte = next(i for i in range(start, start + SECTOR) if wanted[i] != has[i])
+            return Difference(f"sector {start // SECTOR} of the image afterwards, from byte {byte - start} on: "
+                              f"{wanted[byte:byte + 8].hex()}", has[byte:byte + 8].hex())
+    return None

@@ -1,0 +1,100 @@
+"""The worked scenarios, read from their files; data/scenarios/README.md says what each file is."""
+import fnmatch
+import functools
+import os
+import re
+
+from . import trace
+
+CRATE = os.path.dirname(os.path.dirname(os.path.abspath(__file__)))
+FOLDER = os.path.join(CRATE, "data", "scenarios")
+SECTOR = 512
+
+
+class Broken(Exception):
+    """The suite itself isn't as it should be."""
+
+
+class Scenario:
+    """A scenario of a folder: its files are read when they are asked for."""
+
+    def __init__(self, name, about, folder):
+        self.name, self.about = name, about
+        self.subject = name.split("/")[0]
+        self.path = os.path.join(folder, name)
+
+    def read(self, end):
+        try:
+            with open(self.path + end, "rb") as file:
+                return file.read()
+        except OSError:
+            return None
+
+    @functools.cached_property
+    def text(self):
+        """The trace's text; bytes that are no ASCII stand as themselves."""
+        return (self.read(".trace") or b"").decode("latin-1")
+
+    @functools.cached_property
+    def records(self):
+        return (self.read(".records") or b"").decode("latin-1")
+
+    @functools.cached_property
+    def events(self):
+        return trace.events_of(self.text)
+
+    @functools.cached_property
+    def features(self):
+        found = trace.features_of(self.text, self.records.split("\n"))
+        if self.fails is not None:
+            found.add("fails")
+        return found
+
+    @functools.cached_property
+    def image(self):
+        """The image before."""
+        before = self.read(".before")
+        if before is not None:
+            return bytes.fromhex(before.decode())
+        return b"".join(bytes([0x10 + sector]) * SECTOR for sector in range(8))
+
+    @functools.cached_property
+    def fails(self):
+        """The numbers of the image calls that fail, or None where none does."""
+        text = self.read(".fails")
+        return None if text is None else [int(line) for line in text.split()]
+
+    @functools.cached_property
+    def image_after(self):
+        """The image as it must be afterwards."""
+        image = bytearray(self.image)
+        for line in (self.read(".after") or b"").decode().splitlines():
+            words = line.split(" ")
+            if words[0] == "sector":
+                start = int(words[1]) * SECTOR
+                image[start:start + SECTOR] = bytes.fromhex(words[2])
+        return bytes(image)
+
+    def is_called(self, word):
+        """Whether a word names it: its name, its subject, a pattern of names, or a feature."""
+        return word in (self.name, self.subject) or word in self.features or fnmatch.fnmatchcase(self.name, word)
+
+
+LISTED = re.compile(r"- `([^`]*)`:? ?(.*)")
+
+
+def load(folder=FOLDER):
+    """All scenarios of a folder, in the order of its page."""
+    try:
+        with open(os.path.join(folder, "README.md"), encoding="utf-8") as page:
+            lines = page.read().splitlines()
+    except OSError as error:
+        raise Broken(f"{os.path.join(folder, 'README.md')} can't be read: {error.strerror}") from None
+    found = [Scenario(*match.groups(), folder) for match in map(LISTED.match, lines) if match]
+    if not found:
+        raise Broken(f"{folder}/README.md lists no scenario")
+    for scenario in found:
+        for end in (".trace", ".records"):
+            if not os.path.exists(scenario.path + end):
+                raise Broken(f"{scenario.name}{end} is missing")
+    return found

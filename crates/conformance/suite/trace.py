@@ -1,0 +1,193 @@
+"""The lines of a trace: what each is in words, and which features a driver in it takes or asks for.
+
+docs/formats.md has the text's grammar. Lines that aren't in it are passed over: some scenarios are about just those.
+"""
+import dataclasses
+from typing import List
+
+# Offset, name, and whether a driver may read it.
+REGISTERS = {
+    0x000: "MagicValue", 0x004: "Version", 0x008: "DeviceID", 0x00c: "VendorID",
+    0x010: "DeviceFeatures", 0x014: "DeviceFeaturesSel", 0x020: "DriverFeatures", 0x024: "DriverFeaturesSel",
+    0x030: "QueueSel", 0x034: "QueueNumMax", 0x038: "QueueNum", 0x044: "QueueReady", 0x050: "QueueNotify",
+    0x060: "InterruptStatus", 0x064: "InterruptACK", 0x070: "Status",
+    0x080: "QueueDescLow", 0x084: "QueueDescHigh", 0x090: "QueueDriverLow", 0x094: "QueueDriverHigh",
+    0x0a0: "QueueDeviceLow", 0x0a4: "QueueDeviceHigh",
+    0x0ac: "SHMSel", 0x0b0: "SHMLenLow", 0x0b4: "SHMLenHigh", 0x0b8: "SHMBaseLow", 0x0bc: "SHMBaseHigh",
+    0x0c0: "QueueReset", 0x0fc: "ConfigGeneration",
+}
+CONFIGURATION = 0x100
+WINDOWS = {"b": "block", "c": "console"}
+
+# The bits of section 6, and those of each device (5.2.3, 5.3.3).
+EVERY_FEATURE = {
+    24: "notify_on_empty", 27: "any_layout", 28: "indirect_desc", 29: "event_idx", 32: "version_1",
+    33: "access_platform", 34: "ring_packed", 35: "in_order", 36: "order_platform", 37: "sr_iov",
+    38: "notification_data", 39: "notif_config_data", 40: "ring_reset",
+}
+FEATURES = {
+    "b": {0: "barrier", 1: "size_max", 2: "seg_max", 4: "geometry", 5: "ro", 6: "blk_size", 7: "scsi", 9: "flush",
+          10: "topology", 11: "config_wce", 12: "mq", 13: "discard", 14: "write_zeroes", 15: "lifetime",
+          16: "secure_erase"},
+    "c": {0: "size", 1: "multiport", 2: "emerg_write"},
+}
+
+# The configuration fields that stand for a feature: the first byte, the byte behind the last, and the feature.
+FIELDS = {
+    "b": [(8, 12, "size_max"), (12, 16, "seg_max"), (20, 24, "blk_size"), (48, 57, "write_zeroes")],
+    "c": [(0, 4, "size"), (8, 12, "emerg_write")],
+}
+
+
+def bit_name(window, bit):
+    """The feature of a bit, or `bit_N` where the standard names none."""
+    return EVERY_FEATURE.get(bit) or FEATURES[window].get(bit) or f"bit_{bit}"
+
+
+@dataclasses.dataclass(frozen=True)
+class Event:
+    """An event line, with its fields as text."""
+
+    line: int
+    text: str
+    fields: List[str]
+
+    @property
+    def word(self):
+        return self.fields[0]
+
+    @property
+    def slot(self):
+        return int(self.fields[1], 16)
+
+    def in_words(self):
+        """What the event is, for a reader."""
+        return f"guest {self.slot} " + getattr(self, "say_" + self.word)(*self.fields[2:])
+
+    def say_r(self, window, offset, width):
+        return f"reads {width} bytes of {place(window, offset)}"
+
+    def say_w(self, window, offset, width, value):
+        return f"writes {value} to {place(window, offset)}" + ("" if width == "4" else f", with width {width}")
+
+    def say_mr(self, address, length):
+        return f"looks at {int(length, 16)} bytes of its memory at {address}"
+
+    def say_mw(self, address, data):
+        return f"puts {bytes_in(data)} bytes into its memory at {address}"
+
+    def say_in(self, data):
+        return f"is typed {bytes_in(data)} bytes"
+
+    def say_sz(self, columns, rows):
+        return f"gets a console of {int(columns, 16)} by {int(rows, 16)}"
+
+
+def bytes_in(field):
+    return 0 if field == "-" else len(field) // 2
+
+
+def place(window, offset):
+    """A register in words, as `Status of its block window`."""
+    offset = int(offset, 16)
+    if offset >= CONFIGURATION:
+        return f"byte {offset - CONFIGURATION} of the configuration of its {WINDOWS[window]} window"
+    return f"{REGISTERS.get(offset, f'offset {offset:03x}')} of its {WINDOWS[window]} window"
+
+
+COUNTS = {"r": 5, "w": 6, "mr": 4, "mw": 4, "in": 3, "sz": 4}
+
+
+def events_of(text):
+    """The events of a trace's text, up to the first line that is none."""
+    events = []
+    for number, line in enumerate(text.split("\n"), 1):
+        fields = line.split(" ")
+        if fields[0] in COUNTS:
+            if len(fields) != COUNTS[fields[0]]:
+                break
+            events.append(Event(number, line, fields))
+    return events
+
+
+def slots_of(text):
+    """The fields of each slot line."""
+    return [line.split(" ")[1:] for line in text.split("\n") if line.startswith("slot ")]
+
+
+class Window:
+    """The registers of one window that say which features are spoken of."""
+
+    def __init__(self):
+        self.device_selector = self.driver_selector = 0
+
+
+def features_of(text, replies):
+    """The names of what a device must have for the trace to be about it.
+
+    They are the features that a driver takes or asks for (DriverFeatures), those that a device shows (the expected
+    answers of DeviceFeatures), and those whose configuration fields are touched. Others are no bits: `offer`, all
+    offered features are read; `vendor`, VendorID is; `resize` and `input`, the host does that; `guests`, there are
+    more than one; `ro`, a slot is read-only.
+    """
+    found = set()
+    slots = slots_of(text)
+    if len(slots) > 1:
+        found.add("guests")
+    if any(len(fields) >= 5 and fields[4] == "ro" for fields in slots):
+        found.add("ro")
+    windows = {}
+    for event, reply in zip(events_of(text), replies):
+        try:
+            found |= features_in(event, reply, windows)
+        except ValueError:
+            break
+    return found
+
+
+def features_in(event, reply, windows):
+    """The features of one event."""
+    if event.word == "in":
+        return {"input"}
+    if event.word == "sz":
+        return {"resize", "size"}
+    if event.word not in ("r", "w") or event.fields[2] not in WINDOWS:
+        return set()
+    name, offset, width = event.fields[2], int(event.fields[3], 16), event.fields[4]
+    if offset >= CONFIGURATION:
+        byte = offset - CONFIGURATION
+        return {feature for first, end, feature in FIELDS[name] if byte < end and byte + int(width, 16) > first}
+    if width != "4":
+        return set()
+    window = windows.setdefault((event.slot, name), Window())
+    if event.word == "r":
+        return shown(name, offset, reply, window)
+    return written(name, offset, int(event.fields[5], 16), window)
+
+
+def shown(name, offset, reply, window):
+    if offset == 0x00c:
+        return {"vendor"}
+    if offset != 0x010:
+        return set()
+    answer = reply.split(" ")[1] if reply.count(" ") == 4 else ""
+    value = int(answer[2:], 16) if answer.startswith("v:") else 0
+    return {"offer"} | named(name, value, window.device_selector)
+
+
+def written(name, offset, value, window):
+    if offset == 0x014:
+        window.device_selector = value
+    elif offset == 0x024:
+        window.driver_selector = value
+    elif offset == 0x070 and value == 0:
+        window.device_selector = window.driver_selector = 0
+    elif offset == 0x020:
+        return named(name, value, window.driver_selector)
+    return set()
+
+
+def named(name, value, selector):
+    if selector > 1:
+        return set()
+    return {bit_name(name, 32 * selector + bit) for bit in range(32) if value >> bit & 1}
