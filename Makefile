@@ -1,5 +1,5 @@
-# The two commands of the README, the measurements, tries from outside, and the hosts of the static library.
-.PHONY: run test bench fuzz broken embed stress
+# The two commands of the README, the measurements, tries from outside, the hosts of the static library, and the suite.
+.PHONY: run test bench fuzz broken trouble embed stress doors peer mutants
 
 TRACE ?= examples/two-guests.trace
 IMAGE ?=
@@ -33,6 +33,13 @@ fuzz:
 broken:
 	@fuzz/broken
 
+# Calls the program with its standard streams closed and over files of all kinds, and replays N traces in place over a
+# file of which one call goes wrong, from the seed FROM on.
+trouble:
+	@fuzz/streams
+	@fuzz/files
+	@fuzz/trouble $(N) --from $(FROM)
+
 # Builds the static library and its hosts, in C, in Rust and over a CPU emulator where one is installed, runs them,
 # and compares what they print.
 embed:
@@ -42,3 +49,15 @@ embed:
 # threads.
 stress:
 	@examples/embed/stress-run
+
+# Runs the worked scenarios by each door that is built: the program, the program in place, the C library.
+doors:
+	@crates/conformance/in-process/doors
+
+# Runs the worked scenarios on QEMU's devices, and compares what differs with the table; it wants qemu-system-arm.
+peer:
+	@crates/conformance/run-on --quiet --jobs 3 --adapter --in-place - --table crates/conformance/peers/QEMU.md --without notification_data crates/conformance/peers/qemu
+
+# Makes wrong devices out of a small model, and runs over each the scenario that it must fail.
+mutants:
+	@crates/conformance/mutants/run

@@ -8,12 +8,14 @@
 
 #include "kalyubos.h"
 
-enum { ROUNDS = 40, READS = 1000000, REQUESTS = 20000, COPIES = 20000, LEN = 4096 };
+enum {
+    ROUNDS = 40, READS = 1000000, REQUESTS = 20000, COPIES = 20000, LEN = 4096, OUTLET = 0x8000, SECTORS = 65536,
+};
 static const uint64_t MEMORY = 0x80000000, TABLE = 0x80001000, AVAIL = 0x80002000, HEADER = 0x80004000,
-                      DATA = 0x80010000;
+                      ZEROES = 0x80005000, DATA = 0x80010000;
 
 static struct kalyubos board;
-static uint8_t image[128 * 512], buffer[LEN], other[LEN];
+static uint8_t image[SECTORS * 512], buffer[LEN], other[LEN];
 static uint16_t idx;
 
 static void must(uint32_t answer)
@@ -24,9 +26,14 @@ static void must(uint32_t answer)
     }
 }
 
+static void set_of(uint8_t window, uint16_t offset, uint32_t value)
+{
+    must(kalyubos_write(&board, 0, window, offset, 4, value));
+}
+
 static void set(uint16_t offset, uint32_t value)
 {
-    must(kalyubos_write(&board, 0, KALYUBOS_BLOCK, offset, 4, value));
+    set_of(KALYUBOS_BLOCK, offset, value);
 }
 
 static void descriptor(int place, uint64_t addr, uint32_t len, uint16_t flags, uint16_t next)
@@ -46,6 +53,31 @@ static void bring_up(void)
     descriptor(0, HEADER, 16, 1, 1);
     descriptor(1, DATA, LEN, 3, 2);
     descriptor(2, HEADER + 16, 1, 2, 0);
+}
+
+/* A console's driver with a transmit queue of four, whose every chain is 4 KiB. */
+static void bring_up_console(void)
+{
+    const uint32_t steps[][2] = { { 0x70, 0 }, { 0x70, 1 }, { 0x70, 3 }, { 0x24, 1 }, { 0x20, 1 }, { 0x70, 11 },
+                                  { 0x30, 1 }, { 0x38, 4 }, { 0x80, 0x80005000 }, { 0x90, 0x80006000 },
+                                  { 0xa0, 0x80007000 }, { 0x44, 1 }, { 0x70, 15 } };
+    for (size_t i = 0; i < sizeof steps / sizeof *steps; i++)
+        set_of(KALYUBOS_CONSOLE, (uint16_t)steps[i][0], steps[i][1]);
+    struct { uint64_t addr; uint32_t len; uint16_t flags, next; } it = { DATA, LEN, 0, 0 };
+    must(kalyubos_write_memory(&board, 0, 0x80005000, (const uint8_t *)&it, sizeof it));
+}
+
+/* Puts the chain on offer, notifies, and takes what the console put out. */
+static void transmit(void)
+{
+    static uint16_t sent;
+    size_t taken;
+    sent++;
+    must(kalyubos_write_memory(&board, 0, 0x80006002, (const uint8_t *)&sent, 2));
+    set_of(KALYUBOS_CONSOLE, 0x50, 1);
+    must(kalyubos_take_output(&board, 0, buffer, LEN, &taken));
+    if (taken != LEN)
+        must(KALYUBOS_BAD_SLOT);
 }
 
 static void read_register(void)
@@ -82,6 +114,24 @@ static void copy_alone(void)
     copy(buffer, other, LEN);
 }
 
+/* From now on every chain zeroes all sectors: header and segment in one buffer, and the status. */
+static void turn_to_zeroes(void)
+{
+    const uint8_t header_and_segment[32] = { [0] = 13, [26] = SECTORS >> 16 };
+    const uint16_t heads[4] = { 3, 3, 3, 3 };
+    descriptor(3, ZEROES, sizeof header_and_segment, 1, 2);
+    must(kalyubos_write_memory(&board, 0, ZEROES, header_and_segment, sizeof header_and_segment));
+    must(kalyubos_write_memory(&board, 0, AVAIL + 4, (const uint8_t *)heads, sizeof heads));
+}
+
+/* The like of it without a board. */
+static void *(*volatile fill)(void *, int, size_t) = memset;
+
+static void fill_alone(void)
+{
+    fill(image, 0, sizeof image);
+}
+
 static double now(void)
 {
     struct timespec t;
@@ -104,13 +154,20 @@ static void time_of(const char *what, void (*work)(void), int count)
 
 int main(void)
 {
-    struct kalyubos_slot slot = { MEMORY, 0x100000, 0, 128, 80, 25, false };
+    struct kalyubos_slot slot = {
+        .base = MEMORY, .len = 0x100000, .start = 0, .count = SECTORS, .cols = 80, .rows = 25, .outlet = OUTLET,
+    };
     must(kalyubos_create(&board, &slot, 1, image, sizeof image, 8));
     bring_up();
+    bring_up_console();
     time_of("a register read", read_register, READS);
     time_of("an IN of 4 KiB, with notify, status, acknowledge", request, REQUESTS);
+    time_of("a transmit of 4 KiB, and its taking", transmit, REQUESTS);
     time_of("a memory read of 4 KiB", copy_out, COPIES);
     time_of("a copy of 4 KiB", copy_alone, COPIES);
+    turn_to_zeroes();
+    time_of("a WRITE_ZEROES of 65536 sectors", request, 1);
+    time_of("a memset of as many bytes", fill_alone, 1);
     must(kalyubos_destroy(&board));
     return 0;
 }

@@ -2,11 +2,12 @@
 
 A guest writes down what it does, line by line, before anything runs; it never sees an answer. A sane guest also
 writes down which answers its own driver relies on: that its disk gives back what it wrote, that what was typed
-arrives, and that what it transmits comes out. A hostile guest runs the same drivers, but twists what they write
-into memory, and does mischief between their steps.
+arrives, and that what it transmits comes out. It notes too at which event it reads the status of which request. A
+hostile guest runs the same drivers, but twists what they write into memory, and does mischief between their steps.
 """
 from collections import namedtuple
 
+from probes import Probes
 from queues import PackedQueue, SplitQueue
 
 Slot = namedtuple("Slot", "base length start count read_only columns rows")
@@ -19,10 +20,10 @@ PLACES = [0x0000, 0x3000, 0x4800]
 MEMORIES = [0x6000, 0x8000, 0x10000]
 
 SECTOR = 512
-INDIRECT_DESC, EVENT_IDX, CONSOLE_SIZE = 1 << 28, 1 << 29, 1 << 0
+INDIRECT_DESC, EVENT_IDX, CONSOLE_SIZE, WRITE_ZEROES = 1 << 28, 1 << 29, 1 << 0, 1 << 14
 VERSION_1, RING_PACKED, NOTIFICATION_DATA = 1 << 0, 1 << 2, 1 << 6
-READ, WRITE, FLUSH, IDENTITY = 0, 1, 4, 8
-OK, IOERR = 0, 1
+READ, WRITE, FLUSH, IDENTITY, ZERO = 0, 1, 4, 8, 13
+OK, IOERR, UNSUPPORTED = 0, 1, 2
 IDENTITY_TEXT = b"vreplay-block".ljust(20, b"\0")
 PENDING_LIMIT = 4096
 
@@ -36,12 +37,20 @@ REGISTERS = [0x000, 0x004, 0x008, 0x00C, 0x010, 0x014, 0x020, 0x024, 0x030, 0x03
              0x114, 0x130]
 
 
+def segment_bytes(sector, count, flags):
+    """A segment of a request that zeroes sectors."""
+    return sector.to_bytes(8, "little") + count.to_bytes(4, "little") + flags.to_bytes(4, "little")
+
+
 class Guest:
     """What one guest does: its events, each as a word and its fields behind the slot."""
 
     def __init__(self, dice, slot, wildness=0.0):
         self.dice, self.slot, self.wildness = dice, slot, wildness
         self.events, self.expected, self.disk = [], {}, None
+        # of each block request: the event that reads its status, its type, whether it is refused, and runs of sectors with
+        # what it writes to them
+        self.looked = []
 
     def do(self, word, fields, reply=None, output="-"):
         """Writes an event down, and the reply that the guest relies on, where it does."""
@@ -49,8 +58,8 @@ class Guest:
             self.expected[len(self.events)] = f"{reply} {output}"
         self.events.append((word, fields))
 
-    def read(self, window, offset, width=4):
-        self.do("r", f"{window} {offset:03x} {width}")
+    def read(self, window, offset, width=4, found=None):
+        self.do("r", f"{window} {offset:03x} {width}", None if found is None else f"v:{found:08x}")
 
     def write(self, window, offset, value, width=4, reply=None, output="-"):
         value %= 1 << 8 * width
@@ -67,15 +76,16 @@ class Driver:
     """A driver of one window: brings it up with its virtqueues."""
 
     def __init__(self, guest, window, offered, places):
-        dice, self.guest, self.window = guest.dice, guest, window
+        dice, self.guest, self.window, self.offered = guest.dice, guest, window, offered
         low = offered.block if window == "b" else offered.console
         self.low = low & dice.choice([0, INDIRECT_DESC, EVENT_IDX, 0xFFFFFFFF])
         is_packed = bool(offered.high & RING_PACKED) and dice.random() < 0.5
-        self.high = VERSION_1 | (offered.high & dice.choice([0, 0, NOTIFICATION_DATA]))
+        self.high = VERSION_1 | (offered.high & dice.choice([0, NOTIFICATION_DATA]))
         if is_packed:
             self.high |= RING_PACKED
         kind, indirect = PackedQueue if is_packed else SplitQueue, bool(self.low & INDIRECT_DESC)
-        self.queues = [kind(guest, window, number, dice.choice(kind.SIZES), guest.slot.base + place, indirect)
+        tells_next = bool(self.high & NOTIFICATION_DATA)
+        self.queues = [kind(guest, window, number, dice.choice(kind.SIZES), guest.slot.base + place, indirect, tells_next)
                        for number, place in enumerate(places)]
 
     def bring_up(self):
@@ -101,19 +111,24 @@ class BlockDriver(Driver):
     def __init__(self, guest, offered, disk):
         super().__init__(guest, "b", offered, PLACES[:1])
         self.disk, self.checks, self.last = bytearray(disk), [], 0
+        self.asked = []
 
     def step(self):
         """Some requests, one notify, and a look at what became of them."""
         queue, guest = self.queues[0], self.guest
         for _ in range(guest.dice.randrange(1, 4)):
-            self.request(guest.dice.choice([READ, READ, READ, WRITE, WRITE, FLUSH, IDENTITY]))
+            if self.low & WRITE_ZEROES and guest.dice.random() < 0.3:
+                self.zero()
+            else:
+                self.request(guest.dice.choice([READ, READ, READ, WRITE, WRITE, FLUSH, IDENTITY]))
         queue.publish()
-        guest.write("b", 0x050, 0, reply="done")
+        guest.write("b", 0x050, queue.notification(), reply="done")
+        guest.looked += [(len(guest.events) + at, *request) for at, *request in self.asked]
         for address, data in self.checks:
             guest.look(address, len(data), data)
         queue.look_at_used()
         queue.give_buffers_back()
-        self.checks = []
+        self.checks, self.asked = [], []
         if guest.dice.random() < 0.5:
             self.acknowledge()
 
@@ -132,16 +147,16 @@ class BlockDriver(Driver):
         is_refused = is_outside or what == WRITE and guest.slot.read_only
         guest.put(header, what.to_bytes(4, "little") + bytes(4) + sector.to_bytes(8, "little"))
         guest.put(status, b"\xff")
-        if what == WRITE:
-            self.write_sectors(data, sector, is_refused)
-        elif what in (READ, IDENTITY) and not is_refused:
+        written = self.write_sectors(data, sector, is_refused) if what == WRITE else b""
+        if what in (READ, IDENTITY) and not is_refused:
             found = IDENTITY_TEXT if what == IDENTITY else bytes(self.disk[SECTOR * sector:SECTOR * sector + length])
             self.rely_on(data, found)
+        self.asked.append((len(self.checks), what, is_refused, [(sector, written)]))
         self.rely_on([(status, 1)], bytes([IOERR if is_refused else OK]))
         queue.offer([(header, 16, False)] + [(at, n, what != WRITE) for at, n in data] + [(status, 1, True)])
 
     def write_sectors(self, pieces, sector, is_refused):
-        """Fills the pieces with bytes to write, and notes what the disk then holds."""
+        """Fills the pieces with bytes to write, notes what the disk then holds, and answers them."""
         whole = b""
         for address, length in pieces:
             data = self.guest.dice.randbytes(length)
@@ -149,6 +164,43 @@ class BlockDriver(Driver):
             whole += data
         if not is_refused:
             self.disk[SECTOR * sector:SECTOR * sector + len(whole)] = whole
+        return whole
+
+    def zero(self):
+        """A request that zeroes sectors, where the virtqueue and the room for buffers have place for it."""
+        guest, queue, dice = self.guest, self.queues[0], self.guest.dice
+        segments = [(dice.randrange(guest.slot.count + 1), dice.choice([0, 1, 1, 1, 2, 3]),
+                     dice.choice([0, 0, 0, 0, 1, 1, 1, 2])) for _ in range(dice.choice([0, 1, 1, 1, 2, 3, 32, 33]))]
+        length = 16 * len(segments)
+        if queue.room_left() < length + 200:
+            return
+        header, data, status = queue.buffer(16), queue.pieces(length), queue.buffer(1)
+        if queue.left < len(data) + 2:
+            return
+        guest.put(header, ZERO.to_bytes(16, "little"))
+        guest.put(status, b"\xff")
+        whole = b"".join(segment_bytes(*segment) for segment in segments)
+        for address, part in data:
+            guest.put(address, whole[:part])
+            whole = whole[part:]
+        answer = self.zero_segments(segments)
+        zeroed = [(sector, bytes(SECTOR * count)) for sector, count, _ in segments]
+        self.asked.append((len(self.checks), WRITE, answer != OK, zeroed))
+        self.rely_on([(status, 1)], bytes([answer]))
+        queue.offer([(header, 16, False)] + [(at, n, False) for at, n in data] + [(status, 1, True)])
+
+    def zero_segments(self, segments):
+        """The status that these segments get; the disk then holds zeros in their sectors where it is OK."""
+        slot = self.guest.slot
+        if slot.read_only or not 0 < len(segments) <= 32:
+            return IOERR
+        if any(flags > 1 for _, _, flags in segments):
+            return UNSUPPORTED
+        if any(sector + count > slot.count for sector, count, _ in segments):
+            return IOERR
+        for sector, count, _ in segments:
+            self.disk[SECTOR * sector:SECTOR * (sector + count)] = bytes(SECTOR * count)
+        return OK
 
     def rely_on(self, pieces, data):
         """What the pieces hold after this request; a later one of the same notify changes no byte of them."""
@@ -193,7 +245,7 @@ class ConsoleDriver(Driver):
                 queue.offer([(at, n, True) for at, n in pieces])
                 self.waiting.append(pieces)
         queue.publish()
-        guest.write("c", 0x050, 0, reply="done")
+        guest.write("c", 0x050, queue.notification(), reply="done")
         self.look_at_received()
 
     def look_at_received(self):
@@ -216,7 +268,7 @@ class ConsoleDriver(Driver):
                 out += self.fill(pieces)
                 queue.offer([(at, n, False) for at, n in pieces])
         queue.publish()
-        guest.write("c", 0x050, 1, reply="done", output=out.hex() or "-")
+        guest.write("c", 0x050, queue.notification(), reply="done", output=out.hex() or "-")
         queue.look_at_used()
 
     def fill(self, pieces):
@@ -242,7 +294,7 @@ class Mischief:
 
     def __init__(self, guest, drivers, types):
         self.guest, self.drivers, self.dice = guest, drivers, guest.dice
-        self.ways = [self.odd_request] * 6 + [self.scribble, self.jump, self.notify, self.notify] + [self.restart] * 4
+        self.ways = [self.odd_request] * 6 + [self.odd_zero] * 2 + [self.scribble, self.jump, self.notify, self.notify] + [self.restart] * 4
         self.ways += [self.register, self.register, self.odd_read, self.status, self.move, self.outside]
         self.ways += [self.type] if types else []
 
@@ -281,9 +333,36 @@ class Mischief:
         if queue.left >= len(buffers):
             queue.offer(buffers)
         queue.publish()
-        guest.write(queue.window, 0x050, queue.number)
+        guest.write(queue.window, 0x050, queue.notification())
         queue.look_at_used()
         guest.read(queue.window, 0x070)
+
+    def odd_zero(self):
+        """A request that zeroes sectors, with data of any length, often over a virtqueue."""
+        guest, dice, queue = self.guest, self.dice, self.queue()
+        queue.give_buffers_back()
+        length = dice.choice([0, 16, 16, 32, 48, 512, 528, dice.randrange(530), dice.randrange(530)])
+        header, at, status = queue.buffer(16), dice.choice([queue.buffer(544), self.address()]), queue.buffer(1)
+        guest.put(header, ZERO.to_bytes(16, "little"))
+        if dice.random() < 0.8:
+            guest.put(at, b"".join(self.odd_segment() for _ in range(34))[:length])
+        cut = dice.randrange(length + 1)
+        if queue.left >= 4:
+            rest = (at + cut) % (1 << 64)
+            queue.offer([(header, 16, False), (at, cut, False), (rest, length - cut, False), (status, 1, True)])
+        queue.publish()
+        guest.write(queue.window, 0x050, queue.number)
+        queue.look_at_used()
+
+    def odd_segment(self):
+        """A segment, most times of few sectors of the disk."""
+        dice, count = self.dice, self.guest.slot.count
+        few = [dice.randrange(count + 1), dice.choice([0, 1, 1, 2]), dice.choice([0, 0, 1])]
+        if dice.random() < 0.05:
+            few[dice.randrange(3)] = dice.choice([count + 1, 2, 3, 65536, 65537, 1 << 31, (1 << 32) - 1])
+        if dice.random() < 0.02:
+            few[0] = dice.choice([1 << 32, 1 << 55, (1 << 64) - 1])
+        return segment_bytes(*few)
 
     def odd_buffer(self, queue):
         """A buffer, as (address, length, whether the device may write it)."""
@@ -302,7 +381,7 @@ class Mischief:
         """An available idx, or an event suppression, that nobody would write."""
         queue = self.queue()
         self.guest.put(queue.driver_area + self.dice.choice([0, 2]), (self.number() & 0xFFFF).to_bytes(2, "little"))
-        self.guest.write(queue.window, 0x050, queue.number)
+        self.guest.write(queue.window, 0x050, queue.notification())
 
     def register(self):
         offset = self.dice.choice(REGISTERS) if self.dice.random() < 0.8 else self.dice.randrange(0x1000)
@@ -354,7 +433,7 @@ def live(guest, offered, disk, count):
     dice, has_console = guest.dice, bool(offered.console & CONSOLE_SIZE)
     drivers = [BlockDriver(guest, offered, disk)] + ([ConsoleDriver(guest, offered)] if has_console else [])
     guest.disk = drivers[0].disk
-    mischief = Mischief(guest, drivers, has_console)
+    mischief, probes = Mischief(guest, drivers, has_console), Probes(guest, drivers[0])
     if has_console and dice.random() < 0.3:
         drivers[1].type()
     for driver in drivers:
@@ -362,6 +441,8 @@ def live(guest, offered, disk, count):
     while len(guest.events) < count:
         if dice.random() < guest.wildness:
             mischief.step()
+        elif not guest.wildness and dice.random() < 0.05:
+            probes.step()
         else:
             dice.choice(drivers).step()
         if dice.random() < 0.05:

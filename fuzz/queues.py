@@ -10,11 +10,19 @@ AREAS, BUFFERS = 0x400, 0x1400
 class Queue:
     """What both kinds share: where the areas and the buffers lie, and how the registers are told so."""
 
-    def __init__(self, guest, window, number, size, at, indirect):
+    def __init__(self, guest, window, number, size, at, indirect, tells_next):
         self.guest, self.window, self.number, self.size, self.indirect = guest, window, number, size, indirect
+        self.tells_next = tells_next
         self.at, self.driver_area = at, at + DESCRIPTOR * size
         self.left = size
         self.give_buffers_back()
+
+    def notification(self):
+        """What the driver writes to QueueNotify: the index, and with NOTIFICATION_DATA its next place above it."""
+        if not self.tells_next:
+            return self.number
+        is_lie = self.guest.dice.random() < self.guest.wildness
+        return self.number | (self.guest.dice.randrange(1 << 16) if is_lie else self.next_place()) << 16
 
     def room_left(self):
         return self.at + AREAS + BUFFERS - self.free
@@ -97,6 +105,9 @@ class SplitQueue(Queue):
         self.guest.put(self.driver_area, bytes(6 + 2 * self.size))
         self.guest.put(self.device_area, bytes(6 + 8 * self.size))
 
+    def next_place(self):
+        return self.idx
+
     def offer(self, buffers):
         buffers, flags = self.in_table(buffers)
         head = self.size - self.left
@@ -137,6 +148,9 @@ class PackedQueue(Queue):
     def start_over(self):
         self.position, self.wrap, self.left = 0, True, self.size
         self.guest.put(self.at, bytes(DESCRIPTOR * self.size + 8))
+
+    def next_place(self):
+        return self.position | self.wrap << 15
 
     def offer(self, buffers):
         buffers, flags = self.in_table(buffers)

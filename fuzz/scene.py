@@ -5,6 +5,7 @@ from guests import MEMORIES, SECTOR, Guest, Slot, live
 
 BASES = [0x80000000, 0x80000000, 0, 0x40000000, (1 << 64) - 0x10000]
 CACHES = [1, 2, 3, 8, 65536]
+DISKS = 2 * [0, 1, 2, 4, 8] + [130]
 WILDNESS = [0, 0, 0.1, 0.4, 0.8]
 STRANGERS = ["r {} b 000 4", "w {} b 070 4 00000000", "w {} c 050 4 00000000", "mr {} 80000000 4", "mw {} 80000000 ff"]
 
@@ -17,7 +18,7 @@ class Scene:
         self.cache = dice.choice(CACHES)
         self.guests, start = [], dice.randrange(3)
         for _ in range(dice.randrange(2, 5)):
-            length, count = dice.choice(MEMORIES), dice.choice([0, 1, 2, 4, 8])
+            length, count = dice.choice(MEMORIES), dice.choice(DISKS)
             base = min(dice.choice(BASES), (1 << 64) - length)
             slot = Slot(base, length, start, count, dice.random() < 0.2, dice.randrange(200), dice.randrange(100))
             self.guests.append(Guest(dice, slot, dice.choice(WILDNESS)))
