@@ -1,19 +1,17 @@
 -- A request that was read, and its segments, one after another, that are judged.
-use Rattle.std.proofs.Common.{◌≡◌, ℕ, ◌+◌, ◌-◌, ◌*◌, ◌/◌, ◌<◌, ◌≤◌, ◌&&◌, Bool, true, false, List, [], ◌∷◌, ◌++◌, length, map, take, drop, get_or, refl, sym, ap, ◌∙◌, arith, nat_lt, length-drop, length-take}
-use Rattle.std.specs.List.{list_all, range_with_len}
+use Rattle.std.proofs.Common.{◌≡◌, ℕ, ◌+◌, ◌-◌, ◌*◌, ◌/◌, ◌<◌, ◌≤◌, ◌&&◌, Bool, true, false, List, [], ◌∷◌, length, take, drop, get_or, refl, sym, ap, ◌∙◌, arith, nat_lt, length-drop, length-take}
+use Rattle.std.specs.List.{list_all}
 use Rattle.std.proofs.lemmas.Bool.Decides.{nat_tests}
 use Rattle.std.proofs.lemmas.List.{drop-drop, take_all}
-use Rattle.std.proofs.lemmas.List.Folds.{list_all-append, list_all_at}
+use Rattle.std.proofs.lemmas.List.Folds.{list_all-append}
 use Rattle.std.proofs.lemmas.List.FromFn.{get_or-map-range_with_len, length-map-range_with_len, map-range_with_len_more}
 use Rattle.std.proofs.lemmas.List.Sums.{AllPass-from_list_all}
 use Rattle.byteorder.specs.Endian.{little_number}
 use Rattle.block_device.specs.declared.device.BlockDevice.{BlockDevice}
-use Rattle.block_device.specs.declared.request.RequestStatus.TheVariants.{IoError, Unsupported}
 use Rattle.block_device.specs.declared.request.Request.{Request}
-use Rattle.block_device.specs.declared.request.Request.TheVariants.{Rejected, WriteZeroes}
 use Rattle.block_device.specs.declared.zeroes.WriteZeroesSegment.{WriteZeroesSegment}
-use Rattle.block_device.specs.Request.{payload_of, request_of, sector_in, type_of, typed_request, write_zeroes_request_of}
-use Rattle.block_device.specs.Zeroes.{are_segments, has_known_flags, has_sectors_within, segment_at, segment_of, segments_in}
+use Rattle.block_device.specs.Request.{payload_of, request_of, sector_in, type_of, typed_request}
+use Rattle.block_device.specs.Zeroes.{has_known_flags, has_sectors_within, segment_at, segment_of, segments_in}
 use Rattle.block_device.proofs.Zeroing.{first_segments}
 
 -- a whole header that was read, and the request of its type
@@ -43,18 +41,10 @@ pub same_segment : (a b c d e f : ℕ) → a ≡ d → b ≡ e → c ≡ f
     → ◌≡◌ {A = WriteZeroesSegment} (record { sector = a; count = b; flags = c }) (record { sector = d; count = e; flags = f })
 same_segment a b c d e f p q r = rw (p, q, r) refl
 
--- the segments before an index have known flags, and these many sectors
-pub record IsJudged (capacity : ℕ) (payload : List ℕ) (index : ℕ) (within : Bool) : Type 0 where
-  pub known : list_all has_known_flags (first_segments payload index) ≡ true
-  pub inside : within ≡ list_all (has_sectors_within capacity) (first_segments payload index)
-
-pub judged_start : (capacity : ℕ) (payload : List ℕ) → IsJudged capacity payload 0 true
-judged_start capacity payload = record { known = refl; inside = refl }
-
-and_true : (a b : Bool) → b ≡ true → a ≡ true → (a && b) ≡ true
-and_true true true p q = refl
-and_true true false p q = p
-and_true false b p q = q
+-- of the segments before an index these flags are known, and these sectors within the disk
+pub record IsJudged (capacity : ℕ) (payload : List ℕ) (index : ℕ) (known within : Bool) : Type 0 where
+  pub flags : known ≡ list_all has_known_flags (first_segments payload index)
+  pub sectors : within ≡ list_all (has_sectors_within capacity) (first_segments payload index)
 
 alone : (b : Bool) → (b && true) ≡ b
 alone true = refl
@@ -67,51 +57,24 @@ list_all-more p payload index =
     ∙ list_all-append p (first_segments payload index) (segment_at payload index ∷ [])
     ∙ ap (λ b. list_all p (first_segments payload index) && b) (alone (p (segment_at payload index)))
 
-pub judged_more : (capacity : ℕ) (payload : List ℕ) (index : ℕ) (within both : Bool) (segment : WriteZeroesSegment) → IsJudged capacity payload index within
-    → segment ≡ segment_at payload index → has_known_flags segment ≡ true → both ≡ (within && has_sectors_within capacity segment) → IsJudged capacity payload (index + 1) both
-judged_more capacity payload index within both segment j is known now = record {
-  known =
-      list_all-more has_known_flags payload index
-      ∙ and_true (list_all has_known_flags (first_segments payload index)) (has_known_flags (segment_at payload index)) (sym (ap has_known_flags is) ∙ known) j.known;
-  inside =
-      now ∙ ap (λ s. within && has_sectors_within capacity s) is ∙ ap (λ b. b && has_sectors_within capacity (segment_at payload index)) j.inside
-      ∙ sym (list_all-more (has_sectors_within capacity) payload index);
+-- one test more of one segment more
+one_more : (p : WriteZeroesSegment → Bool) (payload : List ℕ) (index : ℕ) (before both : Bool) (segment : WriteZeroesSegment)
+    → before ≡ list_all p (first_segments payload index) → segment ≡ segment_at payload index → both ≡ (before && p segment) → both ≡ list_all p (first_segments payload (index + 1))
+one_more p payload index before both segment was is now =
+    now ∙ ap (λ s. before && p s) is ∙ ap (λ b. b && p (segment_at payload index)) was ∙ sym (list_all-more p payload index)
+
+pub judged_more : (capacity : ℕ) (payload : List ℕ) (index : ℕ) (known within known' within' : Bool) (segment : WriteZeroesSegment) → IsJudged capacity payload index known within
+    → segment ≡ segment_at payload index → known' ≡ (known && has_known_flags segment) → within' ≡ (within && has_sectors_within capacity segment)
+    → IsJudged capacity payload (index + 1) known' within'
+judged_more capacity payload index known within known' within' segment j is flags sectors = record {
+  flags = one_more has_known_flags payload index known known' segment j.flags is flags;
+  sectors = one_more (has_sectors_within capacity) payload index within within' segment j.sectors is sectors;
 }
 
 -- a segment of a payload, by its index
 at_index : (payload : List ℕ) (index : ℕ) → index < length payload / 16 → get_or (segments_in payload) index (segment_at payload index) ≡ segment_at payload index
 at_index payload index below =
     get_or-map-range_with_len (segment_at payload) 0 (length payload / 16) index index (segment_at payload index) below (omega arith)
-
--- one segment has another flag
-pub refused_by_flags : (device : BlockDevice) (payload : List ℕ) (index : ℕ) (segment : WriteZeroesSegment) → device.read_only ≡ false → are_segments (length payload) ≡ true
-    → segment ≡ segment_at payload index → index < length payload / 16 → has_known_flags segment ≡ false → Rejected Unsupported ≡ write_zeroes_request_of device payload
-refused_by_flags device payload index segment writes whole is below unknown =
-    let there : index < length (segments_in payload) = omega (arith, length-map-range_with_len (segment_at payload) 0 (length payload / 16)) in
-    let not_all : list_all has_known_flags (segments_in payload) ≡ false =
-    list_all_at has_known_flags (segments_in payload) index (segment_at payload index) there (ap has_known_flags (at_index payload index below ∙ sym is) ∙ unknown) in
-    rw (writes, whole, not_all) refl
-
--- all have known flags, and one has other sectors
-pub refused_by_sectors : (device : BlockDevice) (payload : List ℕ) (index : ℕ) (within : Bool) → device.read_only ≡ false → are_segments (length payload) ≡ true
-    → IsJudged device.extent.count payload index within → index ≡ length payload / 16 → within ≡ false → Rejected IoError ≡ write_zeroes_request_of device payload
-refused_by_sectors device payload index within writes whole j all outside =
-    let known : list_all has_known_flags (segments_in payload) ≡ true = rw all at j.known in
-    let not_all : list_all (has_sectors_within device.extent.count) (segments_in payload) ≡ false = sym (rw all at j.inside) ∙ outside in
-    rw (writes, whole, known, not_all) refl
-
--- all can be zeroed
-pub zeroes_asked : (device : BlockDevice) (payload : List ℕ) (index segments : ℕ) (within : Bool) → device.read_only ≡ false → are_segments (length payload) ≡ true
-    → IsJudged device.extent.count payload index within → index ≡ length payload / 16 → within ≡ true → segments ≡ length payload / 16
-    → WriteZeroes segments ≡ write_zeroes_request_of device payload
-zeroes_asked device payload index segments within writes whole j all inside count =
-    let known : list_all has_known_flags (segments_in payload) ≡ true = rw all at j.known in
-    let every : list_all (has_sectors_within device.extent.count) (segments_in payload) ≡ true = sym (rw all at j.inside) ∙ inside in
-    rw (writes, whole, known, every, count) refl
-
-pub all_within : (capacity : ℕ) (payload : List ℕ) (index : ℕ) (within : Bool) → IsJudged capacity payload index within → index ≡ length payload / 16 → within ≡ true
-    → list_all (has_sectors_within capacity) (segments_in payload) ≡ true
-all_within capacity payload index within j all inside = sym (rw all at j.inside) ∙ inside
 
 -- where all can be zeroed, each lies on the disk
 pub segment_within : (capacity : ℕ) (payload : List ℕ) (index : ℕ) (segment : WriteZeroesSegment) → list_all (has_sectors_within capacity) (segments_in payload) ≡ true

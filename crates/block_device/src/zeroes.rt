@@ -1,11 +1,12 @@
 //! WRITE_ZEROES (5.2.6): its segments are read where they lie in the chain, judged, and zeroed sector by
 //! sector. The first call of the image that fails is the last.
 
-ghost use Rattle.std.specs.Prelude.{◌≡◌, ℕ, ◌+◌, ◌*◌, ◌^◌, ◌<◌, ◌≤◌, true, if◌then◌else◌, length, All, OnOk, OnErr};
+ghost use Rattle.std.specs.Prelude.{◌≡◌, ℕ, ◌+◌, ◌*◌, ◌^◌, ◌<◌, ◌≤◌, true, not, if◌then◌else◌, length, All, OnOk, OnErr};
 ghost use Rattle.std.specs.List.{list_all};
 ghost use Rattle.chain.specs.Buffers.{Within};
 ghost use Rattle.chain.specs.Bytes.{readable_of};
-ghost use Rattle.block_device.specs.declared.request.Request.TheVariants.{WriteZeroes};
+ghost use Rattle.block_device.specs.declared.request.Request.TheVariants.{Rejected, WriteZeroes};
+ghost use Rattle.block_device.specs.declared.request.RequestStatus.TheVariants.{IoError, Unsupported};
 ghost use Rattle.block_device.specs.Extent.{IsWithin, KeepsOutside, extent_disk};
 ghost use Rattle.block_device.specs.Progress.{IsDone, IsServable};
 ghost use Rattle.block_device.specs.Request.{payload_of, write_zeroes_request_of};
@@ -81,6 +82,21 @@ fn are_segments(len: u64) -> bool
     len % SEGMENT_LEN == 0 && 0 < len && len / SEGMENT_LEN <= u64::from(MAX_WRITE_ZEROES_SEG)
 }
 
+/// The request of segments that were all judged, by whether all of their flags are known and all of their
+/// sectors within the disk. The flags come first.
+fn judged(segments: u64, known: bool, within: bool) -> Request
+    ensures { result ≡ (if not known then Rejected Unsupported
+        else if not within then Rejected IoError else WriteZeroes segments) }
+{
+    if !known {
+        Request::Rejected(RequestStatus::Unsupported)
+    } else if !within {
+        Request::Rejected(RequestStatus::IoError)
+    } else {
+        Request::WriteZeroes { segments }
+    }
+}
+
 impl BlockDevice {
     /// WRITE_ZEROES of the segments in `len` bytes. All flags are judged before all sectors.
     pub(crate) fn write_zeroes_request<A: Allocator>(
@@ -99,19 +115,14 @@ impl BlockDevice {
             return Request::Rejected(RequestStatus::IoError);
         }
         let segments = len / SEGMENT_LEN;
+        let mut known = true;
         let mut within = true;
         for index in 0..segments {
-            let segment = WriteZeroesSegment::read(mem, chain, index);
-            if !segment.has_known_flags() {
-                return Request::Rejected(RequestStatus::Unsupported);
-            }
-            within &= segment.has_sectors_within(self.extent.count);
+            let asked = WriteZeroesSegment::read(mem, chain, index);
+            known &= asked.has_known_flags();
+            within &= asked.has_sectors_within(self.extent.count);
         }
-        if within {
-            Request::WriteZeroes { segments }
-        } else {
-            Request::Rejected(RequestStatus::IoError)
-        }
+        judged(segments, known, within)
     }
 
     /// Zeroes the sectors of segments, and flushes.

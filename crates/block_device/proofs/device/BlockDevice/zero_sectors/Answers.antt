@@ -1,6 +1,6 @@
-use Rattle.std.proofs.Common.{◌≡◌, ◌+◌, ◌-◌, rules, arith, sym, subst}
+use Rattle.std.proofs.Common.{◌+◌, ◌-◌, rules, arith, sym, subst}
 use Rattle.std.specs.List.{range_with_len}
-use Rattle.block_device.specs.Extent.{KeepsOutside, extent_disk}
+use Rattle.block_device.specs.Extent.{extent_disk}
 use Rattle.block_device.specs.Zeroes.{IsStopped, sectors_of}
 use Rattle.block_device.proofs.Zeroing.{IsZeroing, run-at, run-more, zeroing_more, zeroing_stops}
 use Rattle.block_device.proofs.device.BlockDevice.zero_sectors.Goals as goal

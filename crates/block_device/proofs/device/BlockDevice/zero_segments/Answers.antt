@@ -1,12 +1,11 @@
-use Rattle.std.proofs.Common.{◌≡◌, ◌+◌, ◌<◌, ◌/◌, ℕ, List, length, arith, ap, sym, ◌∙◌}
+use Rattle.std.proofs.Common.{◌+◌, ◌<◌, ◌/◌, length, arith, ap, ◌∙◌}
 use Rattle.chain.specs.Bytes.{readable_of}
 use Rattle.sector_cache.specs.Disk.{Disk}
 use Rattle.block_device.specs.Request.{payload_of}
 use Rattle.block_device.specs.Zeroes.{all_sectors, segments_in}
 use Rattle.block_device.specs.Extent.{extent_disk}
-use Rattle.block_device.proofs.Courses.{outside_trans}
 use Rattle.block_device.proofs.Judging.{segment_within}
-use Rattle.block_device.proofs.Zeroing.{first_segments, segment_stops, stopped-failures, zeroes_done, zeroes_stopped, zeroes_unflushed, zeroing-failures, zeroing_joins}
+use Rattle.block_device.proofs.Zeroing.{segment_stops, stopped-failures, zeroes_done, zeroes_stopped, zeroes_unflushed, zeroing-failures, zeroing_joins}
 use Rattle.block_device.proofs.device.BlockDevice.zero_segments.Goals as goal
 
 pub zero_sectors-requires-clause-sectors : goal.zero_sectors-requires-clause-sectors
