@@ -1,6 +1,7 @@
 -- A session, as its embedder sees it, and what one event does to it.
-use Rattle.std.specs.Prelude.{⊤, ◌≡◌, ◌≢◌, ◌↔◌, ℕ, ◌≤◌, Bool, false, List, [], length, map, Some, unwrap_or, IsSomeAnd}
+use Rattle.std.specs.Prelude.{⊤, ◌≡◌, ◌≢◌, ◌↔◌, ℕ, ◌≤◌, Bool, false, List, [], length, map, Some, slice_set, unwrap_or, IsSomeAnd}
 use Rattle.std.specs.List.{slice_get}
+use Rattle.guest_memory.specs.Memory.{Memory}
 use Rattle.sector_cache.specs.Disk.{Disk, new_disk}
 use Rattle.board.specs.declared.event.Event.{Event}
 use Rattle.board.specs.declared.event.EventKind.{EventKind}
@@ -8,6 +9,7 @@ use Rattle.board.specs.declared.event.EventKind.TheVariants.{MemRead}
 use Rattle.board.specs.declared.reply.Reply.{Reply}
 use Rattle.board.specs.declared.reply.Reply.TheVariants.{BadSlot, BadRange, NoMemory}
 use Rattle.board.specs.declared.spec.SlotSpec.{SlotSpec}
+use Rattle.board.specs.Lending.{put_back}
 use Rattle.board.specs.Slot.{BoardSlot, SlotState, opened, state_of}
 use Rattle.board.specs.World.{World, Answers, KeepsOthers, MayLackMemory, extents_of, seen}
 use Rattle.board.specs.Within.{MayPutOut, TakesWithin}
@@ -92,6 +94,18 @@ new_session guests image = record {
   image = image;
   mark = false;
   outputs = map (λ guest. none_waiting guest.outlet) guests;
+}
+
+-- a session in which a slot, which was this one, has another memory, and nothing else is other
+abbrev pub with_memory : ℕ → BoardSlot → Memory → SessionState → SessionState
+with_memory slot found memory session = record session {
+  slots = slice_set session.slots slot (record found { memory = memory });
+}
+
+-- a session with these bytes in the memory of a slot, from its first byte on
+abbrev pub with_slot_bytes : ℕ → SessionState → List ℕ → SessionState
+with_slot_bytes slot session bytes = record session {
+  slots = put_back slot (slice_get session.slots slot) bytes session.slots;
 }
 
 -- an event that is no read of memory
