@@ -13,11 +13,13 @@ STRANGERS = ["r {} b 000 4", "w {} b 070 4 00000000", "w {} c 050 4 00000000", "
 class Scene:
     """Two to four guests on one board, each with a run of the image's sectors for its disk."""
 
+    GUESTS = 2, 5
+
     def __init__(self, seed, offered):
-        dice = random.Random(seed)
+        self.seed, dice = seed, random.Random(seed)
         self.cache = dice.choice(CACHES)
         self.guests, start = [], dice.randrange(3)
-        for _ in range(dice.randrange(2, 5)):
+        for _ in range(dice.randrange(*self.GUESTS)):
             length, count = dice.choice(MEMORIES), dice.choice(DISKS)
             base = min(dice.choice(BASES), (1 << 64) - length)
             slot = Slot(base, length, start, count, dice.random() < 0.2, dice.randrange(200), dice.randrange(100))
@@ -26,8 +28,12 @@ class Scene:
         self.image = dice.randbytes(SECTOR * (start + dice.randrange(2)))
         for guest in self.guests:
             first = SECTOR * guest.slot.start
-            live(guest, offered, self.image[first:first + SECTOR * guest.slot.count], dice.randrange(100, 350))
+            self.live(guest, offered, self.image[first:first + SECTOR * guest.slot.count], dice.randrange(100, 350))
         self.lines = list(self.interleaved(dice))
+
+    def live(self, guest, offered, disk, count):
+        """Makes a guest do about `count` events over its disk."""
+        live(guest, offered, disk, count)
 
     def interleaved(self, dice):
         """The events of all guests in one order, as (guest, number of the event), and now and then one of nobody's."""

@@ -13,62 +13,11 @@
 #include <stdlib.h>
 #include <string.h>
 
-#include "kalyubos.h"
+#include "shut_heap.h"
 
 enum { GUESTS = 16, MEMORY_LEN = 0x8000, COUNT = 4, TURNS = 60, HOSTILE = 0, HOSTILE_TURNS = 600 };
 static const uint64_t MEMORY = 0x80000000;
 static const uint32_t OUTLETS[] = { 0, 1, 4095, 1 << 16 };
-
-static void need(bool holds, const char *what, uint64_t number)
-{
-    if (holds)
-        return;
-    fprintf(stderr, "apart: %s (%" PRIu64 ")\n", what, number);
-    exit(1);
-}
-
-/* ---- the heap: it counts its blocks, and is shut between create and destroy */
-
-static uint64_t live;
-static bool is_open;
-
-struct kalyubos_block rattle_alloc(size_t size, size_t align)
-{
-    need(is_open, "a call asks the heap for memory", size);
-    void *at = malloc(size != 0 ? size : align);
-    live += at != NULL;
-    return (struct kalyubos_block){ at != NULL, at };
-}
-
-struct kalyubos_block rattle_realloc(void *at, size_t kept, size_t size, size_t align)
-{
-    need(is_open, "a call resizes a block", kept);
-    void *moved = realloc(at, size != 0 ? size : align);
-    return (struct kalyubos_block){ moved != NULL, moved };
-}
-
-void rattle_dealloc(void *at)
-{
-    need(is_open, "a call gives a block back", live);
-    live -= at != NULL;
-    free(at);
-}
-
-static void make(struct kalyubos *board, const struct kalyubos_slot *slots, size_t count, const uint8_t *image,
-                 size_t image_len)
-{
-    is_open = true;
-    need(kalyubos_create(board, slots, count, image, image_len, 8) == KALYUBOS_DONE, "create", count);
-    is_open = false;
-}
-
-static void end(struct kalyubos *board)
-{
-    is_open = true;
-    need(kalyubos_destroy(board) == KALYUBOS_DONE, "destroy", 0);
-    is_open = false;
-    need(live == 0, "blocks are left", live);
-}
 
 /* ---- a guest: what it does next is chosen by its own numbers, and all that it is told goes into one number */
 
@@ -275,7 +224,7 @@ static uint64_t alone(int number, uint64_t seed)
     struct kalyubos board = { NULL };
     struct kalyubos_slot slot = slots[number];
     slot.start = 0;
-    make(&board, &slot, 1, image + 512 * slots[number].start, COUNT * 512);
+    make(&board, &slot, 1, image + 512 * slots[number].start, COUNT * 512, 8);
     struct guest guest = powered_on(&board, 0, number, seed);
     while (guest.turns != 0)
         turn(&guest);
@@ -291,7 +240,7 @@ static void check_seed(uint64_t seed)
     for (int i = 0; i < GUESTS; i++)
         slots[i] = (struct kalyubos_slot){ MEMORY, MEMORY_LEN, COUNT * (uint64_t)i, COUNT, 80, 25,
                                            OUTLETS[(seed + (uint64_t)i) % 4], i % 5 == 4 };
-    make(&board, slots, GUESTS, image, sizeof image);
+    make(&board, slots, GUESTS, image, sizeof image, 8);
     for (int i = 0; i < GUESTS; i++)
         guests[i] = powered_on(&board, (uint8_t)i, i, seed);
     for (unsigned left = HOSTILE_TURNS + (GUESTS - 1) * TURNS; left != 0; left--) {
@@ -351,7 +300,7 @@ static void check_full_outlet(void)
     struct kalyubos board = { NULL };
     struct kalyubos_slot two[2] = { { MEMORY, 0x20000, 0, 1, 80, 25, OUTLET, false },
                                     { MEMORY, 0x1000, 1, 1, 80, 25, 1, false } };
-    make(&board, two, 2, image, 1024);
+    make(&board, two, 2, image, 1024, 8);
     offer_all(&board);
     set_console(&board, 0, 0x50, 1, KALYUBOS_DONE);
     need(kalyubos_write_memory(&board, 0, MEMORY + 0x12002, again, 2) == KALYUBOS_DONE, "idx", 0);

@@ -100,9 +100,9 @@ pub extern "C" fn kalyubos_destroy(alloc: Global, board: &mut Handle) -> u32
     ensures answer { MatchOption board.old.session (result ≡ 1) (λ _. result ≡ 0) }
     ensures empty { board.new.session ≡ None }
 {
-    match board.take(alloc) {
-        Some(session) => {
-            drop(session);
+    match board.take_parts(alloc) {
+        Some(parts) => {
+            parts.end();
             DONE
         }
         None => NO_BOARD,

@@ -1,11 +1,12 @@
 //! What C holds: a pointer to a session, or null.
 //!
-//! A call takes the session out of its handle, works on it, and puts it back.
+//! A call takes the session out of its handle, works on it, and puts it back. Who ends it takes it out in parts, which
+//! can't be dropped or forgotten: `Parts::end` gives all their memory back.
 
 ghost use Rattle.std.specs.Prelude.{◌≡◌, Some, None, MatchOption};
 ghost use Rattle.board_ffi.specs.Handle.{Held, held, held_coded};
 
-mod parts;
+pub(crate) mod parts;
 
 use embed::Session;
 use parts::Parts;
@@ -31,7 +32,16 @@ impl Handle {
             (λ session. self.old.session ≡ Some session.value) }
         ensures left { self.new.session ≡ None }
     {
-        std::mem::replace(self, Handle::empty(alloc)).into_box()
+        Some(self.take_parts(alloc)?.into_box())
+    }
+
+    /// Takes the session out to be ended, and leaves none.
+    pub(crate) fn take_parts(&mut self, alloc: Global) -> Option<Parts<Session, Global>>
+        ensures taken { MatchOption result (self.old.session ≡ None)
+            (λ parts. self.old.session ≡ Some parts.value) }
+        ensures left { self.new.session ≡ None }
+    {
+        std::mem::replace(self, Handle::empty(alloc)).into_parts()
     }
 
     /// Holds this session from now on.
@@ -39,15 +49,6 @@ impl Handle {
         ensures { self.new.session ≡ Some session.value }
     {
         *self = Handle::of_parts(Parts::of(session));
-    }
-
-    // The session, if there is one.
-    fn into_box(self) -> Option<Box<Session>>
-        ensures { MatchOption result (self.session ≡ None)
-            (λ session. self.session ≡ Some session.value) }
-    {
-        let parts = self.into_parts()?;
-        Some(parts.into_box())
     }
 
     pub(crate) fn empty(alloc: Global) -> Handle
@@ -59,7 +60,7 @@ impl Handle {
         }
     }
 
-    fn of_parts(parts: Parts<Session, Global>) -> Handle
+    pub(crate) fn of_parts(parts: Parts<Session, Global>) -> Handle
         ensures { result.session ≡ Some parts.value }
     {
         let Parts { ptr, alloc } = parts;
@@ -86,7 +87,9 @@ impl Handle {
 
 impl Drop for Handle {
     fn drop(self) {
-        drop(self.into_box());
+        if let Some(parts) = self.into_parts() {
+            parts.end();
+        }
     }
 }
 

@@ -3,11 +3,14 @@
 use crate::console::{kalyubos_input, kalyubos_resize, kalyubos_take_output};
 use crate::create::{Slot, kalyubos_create, kalyubos_destroy};
 use crate::handle::Handle;
+use crate::handle::parts::Parts;
 use crate::image::{kalyubos_image_len, kalyubos_read_image};
 use crate::memory::{kalyubos_memory, kalyubos_read_memory, kalyubos_write_memory};
 use crate::pending::Pending;
 use crate::registers::{kalyubos_disturbed, kalyubos_interrupts, kalyubos_read, kalyubos_write};
 use crate::version::kalyubos_version;
+use embed::{Extent, GuestSpec, Session, SlotSpec};
+use linked_list_allocator::LocalHeap;
 use std::alloc::Global;
 use std::process::Abort;
 use std::test::*;
@@ -69,6 +72,31 @@ fn a_handle_goes_to_another_thread_with_its_board(rt: HostRuntime) -> Result<(),
     let alloc = rt.alloc();
     let mut board = sent(one_guest(&rt, alloc));
     same(&rt, kalyubos_destroy(alloc, &mut board), 0);
+    Ok(())
+}
+
+/// The guest of `SLOT`.
+const GUEST: GuestSpec = GuestSpec {
+    slot: SlotSpec {
+        base: 0x8000_0000,
+        len: 0x1_0000,
+        extent: Extent { start: 0, count: 2 },
+        read_only: false,
+        cols: 80,
+        rows: 25,
+    },
+    outlet: 2,
+};
+
+/// What `kalyubos_destroy` does with a board's parts gives all memory back, here over a heap that counts.
+#[test]
+fn what_a_board_took_is_given_back(rt: HostRuntime) -> Result<(), Fail> {
+    let heap = LocalHeap::new(rt.alloc(), 0x20_0000)?;
+    let session = Session::new(&heap, &[GUEST], &IMAGE, 1)?;
+    let parts = Parts::of(Box::new(&heap, session)?);
+    assert!(rt; heap.used() > 0x1_0000);
+    parts.end();
+    assert!(rt; heap.used() == 0);
     Ok(())
 }
 

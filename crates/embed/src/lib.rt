@@ -2,14 +2,14 @@
 //! is one board over an image in memory, and what each guest's console put out until somebody takes it.
 //!
 //! `session` is the session, a module for each kind of call: `registers`, `memory`, `console` and `image`. `guest` is
-//! what it is made of, and `output_ring` keeps what a console put out. `fault` says why there is no session, `refusal`
+//! what it is made of, and `output_queue` keeps what a console put out. `fault` says why there is no session, `refusal`
 //! why a call was refused.
 #![tactic(auto)]
 
 mod fault;
 mod guest;
 mod laws;
-mod output_ring;
+mod output_queue;
 mod refusal;
 mod session;
 

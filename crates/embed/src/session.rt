@@ -18,7 +18,7 @@ mod registers;
 
 use crate::fault::SessionFault;
 use crate::guest::GuestSpec;
-use crate::output_ring::OutputRing;
+use crate::output_queue::OutputQueue;
 use board::{Board, BoardFault, Event, MemoryImage, Refused, Reply, SlotSpec};
 use std::alloc::{AllocError, Allocator, Global};
 use std::marker::Model;
@@ -33,7 +33,7 @@ const MOST_WAITING: u32 = 0x100_0000;
 #[derive(Drop)]
 pub struct Session<A: Allocator = Global> {
     board: Board<MemoryImage<A>, A>,
-    outputs: Vec<OutputRing<A>, A>,
+    outputs: Vec<OutputQueue<A>, A>,
 }
 
 impl<A: Allocator> Model for Session<A> {
@@ -155,13 +155,13 @@ fn slots<A: Allocator + Copy>(
 fn outputs<A: Allocator + Copy>(
     alloc: A,
     guests: &[GuestSpec],
-) -> Result<Vec<OutputRing<A>, A>, AllocError>
+) -> Result<Vec<OutputQueue<A>, A>, AllocError>
     ensures { IfOk result (λ outputs.
         outputs.items ≡ map (λ guest. none_waiting guest.outlet) guests.now) }
 {
     let mut outputs = Vec::with_capacity(alloc, guests.len())?;
     for guest in guests {
-        outputs.push(OutputRing::new(alloc, guest.outlet)?)?;
+        outputs.push(OutputQueue::new(alloc, guest.outlet)?)?;
     }
     Ok(outputs)
 }

@@ -1,4 +1,4 @@
-//! A `Box` with its fields in sight of the module above.
+//! A `Box` with its fields in sight of the module above. It isn't `Drop`, so what holds one ends it or hands it on.
 
 ghost use Rattle.std.specs.Prelude.{◌≡◌};
 ghost use Rattle.std.specs.Box.Ownership.{box_owns};
@@ -26,10 +26,18 @@ impl<T, A: Allocator> Parts<T, A> {
         Parts { ptr, alloc }
     }
 
-    pub fn into_box(self) -> Box<T, A>
+    pub(super) fn into_box(self) -> Box<T, A>
         ensures { result.value ≡ self.value }
     {
         let Parts { ptr, alloc } = self;
         unsafe { Box::from_raw(alloc, ptr) }
+    }
+
+    /// Drops the value, and gives its memory back.
+    pub fn end(self)
+    where
+        T: Drop,
+    {
+        drop(self.into_box());
     }
 }

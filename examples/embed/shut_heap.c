@@ -1,0 +1,54 @@
+#include "shut_heap.h"
+
+#include <inttypes.h>
+#include <stdio.h>
+#include <stdlib.h>
+
+static uint64_t live;
+static bool is_open;
+
+void need(bool holds, const char *what, uint64_t number)
+{
+    if (holds)
+        return;
+    fprintf(stderr, "%s (%" PRIu64 ")\n", what, number);
+    exit(1);
+}
+
+struct kalyubos_block rattle_alloc(size_t size, size_t align)
+{
+    need(is_open, "a call asks the heap for memory", size);
+    void *at = malloc(size != 0 ? size : align);
+    live += at != NULL;
+    return (struct kalyubos_block){ at != NULL, at };
+}
+
+struct kalyubos_block rattle_realloc(void *at, size_t kept, size_t size, size_t align)
+{
+    need(is_open, "a call resizes a block", kept);
+    void *moved = realloc(at, size != 0 ? size : align);
+    return (struct kalyubos_block){ moved != NULL, moved };
+}
+
+void rattle_dealloc(void *at)
+{
+    need(is_open, "a call gives a block back", live);
+    live -= at != NULL;
+    free(at);
+}
+
+void make(struct kalyubos *board, const struct kalyubos_slot *slots, size_t count, const uint8_t *image,
+          size_t image_len, uint32_t cache)
+{
+    is_open = true;
+    need(kalyubos_create(board, slots, count, image, image_len, cache) == KALYUBOS_DONE, "create", count);
+    is_open = false;
+}
+
+void end(struct kalyubos *board)
+{
+    is_open = true;
+    need(kalyubos_destroy(board) == KALYUBOS_DONE, "destroy", 0);
+    is_open = false;
+    need(live == 0, "blocks are left", live);
+}
