@@ -9,6 +9,9 @@
 
 #include "device.h"
 
+/* How many bytes of output a guest may have waiting: a chain that puts out more never goes out. */
+enum { MOST_WAITING = 1 << 24 };
+
 static struct kalyubos board;
 static uint8_t *image;
 static size_t image_len;
@@ -42,8 +45,10 @@ static const char *make(const struct setup *setup)
     struct kalyubos_slot slots[17] = {0};
     for (size_t i = 0; i < setup->guests_len && i < 17; i++) {
         const struct guest *guest = &setup->guests[i];
-        slots[i] = (struct kalyubos_slot){guest->base, guest->len, guest->start, guest->count,
-                                          guest->cols, guest->rows, guest->read_only};
+        slots[i] = (struct kalyubos_slot){
+            .base = guest->base, .len = guest->len, .start = guest->start, .count = guest->count,
+            .cols = guest->cols, .rows = guest->rows, .outlet = MOST_WAITING, .read_only = guest->read_only,
+        };
     }
     image = setup->image;
     image_len = setup->image_len;
@@ -56,15 +61,17 @@ static void end(void)
     must(kalyubos_destroy(&board));
 }
 
-/* Hands on what a guest's console put out. */
-static void take_output(unsigned guest)
+/* Hands on what a guest's console put out; whether there was any. */
+static bool take_output(unsigned guest)
 {
     uint8_t part[4096];
-    size_t taken;
+    size_t taken, all = 0;
     do {
         must(kalyubos_take_output(&board, (uint8_t)guest, part, sizeof part, &taken));
         put_out(guest, part, taken);
+        all += taken;
     } while (taken == sizeof part);
+    return all > 0;
 }
 
 static uint32_t read(unsigned guest, unsigned window, unsigned offset, unsigned width)
@@ -74,10 +81,14 @@ static uint32_t read(unsigned guest, unsigned window, unsigned offset, unsigned 
     return value;
 }
 
+/* A write is made again as long as its output had no room and some was taken. */
 static void write(unsigned guest, unsigned window, unsigned offset, unsigned width, uint32_t value)
 {
-    must(kalyubos_write(&board, (uint8_t)guest, (uint8_t)window, (uint16_t)offset, (uint8_t)width, value));
-    take_output(guest);
+    uint32_t answer;
+    do {
+        answer = kalyubos_write(&board, (uint8_t)guest, (uint8_t)window, (uint16_t)offset, (uint8_t)width, value);
+    } while (take_output(guest) && answer == KALYUBOS_NO_ROOM);
+    must(answer);
 }
 
 static bool memory(unsigned guest, uint64_t address, uint8_t *bytes, size_t len, bool put)
