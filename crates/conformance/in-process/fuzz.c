@@ -7,6 +7,7 @@
  *         my_device.c ../../../examples/embed/heap.c ../../board_ffi/out/libboard_ffi.a
  *     mkdir -p found && ./fuzz -only_ascii=1 -max_len=8000 found ../data/scenarios/[a-z]*[a-z]
  */
+#include <ctype.h>
 #include <stdio.h>
 #include <stdlib.h>
 #include <string.h>
@@ -61,6 +62,49 @@ static void replay_both(struct trace *trace)
         count(&event, &ours);
         free(event.bytes);
     }
+}
+
+size_t LLVMFuzzerMutate(uint8_t *bytes, size_t len, size_t most);
+
+/* Where the line that holds a byte begins, and where the next one does. */
+static size_t line_begin(const uint8_t *bytes, size_t at)
+{
+    while (at > 0 && bytes[at - 1] != '\n')
+        at--;
+    return at;
+}
+
+static size_t line_end(const uint8_t *bytes, size_t at, size_t len)
+{
+    while (at < len && bytes[at] != '\n')
+        at++;
+    return at < len ? at + 1 : len;
+}
+
+/* Mostly a digit becomes another one, or a line is left out or comes twice, so that it stays a trace. */
+size_t LLVMFuzzerCustomMutator(uint8_t *bytes, size_t len, size_t most, unsigned seed)
+{
+    uint32_t dice = seed * 2654435761u;
+    unsigned way = dice >> 28;
+    if (!len || way < 4)
+        return LLVMFuzzerMutate(bytes, len, most);
+    size_t at = (dice >> 4) % len;
+    if (way < 12) {
+        while (at < len && !isxdigit(bytes[at]))
+            at++;
+        if (at < len)
+            bytes[at] = (uint8_t)"0123456789abcdef"[dice & 15];
+        return len;
+    }
+    size_t begin = line_begin(bytes, at), end = line_end(bytes, at, len);
+    if (way < 14) {
+        memmove(bytes + begin, bytes + end, len - end);
+        return len - (end - begin);
+    }
+    if (len + (end - begin) > most)
+        return len;
+    memmove(bytes + end, bytes + begin, len - begin);
+    return len + (end - begin);
 }
 
 int LLVMFuzzerTestOneInput(const uint8_t *bytes, size_t len)

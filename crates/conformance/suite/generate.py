@@ -26,19 +26,24 @@ class Polite:
 
 
 def polish(queue, has_event_idx):
-    """Leaves out buffers of no bytes, and has the driver ask for notifications before it offers anything, since a device
-    may look at any time."""
-    pieces, offer = queue.pieces, queue.offer
-    queue.has_asked = False
+    """Leaves out buffers of no bytes. And since a device may look at any time, the driver asks for notifications before it
+    offers anything, and writes the first descriptor of a packed list last."""
+    pieces, offer, events = queue.pieces, queue.offer, queue.guest.events
+    is_packed, queue.has_asked = isinstance(queue, guests.PackedQueue), False
 
     def offer_politely(buffers):
         if not queue.has_asked:
             ask_for_notifications(queue, has_event_idx)
+        before = len(events)
+        head = f"{queue.at + 16 * queue.position:x} " if is_packed else None
         offer(buffers)
+        if is_packed:
+            first = next(at for at in range(before, len(events)) if events[at][1].startswith(head))
+            events.append(events.pop(first))
 
     def publish():
         queue.left, queue.has_asked = queue.size, False
-        if not isinstance(queue, guests.PackedQueue):
+        if not is_packed:
             queue.put_number(queue.driver_area + 2, queue.idx)
 
     queue.pieces = lambda length: [(at, n) for at, n in pieces(length) if n]
@@ -61,19 +66,34 @@ def ask_for_notifications(queue, has_event_idx):
 class PoliteBlockDriver(Polite, guests.BlockDriver):
     """Moves whole sectors of its disk, zeroes them, and flushes where it may."""
 
-    def request(self, what):
-        dice, sectors = self.guest.dice, self.guest.slot.count
-        if what in (guests.FLUSH, guests.IDENTITY):
-            return self.ask(guests.FLUSH, 0, 0) if self.low & FLUSH_FEATURE else None
-        count = dice.choice([1, 1, 2])
-        content = dice.randbytes(SECTOR * count) if what == guests.WRITE else None
-        return self.ask(what, dice.randrange(sectors - count + 1), SECTOR * count, content)
+    def step(self):
+        """One request and a notify: in which order a device uses several is open (2.7, 2.8)."""
+        guest, queue, dice = self.guest, self.queues[0], self.guest.dice
+        self.request(dice.choice([guests.READ, guests.READ, guests.WRITE, guests.WRITE, guests.FLUSH, guests.ZERO]))
+        queue.publish()
+        guest.write("b", 0x050, queue.notification())
+        for address, data in self.checks:
+            guest.look(address, len(data))
+        queue.look_at_used()
+        queue.give_buffers_back()
+        self.checks = []
+        if dice.random() < 0.5:
+            self.acknowledge()
 
-    def zero(self):
-        """One segment: how many a request may have is the device's to say."""
-        dice, count = self.guest.dice, self.guest.dice.choice([1, 1, 2, 3])
-        segment = guests.segment_bytes(dice.randrange(self.guest.slot.count - count + 1), count, dice.randrange(2))
-        self.ask(guests.ZERO, 0, len(segment), segment)
+    def request(self, what):
+        """A request of this type where the driver took its feature, else a read. A segment is one: how many a request may
+        have is the device's to say."""
+        dice, sectors = self.guest.dice, self.guest.slot.count
+        count = dice.choice([1, 1, 2])
+        sector = dice.randrange(sectors - count + 1)
+        if what == guests.FLUSH and self.low & FLUSH_FEATURE:
+            self.ask(guests.FLUSH, 0, 0)
+        elif what == guests.ZERO and self.low & guests.WRITE_ZEROES:
+            self.ask(guests.ZERO, 0, 16, guests.segment_bytes(sector, count, dice.randrange(2)))
+        elif what == guests.WRITE:
+            self.ask(guests.WRITE, sector, SECTOR * count, dice.randbytes(SECTOR * count))
+        else:
+            self.ask(guests.READ, sector, SECTOR * count)
 
     def ask(self, what, sector, length, content=None):
         """Offers a request with this content, or with room for as much, where the virtqueue has place for it."""
