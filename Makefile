@@ -56,7 +56,7 @@ doors:
 
 # Runs the worked scenarios on QEMU's devices, and compares what differs with the table; it wants qemu-system-arm.
 peer:
-	@crates/conformance/run-on --quiet --jobs 3 --adapter --in-place - --table crates/conformance/peers/QEMU.md --without notification_data crates/conformance/peers/qemu
+	@crates/conformance/run-on --quiet --jobs 3 --adapter --in-place - --table crates/conformance/peers/QEMU.md crates/conformance/peers/qemu
 
 # Makes wrong devices out of a small model, and runs over each the scenario that it must fail.
 mutants:

@@ -9,6 +9,9 @@
 
 #include "device.h"
 
+/* How many bytes of output a guest may have waiting: a chain that puts out more never goes out. */
+enum { MOST_WAITING = 1 << 24 };
+
 static struct kalyubos board;
 static uint8_t *image;
 static size_t image_len;
@@ -46,7 +49,7 @@ static const char *make(const struct setup *setup)
         const struct guest *guest = &setup->guests[i];
         slots[i] = (struct kalyubos_slot){
             .base = guest->base, .len = guest->len, .start = guest->start, .count = guest->count,
-            .cols = guest->cols, .rows = guest->rows, .outlet = OUTLET, .read_only = guest->read_only,
+            .cols = guest->cols, .rows = guest->rows, .outlet = MOST_WAITING, .read_only = guest->read_only,
         };
     }
     image = setup->image;
@@ -60,15 +63,17 @@ static void end(void)
     must(kalyubos_destroy(&board));
 }
 
-/* Hands on what a guest's console put out. */
-static void take_output(unsigned guest)
+/* Hands on what a guest's console put out; whether there was any. */
+static bool take_output(unsigned guest)
 {
     uint8_t part[4096];
-    size_t taken;
+    size_t taken, all = 0;
     do {
         must(kalyubos_take_output(&board, (uint8_t)guest, part, sizeof part, &taken));
         put_out(guest, part, taken);
+        all += taken;
     } while (taken == sizeof part);
+    return all > 0;
 }
 
 static uint32_t read(unsigned guest, unsigned window, unsigned offset, unsigned width)
@@ -78,11 +83,16 @@ static uint32_t read(unsigned guest, unsigned window, unsigned offset, unsigned 
     return value;
 }
 
+/* A write is made again as long as its output had no room and some was taken. */
 static void write(unsigned guest, unsigned window, unsigned offset, unsigned width, uint32_t value)
 {
     struct kalyubos_pending pending;
-    must(kalyubos_write(&board, (uint8_t)guest, (uint8_t)window, (uint16_t)offset, (uint8_t)width, value, &pending));
-    take_output(guest);
+    uint32_t answer;
+    do {
+        answer = kalyubos_write(&board, (uint8_t)guest, (uint8_t)window, (uint16_t)offset, (uint8_t)width, value,
+                                &pending);
+    } while (take_output(guest) && answer == KALYUBOS_NO_ROOM);
+    must(answer);
 }
 
 static bool memory(unsigned guest, uint64_t address, uint8_t *bytes, size_t len, bool put)

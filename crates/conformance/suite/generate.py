@@ -12,36 +12,109 @@ from guests import SECTOR, Guest, Offered, Slot
 from scene import slot_line
 
 BASE, LENGTH, SECTORS = 0x80000000, 0x10000, 8
+FLUSH_FEATURE = 1 << 9
 PROBE = "".join(f"w 0 {window} 014 4 {word:08x}\nr 0 {window} 010 4\n" for window, word in [("b", 0), ("c", 0), ("b", 1)])
 
 
 class Polite:
-    """What a driver's half leaves out that the standard forbids it, or of which it says nothing."""
+    """A driver's half without what the standard forbids it, or of which it says nothing."""
 
-    def pieces_of(self, queue):
-        plain = queue.pieces
-        queue.pieces = lambda length: [(at, n) for at, n in plain(length) if n]
+    def __init__(self, *args):
+        super().__init__(*args)
+        for queue in self.queues:
+            polish(queue, bool(self.low & guests.EVENT_IDX))
+
+
+def polish(queue, has_event_idx):
+    """Leaves out buffers of no bytes. And since a device may look at any time, the driver asks for notifications before it
+    offers anything, and writes the first descriptor of a packed list last."""
+    pieces, offer, events = queue.pieces, queue.offer, queue.guest.events
+    is_packed, queue.has_asked = isinstance(queue, guests.PackedQueue), False
+
+    def offer_politely(buffers):
+        if not queue.has_asked:
+            ask_for_notifications(queue, has_event_idx)
+        before = len(events)
+        head = f"{queue.at + 16 * queue.position:x} " if is_packed else None
+        offer(buffers)
+        if is_packed:
+            first = next(at for at in range(before, len(events)) if events[at][1].startswith(head))
+            events.append(events.pop(first))
+
+    def publish():
+        queue.left, queue.has_asked = queue.size, False
+        if not is_packed:
+            queue.put_number(queue.driver_area + 2, queue.idx)
+
+    queue.pieces = lambda length: [(at, n) for at, n in pieces(length) if n]
+    queue.offer, queue.publish = offer_politely, publish
+
+
+def ask_for_notifications(queue, has_event_idx):
+    """Writes what a driver may write there: flags that aren't reserved, and a place with EVENT_IDX alone (2.7.7.1,
+    2.8.14)."""
+    dice, queue.has_asked = queue.guest.dice, True
+    if isinstance(queue, guests.PackedQueue):
+        queue.put_number(queue.driver_area, dice.randrange(queue.size) | dice.choice([0, 0x8000]))
+        queue.put_number(queue.driver_area + 2, dice.choice([0, 0, 0, 1, 2 if has_event_idx else 1]))
+    elif has_event_idx:
+        queue.put_number(queue.driver_area + 4 + 2 * queue.size, (queue.idx + dice.randrange(3)) % (1 << 16))
+    else:
+        queue.put_number(queue.driver_area, dice.choice([0, 0, 0, 1]))
 
 
 class PoliteBlockDriver(Polite, guests.BlockDriver):
-    """Moves whole sectors of its disk, and flushes."""
+    """Moves whole sectors of its disk, zeroes them, and flushes where it may."""
+
+    def step(self):
+        """One request and a notify: in which order a device uses several is open (2.7, 2.8)."""
+        guest, queue, dice = self.guest, self.queues[0], self.guest.dice
+        self.request(dice.choice([guests.READ, guests.READ, guests.WRITE, guests.WRITE, guests.FLUSH, guests.ZERO]))
+        queue.publish()
+        guest.write("b", 0x050, queue.notification())
+        for address, data in self.checks:
+            guest.look(address, len(data))
+        queue.look_at_used()
+        queue.give_buffers_back()
+        self.checks = []
+        if dice.random() < 0.5:
+            self.acknowledge()
 
     def request(self, what):
-        queue, sectors = self.queues[0], self.guest.slot.count
-        self.pieces_of(queue)
-        what = guests.FLUSH if what == guests.IDENTITY else what
-        length = SECTOR * self.guest.dice.choice([1, 1, 2]) if what != guests.FLUSH else 0
-        sector = self.guest.dice.randrange(sectors - length // SECTOR + 1)
+        """A request of this type where the driver took its feature, else a read. A segment is one: how many a request may
+        have is the device's to say."""
+        dice, sectors = self.guest.dice, self.guest.slot.count
+        count = dice.choice([1, 1, 2])
+        sector = dice.randrange(sectors - count + 1)
+        if what == guests.FLUSH and self.low & FLUSH_FEATURE:
+            self.ask(guests.FLUSH, 0, 0)
+        elif what == guests.ZERO and self.low & guests.WRITE_ZEROES:
+            self.ask(guests.ZERO, 0, 16, guests.segment_bytes(sector, count, dice.randrange(2)))
+        elif what == guests.WRITE:
+            self.ask(guests.WRITE, sector, SECTOR * count, dice.randbytes(SECTOR * count))
+        else:
+            self.ask(guests.READ, sector, SECTOR * count)
+
+    def ask(self, what, sector, length, content=None):
+        """Offers a request with this content, or with room for as much, where the virtqueue has place for it."""
+        guest, queue = self.guest, self.queues[0]
         if queue.room_left() < length + 200:
             return
         header, data, status = queue.buffer(16), queue.pieces(length), queue.buffer(1)
         if queue.left < len(data) + 2:
             return
-        self.guest.put(header, what.to_bytes(4, "little") + bytes(4) + sector.to_bytes(8, "little"))
-        self.guest.put(status, b"\xff")
-        if what == guests.WRITE:
-            self.write_sectors(data, sector, False)
-        queue.offer([(header, 16, False)] + [(at, n, what != guests.WRITE) for at, n in data] + [(status, 1, True)])
+        guest.put(header, what.to_bytes(8, "little") + sector.to_bytes(8, "little"))
+        guest.put(status, b"\xff")
+        buffers, at = [(header, 16, False)], 0
+        for address, count in data:
+            if content:
+                guest.put(address, content[at:at + count])
+            buffers.append((address, count, content is None))
+            at += count
+        if content is None:
+            self.rely_on(data, bytes(length))
+        self.rely_on([(status, 1)], bytes(1))
+        queue.offer(buffers + [(status, 1, True)])
 
 
 class PoliteConsoleDriver(Polite, guests.ConsoleDriver):
@@ -51,11 +124,6 @@ class PoliteConsoleDriver(Polite, guests.ConsoleDriver):
         self.guest.dice.choice([self.type, self.receive, self.transmit, self.transmit])()
         if self.guest.dice.random() < 0.3:
             self.acknowledge()
-
-    def bring_up(self):
-        for queue in self.queues:
-            self.pieces_of(queue)
-        super().bring_up()
 
     def type(self):
         """So much that never more than a console keeps is pending, also before a driver."""
@@ -75,7 +143,7 @@ class PoliteConsoleDriver(Polite, guests.ConsoleDriver):
                 self.fill(pieces)
                 queue.offer([(at, n, False) for at, n in pieces])
         queue.publish()
-        guest.write("c", 0x050, 1)
+        guest.write("c", 0x050, queue.notification())
         queue.look_at_used()
 
 

@@ -21,14 +21,14 @@ NAMES = {
 
 class Queue:
     def __init__(self):
-        self.number, self.areas, self.ready = 0, [0, 0, 0], False
+        self.number, self.areas = 0, [0, 0, 0]
 
 
 class Layout:
-    """Where each queue lies, as the registers were written so far."""
+    """Where queues were made ready so far, as the registers were written: what a device wrote there stays."""
 
     def __init__(self):
-        self.queues, self.selected, self.selector, self.packed = {}, {}, {}, {}
+        self.queues, self.selected, self.selector, self.packed, self.places = {}, {}, {}, {}, set()
 
     def take(self, event):
         """What an event changes of it."""
@@ -36,7 +36,9 @@ class Layout:
             return
         window, offset, value = event.fields[2], int(event.fields[3], 16), int(event.fields[5], 16)
         queue = self.queues.setdefault((window, self.selected.get(window, 0)), Queue())
-        if offset == 0x030:
+        if offset == 0x070 and value == 0:
+            self.selected[window], self.selector[window], self.packed[window] = 0, 0, False
+        elif offset == 0x030:
             self.selected[window] = value
         elif offset == 0x024:
             self.selector[window] = value
@@ -44,8 +46,8 @@ class Layout:
             self.packed[window] = bool(value & 4)
         elif offset == 0x038:
             queue.number = value
-        elif offset == 0x044:
-            queue.ready = value == 1
+        elif offset == 0x044 and value == 1:
+            self.places.add((self.packed.get(window), queue.number, *queue.areas))
         elif 0x080 <= offset <= 0x0a4 and offset % 16 in (0, 4):
             area, high = (offset - 0x080) // 16, offset % 16 == 4
             kept = queue.areas[area] & (0xffffffff if high else ~0xffffffff)
@@ -53,13 +55,12 @@ class Layout:
 
     def fields(self, named):
         """The addresses that the named liberties leave open: (first, behind the last, bits of each byte)."""
-        for (window, _), queue in self.queues.items():
-            driver, device = queue.areas[1:]
-            if self.packed.get(window):
+        for is_packed, number, descriptors, _, device in self.places:
+            if is_packed:
                 if "device_event_area" in named:
                     yield device, device + 4, 0xff
-                for position in range(queue.number if queue.number <= 256 else 0):
-                    at = queue.areas[0] + 16 * position
+                for position in range(number if number <= 256 else 0):
+                    at = descriptors + 16 * position
                     if "packed_write_flag" in named:
                         yield at + 14, at + 15, 2
                     if "packed_id" in named:
@@ -68,7 +69,7 @@ class Layout:
                 if "used_flags" in named:
                     yield device, device + 2, 0xff
                 if "avail_event" in named:
-                    yield device + 4 + 8 * queue.number, device + 6 + 8 * queue.number, 0xff
+                    yield device + 4 + 8 * number, device + 6 + 8 * number, 0xff
 
 
 def agree(event, one, other, layout, named):
