@@ -1,8 +1,9 @@
-//! The header's declarations, and the heap that the library is given.
+//! The declarations of `kalyubos.h`, which says what each call does and what its caller must keep.
 
 use std::ffi::c_void;
 
 /// A board, or none.
+#[derive(Debug)]
 #[repr(C)]
 pub struct Handle {
     at: *mut c_void,
@@ -17,7 +18,6 @@ impl Handle {
 }
 
 /// One guest.
-#[derive(Clone, Copy, Debug)]
 #[repr(C)]
 pub struct Slot {
     pub base: u64,
@@ -99,46 +99,4 @@ unsafe extern "C" {
         into: *mut u8,
         into_len: usize,
     ) -> u32;
-
-    fn malloc(size: usize) -> *mut c_void;
-    fn realloc(at: *mut c_void, size: usize) -> *mut c_void;
-    fn free(at: *mut c_void);
-}
-
-/// What the heap answers.
-#[repr(C)]
-pub struct Block {
-    found: bool,
-    at: *mut c_void,
-}
-
-/// A block of memory. `malloc` aligns to 16, which is all that the board asks for.
-#[unsafe(no_mangle)]
-pub unsafe extern "C" fn rattle_alloc(size: usize, align: usize) -> Block {
-    let at = unsafe { malloc(if size == 0 { align } else { size }) };
-    Block {
-        found: !at.is_null(),
-        at,
-    }
-}
-
-/// The block with another size.
-#[unsafe(no_mangle)]
-pub unsafe extern "C" fn rattle_realloc(
-    at: *mut c_void,
-    _kept: usize,
-    size: usize,
-    align: usize,
-) -> Block {
-    let at = unsafe { realloc(at, if size == 0 { align } else { size }) };
-    Block {
-        found: !at.is_null(),
-        at,
-    }
-}
-
-/// Frees a block.
-#[unsafe(no_mangle)]
-pub unsafe extern "C" fn rattle_dealloc(at: *mut c_void) {
-    unsafe { free(at) }
 }
