@@ -40,7 +40,7 @@ impl Driver<'_> {
     }
 
     fn set(&mut self, offset: u16, value: u32) -> Result<(), Error> {
-        self.board.write(0, self.window, offset, 4, value)
+        self.board.write(0, self.window, offset, 4, value).map(drop)
     }
 
     fn store(&mut self, addr: u64, from: &[u8]) -> Result<(), Error> {
