@@ -3,6 +3,10 @@
 use crate::error::{CreateError, Error};
 use crate::ffi;
 use crate::slot::Slot;
+use std::ptr::{self, NonNull};
+
+/// The version of the header that `ffi` declares.
+const HEADER: u32 = 100;
 
 /// A guest's two windows, each of 4096 bytes.
 #[derive(Clone, Copy, Debug, PartialEq, Eq, Hash)]
@@ -18,9 +22,31 @@ pub enum Window {
 #[derive(Clone, Copy, Debug, Default, PartialEq, Eq, Hash)]
 pub struct Interrupts {
     /// The block window's word.
-    pub block: u8,
+    pub block: u32,
     /// The console window's word.
-    pub console: u8,
+    pub console: u32,
+}
+
+/// What waits once a call is answered: the host moves the slot's lines and takes its output by it.
+#[derive(Clone, Copy, Debug, Default, PartialEq, Eq, Hash)]
+pub struct Pending {
+    /// Both interrupt words.
+    pub interrupts: Interrupts,
+    /// How many bytes of the console's output wait to be taken.
+    pub output: u64,
+}
+
+impl Pending {
+    fn of_c(told: ffi::Pending) -> Pending {
+        let interrupts = Interrupts {
+            block: told.block,
+            console: told.console,
+        };
+        Pending {
+            interrupts,
+            output: told.output,
+        }
+    }
 }
 
 /// A board of up to sixteen guests. It is ended, and its memory freed, where it is dropped.
@@ -57,6 +83,10 @@ impl Board {
     /// # Ok::<(), CreateError>(())
     /// ```
     pub fn new(slots: &[Slot], image: &[u8], cache: u32) -> Result<Board, CreateError> {
+        let version = unsafe { ffi::kalyubos_version() };
+        if version / 100 != HEADER / 100 {
+            return Err(CreateError::WrongLibrary(version));
+        }
         let slots: Vec<ffi::Slot> = slots.iter().map(Slot::in_c).collect();
         let mut handle = ffi::Handle::empty();
         CreateError::check(unsafe {
@@ -98,7 +128,7 @@ impl Board {
         Ok(value)
     }
 
-    /// A guest's write. What it notifies is served before the call returns.
+    /// A guest's write. What it notifies is served before the call returns, which tells what then waits.
     ///
     /// [`Error::NoRoom`]: the next chain of the console's transmit queue, or the byte of an emergency write, doesn't fit
     /// behind the output that waits. The chains before it are served, and it stays on offer. Take the output and make the
@@ -109,7 +139,7 @@ impl Board {
     /// # let slot = Slot::new(0, 0x1000, 0..1);
     /// const EMERG_WR: u16 = 0x108;
     /// let mut board = Board::new(&[slot.outlet(1)], &[0; 512], 1)?;
-    /// board.write(0, Window::Console, EMERG_WR, 4, b'a'.into())?;
+    /// assert_eq!(board.write(0, Window::Console, EMERG_WR, 4, b'a'.into())?.output, 1);
     /// assert_eq!(board.write(0, Window::Console, EMERG_WR, 4, b'b'.into()), Err(Error::NoRoom));
     ///
     /// let mut out = [0; 16];
@@ -125,10 +155,54 @@ impl Board {
         offset: u16,
         width: u8,
         value: u32,
-    ) -> Result<(), Error> {
+    ) -> Result<Pending, Error> {
+        let mut told = ffi::Pending::default();
         Error::check(unsafe {
-            ffi::kalyubos_write(&mut self.handle, slot, window as u8, offset, width, value)
-        })
+            ffi::kalyubos_write(
+                &mut self.handle,
+                slot,
+                window as u8,
+                offset,
+                width,
+                value,
+                &mut told,
+            )
+        })?;
+        Ok(Pending::of_c(told))
+    }
+
+    /// A guest's memory in place: byte 0 is that of address `base`. What is written there is a write of that guest's.
+    ///
+    /// ```
+    /// # use kalyubos::{Board, Slot};
+    /// let mut board = Board::new(&[Slot::new(0x8000_0000, 0x1000, 0..1)], &[0; 512], 1)?;
+    /// let memory = board.memory(0)?;
+    /// assert_eq!(memory.len(), 0x1000);
+    /// memory[..5].copy_from_slice(b"hello");
+    ///
+    /// let mut seen = [0; 5];
+    /// board.read_memory(0, 0x8000_0000, &mut seen)?;
+    /// assert_eq!(&seen, b"hello");
+    /// # Ok::<(), Box<dyn std::error::Error>>(())
+    /// ```
+    pub fn memory(&mut self, slot: u8) -> Result<&mut [u8], Error> {
+        let bytes = self.memory_parts(slot)?;
+        // SAFETY: the bytes are the slot's memory, which stays until the drop, and while they are lent no call is made.
+        Ok(unsafe { &mut *bytes.as_ptr() })
+    }
+
+    /// Where a guest's memory lies, to map it for the guest's CPUs. It stays until the board is dropped, and begins at a
+    /// page of 4096 bytes where the heap is the library's own.
+    ///
+    /// Whoever writes through it keeps two duties: no CPU of the guest runs while a call for it does, or while its
+    /// [`memory`](Board::memory) is lent; and none runs on once the board is dropped. CPUs of other guests may run.
+    pub fn memory_parts(&mut self, slot: u8) -> Result<NonNull<[u8]>, Error> {
+        let (mut bytes, mut len) = (ptr::null_mut(), 0);
+        Error::check(unsafe {
+            ffi::kalyubos_memory(&mut self.handle, slot, &mut bytes, &mut len)
+        })?;
+        let bytes = NonNull::new(bytes).expect("a memory isn't empty");
+        Ok(NonNull::slice_from_raw_parts(bytes, len))
     }
 
     /// Copies bytes out of a guest's memory, from address `addr` on.
@@ -156,18 +230,18 @@ impl Board {
         })
     }
 
-    /// Types bytes to a console, and tells how many it took, the first ones. Type the others again until none is taken,
+    /// Types bytes to a console, and tells how many it took, the first ones, and what then waits. Type the others again until none is taken,
     /// then after the guest's next calls.
     ///
     /// ```
     /// # use kalyubos::{Board, Slot};
     /// # let mut board = Board::new(&[Slot::new(0, 0x1000, 0..1)], &[0; 512], 1)?;
-    /// assert_eq!(board.input(0, b"ls\n")?, 3);
-    /// assert_eq!(board.input(0, &[b'x'; 5000])?, 4093); // a console keeps 4096
+    /// assert_eq!(board.input(0, b"ls\n")?.0, 3);
+    /// assert_eq!(board.input(0, &[b'x'; 5000])?.0, 4093); // a console keeps 4096
     /// # Ok::<(), Box<dyn std::error::Error>>(())
     /// ```
-    pub fn input(&mut self, slot: u8, bytes: &[u8]) -> Result<usize, Error> {
-        let mut took = 0;
+    pub fn input(&mut self, slot: u8, bytes: &[u8]) -> Result<(usize, Pending), Error> {
+        let (mut took, mut told) = (0, ffi::Pending::default());
         Error::check(unsafe {
             ffi::kalyubos_input(
                 &mut self.handle,
@@ -175,14 +249,19 @@ impl Board {
                 bytes.as_ptr(),
                 bytes.len(),
                 &mut took,
+                &mut told,
             )
         })?;
-        Ok(took)
+        Ok((took, Pending::of_c(told)))
     }
 
-    /// Gives a console another size, of which its driver is told.
-    pub fn resize(&mut self, slot: u8, cols: u16, rows: u16) -> Result<(), Error> {
-        Error::check(unsafe { ffi::kalyubos_resize(&mut self.handle, slot, cols, rows) })
+    /// Gives a console another size, of which its driver is told, and tells what then waits.
+    pub fn resize(&mut self, slot: u8, cols: u16, rows: u16) -> Result<Pending, Error> {
+        let mut told = ffi::Pending::default();
+        Error::check(unsafe {
+            ffi::kalyubos_resize(&mut self.handle, slot, cols, rows, &mut told)
+        })?;
+        Ok(Pending::of_c(told))
     }
 
     /// Moves out the first bytes of what a console put out, as many as find room, and tells how many they are. The others
@@ -201,13 +280,16 @@ impl Board {
         Ok(taken)
     }
 
-    /// Both interrupt words of a slot: look after each write, input and resize of it. A read moves none.
+    /// Both interrupt words of a slot. Each write, input and resize tells them; a read moves none.
     pub fn interrupts(&mut self, slot: u8) -> Result<Interrupts, Error> {
-        let mut words = Interrupts::default();
+        let (mut block, mut console) = (0, 0);
         Error::check(unsafe {
-            ffi::kalyubos_interrupts(&mut self.handle, slot, &mut words.block, &mut words.console)
+            ffi::kalyubos_interrupts(&mut self.handle, slot, &mut block, &mut console)
         })?;
-        Ok(words)
+        Ok(Interrupts {
+            block: block.into(),
+            console: console.into(),
+        })
     }
 
     /// Whether a call of the image ever failed for the slot.

@@ -41,6 +41,8 @@ pub enum CreateError {
     BadCache,
     /// An outlet is asked to keep more than 2^24 bytes.
     BadOutlet,
+    /// The library that is linked is of another version, this one, than the crate.
+    WrongLibrary(u32),
     /// A number that this crate doesn't know, of a newer library.
     Other(u32),
 }
@@ -106,6 +108,12 @@ impl fmt::Display for CreateError {
             ExtentsOverlap => "two slots share a sector",
             BadCache => "a cache keeps 1 to 65536 sectors",
             BadOutlet => "an outlet keeps 2^24 bytes at most",
+            WrongLibrary(version) => {
+                return write!(
+                    f,
+                    "the library is of version {version}, another than the crate"
+                )
+            }
             Other(number) => return write!(f, "the library answered {number}"),
         })
     }

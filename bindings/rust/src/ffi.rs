@@ -30,7 +30,17 @@ pub struct Slot {
     pub read_only: bool,
 }
 
+/// What waits once a call is answered.
+#[derive(Default)]
+#[repr(C)]
+pub struct Pending {
+    pub block: u32,
+    pub console: u32,
+    pub output: u64,
+}
+
 unsafe extern "C" {
+    pub fn kalyubos_version() -> u32;
     pub fn kalyubos_create(
         board: *mut Handle,
         slots: *const Slot,
@@ -55,6 +65,13 @@ unsafe extern "C" {
         offset: u16,
         width: u8,
         value: u32,
+        pending: *mut Pending,
+    ) -> u32;
+    pub fn kalyubos_memory(
+        board: *mut Handle,
+        slot: u8,
+        bytes: *mut *mut u8,
+        len: *mut usize,
     ) -> u32;
     pub fn kalyubos_read_memory(
         board: *mut Handle,
@@ -76,8 +93,15 @@ unsafe extern "C" {
         bytes: *const u8,
         bytes_len: usize,
         took: *mut usize,
+        pending: *mut Pending,
     ) -> u32;
-    pub fn kalyubos_resize(board: *mut Handle, slot: u8, cols: u16, rows: u16) -> u32;
+    pub fn kalyubos_resize(
+        board: *mut Handle,
+        slot: u8,
+        cols: u16,
+        rows: u16,
+        pending: *mut Pending,
+    ) -> u32;
     pub fn kalyubos_take_output(
         board: *mut Handle,
         slot: u8,

@@ -6,6 +6,6 @@ mod error;
 mod ffi;
 mod slot;
 
-pub use board::{Board, Interrupts, Window};
+pub use board::{Board, Interrupts, Pending, Window};
 pub use error::{CreateError, Error};
 pub use slot::Slot;

@@ -1,6 +1,6 @@
 //! Each call at its edges: what it answers, and that the next call goes on.
 
-use kalyubos::{Board, CreateError, Error, Interrupts, Slot, Window};
+use kalyubos::{Board, CreateError, Error, Interrupts, Pending, Slot, Window};
 use std::sync::Mutex;
 use std::thread;
 
@@ -63,6 +63,7 @@ fn there_is_no_slot_1() {
     );
     assert_eq!(board.read_memory(1, MEMORY, &mut byte), Err(Error::BadSlot));
     assert_eq!(board.write_memory(1, MEMORY, &byte), Err(Error::BadSlot));
+    assert_eq!(board.memory(1).unwrap_err(), Error::BadSlot);
     assert_eq!(board.input(1, b"x"), Err(Error::BadSlot));
     assert_eq!(board.resize(1, 1, 1), Err(Error::BadSlot));
     assert_eq!(board.take_output(1, &mut byte), Err(Error::BadSlot));
@@ -92,6 +93,26 @@ fn memory_has_two_ends() {
 }
 
 #[test]
+fn memory_in_place_is_the_guests() {
+    let mut board = one_guest();
+    let parts = board.memory_parts(0).unwrap();
+    assert_eq!(
+        (parts.len(), parts.cast::<u8>().as_ptr() as usize % 4096),
+        (LEN as usize, 0)
+    );
+    board.memory(0).unwrap()[..2].copy_from_slice(&[1, 2]);
+    board.memory(0).unwrap()[LEN as usize - 1] = 3;
+    let mut seen = [0; 2];
+    board.read_memory(0, MEMORY, &mut seen).unwrap();
+    assert_eq!(seen, [1, 2]);
+    board.read_memory(0, MEMORY + LEN - 2, &mut seen).unwrap();
+    assert_eq!(seen, [0, 3]);
+    board.write_memory(0, MEMORY + LEN - 2, &[4, 5]).unwrap();
+    assert_eq!(board.memory(0).unwrap()[LEN as usize - 2..], [4, 5]);
+    assert_eq!(board.memory_parts(0), Ok(parts));
+}
+
+#[test]
 fn the_image_is_copied() {
     let mut board = one_guest();
     let mut last = [0; 1];
@@ -113,14 +134,18 @@ fn a_resize_raises_the_consoles_line_alone() {
             console: 0
         })
     );
-    board.resize(0, 100, 40).unwrap();
+    let told = board.resize(0, 100, 40).unwrap();
     assert_eq!(
-        board.interrupts(0),
-        Ok(Interrupts {
-            block: 0,
-            console: 2
-        })
+        told,
+        Pending {
+            interrupts: Interrupts {
+                block: 0,
+                console: 2
+            },
+            output: 0
+        }
     );
+    assert_eq!(board.interrupts(0), Ok(told.interrupts));
     assert_eq!(board.read(0, Window::Console, 0x100, 2), Ok(100));
     assert_eq!(board.read(0, Window::Console, 0x102, 2), Ok(40));
 }
@@ -128,10 +153,11 @@ fn a_resize_raises_the_consoles_line_alone() {
 #[test]
 fn output_waits_in_parts() {
     let mut board = one_guest();
-    for byte in *b"abc" {
-        board
+    for (waits, byte) in (1..).zip(*b"abc") {
+        let told = board
             .write(0, Window::Console, EMERG_WR, 1, byte.into())
             .unwrap();
+        assert_eq!(told.output, waits);
     }
     let mut part = [0; 2];
     assert_eq!(board.take_output(0, &mut part), Ok(2));
