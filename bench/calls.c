@@ -15,7 +15,7 @@ static const uint64_t MEMORY = 0x80000000, TABLE = 0x80001000, AVAIL = 0x8000200
                       ZEROES = 0x80005000, DATA = 0x80010000;
 
 static struct kalyubos board;
-static uint8_t image[SECTORS * 512], buffer[LEN], other[LEN];
+static uint8_t image[SECTORS * 512], buffer[LEN], other[LEN], *memory;
 static uint16_t idx;
 
 static void must(uint32_t answer)
@@ -102,6 +102,17 @@ static void request(void)
         must(KALYUBOS_BAD_SLOT);
 }
 
+/* Offers the chain and notifies, as a CPU whose memory is mapped does: one call, which tells the window's word. */
+static void notify_in_place(void)
+{
+    struct kalyubos_pending pending;
+    idx++;
+    memcpy(memory + (AVAIL - MEMORY) + 2, &idx, 2);
+    must(kalyubos_write(&board, 0, KALYUBOS_BLOCK, 0x50, 4, 0, &pending));
+    if (memory[HEADER - MEMORY + 16] != 0 || pending.block != 1)
+        must(KALYUBOS_BAD_SLOT);
+}
+
 static void copy_out(void)
 {
     must(kalyubos_read_memory(&board, 0, DATA, buffer, LEN));
@@ -159,10 +170,13 @@ int main(void)
         .base = MEMORY, .len = 0x100000, .start = 0, .count = SECTORS, .cols = 80, .rows = 25, .outlet = OUTLET,
     };
     must(kalyubos_create(&board, &slot, 1, image, sizeof image, 8));
+    size_t memory_len;
+    must(kalyubos_memory(&board, 0, &memory, &memory_len));
     bring_up();
     bring_up_console();
     time_of("a register read", read_register, READS);
     time_of("an IN of 4 KiB, with notify, status, acknowledge", request, REQUESTS);
+    time_of("a notify with one IN of 4 KiB, memory in place", notify_in_place, REQUESTS);
     time_of("a transmit of 4 KiB, and its taking", transmit, REQUESTS);
     time_of("a memory read of 4 KiB", copy_out, COPIES);
     time_of("a copy of 4 KiB", copy_alone, COPIES);

@@ -11,3 +11,4 @@ pub mod World
 pub mod Line
 pub mod Fault
 pub mod Within
+pub mod Lending

@@ -8,10 +8,12 @@ ghost use Rattle.std.specs.Prelude.{◌≡◌, ◌≢◌, ◌<◌, ◌≤◌, �
 ghost use Rattle.block_device.specs.Extent.{IsWithin, KeepsOutside};
 ghost use Rattle.board.specs.Fault.{IsMemory};
 ghost use Rattle.board.specs.Image.{Tells, bytes_of, health_of};
+ghost use Rattle.board.specs.Lending.{LendsBytes};
 ghost use Rattle.board.specs.Machine.{block_irq, console_irq};
 ghost use Rattle.board.specs.Slot.{interrupt_words, opened, state_of};
 ghost use Rattle.board.specs.World.{Serves, MayLackMemory, met_refusal};
 ghost use Rattle.board.specs.Within.{TakesWithin};
+ghost use Rattle.std.specs.Borrow.{sem};
 
 mod console;
 mod memory;
@@ -200,6 +202,15 @@ impl<A: Allocator> Slot<A> {
         ensures { result.now ≡ self.now.memory }
     {
         &self.memory
+    }
+
+    /// The bytes of the guest's memory, to be written.
+    pub(crate) fn memory_mut(&mut self) -> &mut [u8]
+        ensures* writes_back { sem 𝓛 (LendsBytes A.row A.Allocator self.entry result) }
+        ensures value { result.now ≡ self.old.memory.bytes }
+    {
+        let (base, len) = (self.memory.base(), self.memory.len());
+        self.memory.part_mut(base, len)
     }
 
     /// InterruptStatus of the block window and of the console window.

@@ -1,5 +1,5 @@
 -- What a host puts into a guest's memory between two calls, as the step of that write.
-use Rattle.std.proofs.Common.{◌≡◌, inl, ℕ, ◌+◌, Bool, true, false, ◌||◌, List, [], ◌++◌, length, take, drop, Some, refl, ◌∙◌, ap, subst, append-nil, arith}
+use Rattle.std.proofs.Common.{◌≡◌, inl, ℕ, ◌+◌, Bool, true, false, ◌||◌, List, [], ◌++◌, length, take, drop, Option, Some, refl, sym, ◌∙◌, ap, subst, append-nil, arith}
 use Rattle.std.specs.Prelude.{◌-◌, slice_set}
 use Rattle.std.specs.List.{slice_get}
 use Rattle.std.proofs.lemmas.Bool.Decides.{nat_tests}
@@ -12,11 +12,12 @@ use Rattle.board.specs.declared.event.EventKind.TheVariants.{MemWrite}
 use Rattle.board.specs.declared.reply.Reply.TheVariants.{Done}
 use Rattle.board.specs.Extent.{outside_of}
 use Rattle.board.specs.Image.{bytes_of}
+use Rattle.board.specs.Lending.{put_back}
 use Rattle.board.specs.Machine.{holds}
 use Rattle.board.specs.Slot.{BoardSlot, state_of}
 use Rattle.board.specs.World.{Answers, met_refusal, seen}
 use Rattle.board.proofs.Seats.{extents_of-set, noted_set, step_there}
-use Rattle.embed.specs.Session.{IsStep, SessionState, disk_of, with_memory}
+use Rattle.embed.specs.Session.{IsStep, SessionState, disk_of, with_memory, with_slot_bytes}
 use Rattle.embed.proofs.Steps.{was_written}
 
 -- nothing is noted of it
@@ -69,6 +70,15 @@ put_whole memory bytes same =
 
 whole_inside : (memory : Memory) (n : ℕ) → n ≡ length memory.bytes → Inside memory memory.base n
 whole_inside memory n same = record { above = omega arith; below = omega (arith, same) }
+
+-- what is left of a memory that was lent
+pub in_place_lent : (A : Type 0) (old : SessionState) (slot : ℕ) (found : BoardSlot) (bytes : List ℕ) →
+    slice_get old.slots slot ≡ Some found → length bytes ≡ length found.memory.bytes →
+    IsStep {A = A} old (record { slot = slot; what = MemWrite found.memory.base bytes }) Done (with_slot_bytes slot old bytes)
+in_place_lent A old slot found bytes here same =
+    subst (λ (o : Option BoardSlot). IsStep {A = A} old (record { slot = slot; what = MemWrite found.memory.base bytes }) Done (record old { slots = put_back slot o bytes old.slots }))
+    (sym here)
+    (in_place A old slot found.memory.base found bytes here (whole_inside found.memory (length bytes) same))
 
 pub in_place_whole : (A : Type 0) (old : SessionState) (slot : ℕ) (found : BoardSlot) (bytes : List ℕ) →
     slice_get old.slots slot ≡ Some found → length bytes ≡ length found.memory.bytes →

@@ -9,6 +9,7 @@ use Rattle.board.specs.declared.event.EventKind.TheVariants.{MemRead}
 use Rattle.board.specs.declared.reply.Reply.{Reply}
 use Rattle.board.specs.declared.reply.Reply.TheVariants.{BadSlot, BadRange, NoMemory}
 use Rattle.board.specs.declared.spec.SlotSpec.{SlotSpec}
+use Rattle.board.specs.Lending.{put_back}
 use Rattle.board.specs.Slot.{BoardSlot, SlotState, opened, state_of}
 use Rattle.board.specs.World.{World, Answers, KeepsOthers, MayLackMemory, extents_of, seen}
 use Rattle.board.specs.Within.{MayPutOut, TakesWithin}
@@ -99,6 +100,12 @@ new_session guests image = record {
 abbrev pub with_memory : ℕ → BoardSlot → Memory → SessionState → SessionState
 with_memory slot found memory session = record session {
   slots = slice_set session.slots slot (record found { memory = memory });
+}
+
+-- a session with these bytes in the memory of a slot, from its first byte on
+abbrev pub with_slot_bytes : ℕ → SessionState → List ℕ → SessionState
+with_slot_bytes slot session bytes = record session {
+  slots = put_back slot (slice_get session.slots slot) bytes session.slots;
 }
 
 -- an event that is no read of memory

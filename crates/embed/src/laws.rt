@@ -12,7 +12,7 @@ ghost use Rattle.embed.specs.declared.guest.GuestSpec.{GuestSpec};
 ghost use Rattle.embed.specs.Alone.{Answer, Call, IsSeatCourse, IsSeatedAlone, SeeAlike, at_front, new_session_alone, own_calls, part_of_image};
 ghost use Rattle.embed.specs.Course.{Deed, HadRoom, IsCourse, RunsAlone};
 ghost use Rattle.embed.specs.Refusing.{AreOutlets};
-ghost use Rattle.embed.specs.Session.{IsStep, SessionState, limit_of, new_session, output_of, slots_of, with_memory, world_of};
+ghost use Rattle.embed.specs.Session.{IsStep, SessionState, limit_of, new_session, output_of, slots_of, with_memory, with_slot_bytes, world_of};
 
 use std::alloc::Allocator;
 
@@ -67,7 +67,11 @@ pub fn a_write_in_place_is_an_event<A: Allocator>()
         IsStep {A = A} old (record { slot = slot; what = EventKind.MemWrite addr bytes }) Reply.Done
         (with_memory slot found (put found.memory addr bytes) old) }
 
-    // and whatever all of them came to is one write
+    // and whatever became of all of them, as of a memory that was lent, is one write
+    ensures lent { (old : SessionState) (slot : ℕ) (found : BoardSlot) (bytes : List ℕ) →
+        slice_get old.slots slot ≡ Some found → length bytes ≡ length found.memory.bytes →
+        IsStep {A = A} old (record { slot = slot; what = EventKind.MemWrite found.memory.base bytes }) Reply.Done
+        (with_slot_bytes slot old bytes) }
     ensures whole { (old : SessionState) (slot : ℕ) (found : BoardSlot) (bytes : List ℕ) →
         slice_get old.slots slot ≡ Some found → length bytes ≡ length found.memory.bytes →
         IsStep {A = A} old (record { slot = slot; what = EventKind.MemWrite found.memory.base bytes }) Reply.Done

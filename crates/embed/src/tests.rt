@@ -143,6 +143,40 @@ fn memory_is_reached(rt: HostRuntime) -> Result<(), Fail> {
     Ok(())
 }
 
+/// Bytes at both ends of guest 1's memory, where there is such a guest.
+fn put_ends<A: Allocator + Copy>(session: &mut Session<A>, bytes: [u8; 2]) {
+    if session.slots() < 2 {
+        return;
+    }
+    let memory = session.memory_mut(1);
+    if let Some(first) = memory.first_mut() {
+        *first = bytes[0];
+    }
+    if let Some(last) = memory.last_mut() {
+        *last = bytes[1];
+    }
+}
+
+#[test]
+fn memory_is_written_in_place(rt: HostRuntime) -> Result<(), Fail> {
+    let mut session = session(rt.alloc(), rt.alloc())?;
+    put_ends(&mut session, *b"ab");
+    // slot, address and the byte that is there
+    for (slot, addr, wanted) in &[
+        (1, 0, b'a'),
+        (1, 0xffff, b'b'),
+        (1, 1, 0),
+        (0, 0, 0),
+        (0, 0xffff, 0),
+    ] {
+        let mut found = [9];
+        assert!(rt;
+            session.read_memory(*slot, BASE + *addr, &mut found) == Ok(()) && found == [*wanted]
+        );
+    }
+    Ok(())
+}
+
 /// Both guests write to their consoles, without a queue (5.3.4).
 const EMERGENCY: [Row; 4] = [
     (0, Act::Set(CONSOLE, 0x108, 0x61), Ok(0)),

@@ -4,12 +4,15 @@
 
 ghost use Rattle.std.specs.Prelude.{◌≡◌, ◌↔◌, ◌<◌, [], IsTrue, IsSome, IfSome, IfNone, IsSomeAnd, length, slice_set};
 ghost use Rattle.std.specs.Bool.{OnTrue, OnFalse};
+ghost use Rattle.std.specs.Borrow.{sem, u8, Array, Lends};
 ghost use Rattle.std.specs.List.{slice_get};
 ghost use Rattle.std.specs.Option.{option_map};
 ghost use Rattle.guest_memory.specs.Memory.{Inside, part_of, put};
 ghost use Rattle.board.specs.declared.event.EventKind.{EventKind};
 ghost use Rattle.board.specs.declared.reply.Reply.{Reply};
 ghost use Rattle.board.specs.Image.{Tells};
+ghost use Rattle.board.specs.Lending.{with_slot_bytes};
+ghost use Rattle.board.specs.contracts.board.Board.{the_row};
 ghost use Rattle.board.specs.Slot.{interrupt_words};
 ghost use Rattle.board.specs.World.{Answers, KeepsOthers, disturbed_of, extents_of, world_of};
 
@@ -52,6 +55,17 @@ impl<I: Image, A: Allocator> Board<I, A> {
     {
         let slot = self.slot(slot)?;
         Some(slot.memory())
+    }
+
+    /// The bytes of the slot's memory, to be read and written. `slots` tells which slots there are.
+    pub fn memory_mut(&mut self, slot: u8) -> &mut [u8]
+        requires { slot < length self.old.slots }
+        ensures* writes_back { sem 𝓛 (Lends (the_row I.row A.row I.Image A.Allocator) (Array u8 0) self.entry
+            result (with_slot_bytes slot self.old)) }
+        ensures value { IsSomeAnd (slice_get self.old.slots slot) (λ found. result.now ≡ found.memory.bytes) }
+    {
+        let found = &mut self.slots[slot as usize];
+        found.memory_mut()
     }
 
     /// Copies bytes out of the slot's memory, from address `addr` on. False where there is no such slot,

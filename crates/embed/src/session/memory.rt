@@ -1,11 +1,13 @@
 //! A guest's memory between its accesses. Nothing here takes memory.
 
 ghost use Rattle.std.specs.Prelude.{◌≡◌, ◌<◌, ◌↔◌, length, nat_lt, if◌then◌else◌, OnErr, IsSome, IfSome, IsSomeAnd};
+ghost use Rattle.std.specs.Borrow.{sem, u8, Array, Lends};
 ghost use Rattle.std.specs.List.{slice_get};
 ghost use Rattle.board.specs.declared.event.EventKind.{EventKind};
 ghost use Rattle.embed.specs.declared.refusal.Refusal.{Refusal};
 ghost use Rattle.embed.specs.Answering.{bytes_reply, done_reply};
-ghost use Rattle.embed.specs.Session.{IsStep};
+ghost use Rattle.embed.specs.Session.{IsStep, with_slot_bytes};
+ghost use Rattle.embed.specs.contracts.session.Session.{the_row};
 
 use crate::refusal::Refusal;
 use crate::session::Session;
@@ -46,6 +48,17 @@ impl<A: Allocator> Session<A> {
             IsSomeAnd (slice_get self.now.slots slot) (λ found. memory.now ≡ found.memory)) }
     {
         self.board.memory(slot)
+    }
+
+    /// The bytes of the slot's memory, to be read and written in place: as a whole the step of that write
+    /// (`a_write_in_place_is_an_event`). `slots` tells which slots there are.
+    pub fn memory_mut(&mut self, slot: u8) -> &mut [u8]
+        requires { slot < length self.old.slots }
+        ensures* writes_back { sem 𝓛 (Lends (the_row A.row A.Allocator) (Array u8 0) self.entry result
+            (with_slot_bytes slot self.old)) }
+        ensures value { IsSomeAnd (slice_get self.old.slots slot) (λ found. result.now ≡ found.memory.bytes) }
+    {
+        self.board.memory_mut(slot)
     }
 
     // Why a range isn't inside the slot's memory.
