@@ -6,6 +6,7 @@
  * Where /dev/kvm can't be opened it says so, with status 77.
  */
 #define _GNU_SOURCE
+#include <errno.h>
 #include <fcntl.h>
 #include <linux/kvm.h>
 #include <pthread.h>
@@ -100,6 +101,7 @@ static void access_window(struct guest *guest)
         must_do(kalyubos_write(&board, guest->slot, window, place % PAGE, width, value, &guest->lines), "write");
     } else {
         must_do(kalyubos_read(&board, guest->slot, window, place % PAGE, width, &value), "read");
+        memset(data, 0, sizeof guest->run->mmio.data);
         memcpy(data, &value, sizeof value);
     }
     pthread_mutex_unlock(&lock);
@@ -121,11 +123,13 @@ static void *run(void *user)
     struct guest *guest = user;
     for (;;) {
         set_lines(guest);
-        must(ioctl(guest->cpu, KVM_RUN, 0), "KVM_RUN");
+        if (ioctl(guest->cpu, KVM_RUN, 0) < 0 && errno != EINTR)
+            must(-1, "KVM_RUN");
         switch (guest->run->exit_reason) {
         case KVM_EXIT_MMIO:
             access_window(guest);
             break;
+        case KVM_EXIT_INTR: /* a signal came */
         case KVM_EXIT_IRQ_WINDOW_OPEN:
             break;
         case KVM_EXIT_HLT:
