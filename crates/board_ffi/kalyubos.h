@@ -2,8 +2,8 @@
  * kalyubos.h: up to sixteen guests, each with a block device and a console over virtio-mmio, behind a CPU loop of
  * your own. docs/model.md says what the devices do, and docs/EMBEDDING.md how an exit of a guest becomes a call.
  *
- * `make install` installs it, and `pkg-config --cflags --libs kalyubos` says how to link it. Its heap is malloc's, unless
- * the host defines the functions at the end of this file. The bare libboard_ffi.a has no heap.
+ * `make install` installs it, and `pkg-config --cflags --libs kalyubos` says how to link it. Its heap is malloc's,
+ * unless the host defines the functions at the end of this file. The bare libboard_ffi.a has no heap.
  *
  * What each call promises is proved, for a caller that keeps these duties:
  *  - A handle is zeroed before its first call, and is then changed by calls alone. It is never copied: a copy

@@ -1,7 +1,7 @@
 /*
- * A host over a CPU emulator, the Unicorn engine: two RISC-V CPUs run the program of guest.S in turns, each as a guest of
- * its own. The engine maps the board's memory of a guest, with the program in it, so a CPU's loads and stores there need
- * no call; those at its windows become one each.
+ * A host over a CPU emulator, the Unicorn engine: two RISC-V CPUs run the program of guest.S in turns, each as a guest
+ * of its own. The engine maps the board's memory of a guest, with the program in it, so a CPU's loads and stores there
+ * need no call; those at its windows become one each.
  */
 #include <stdio.h>
 #include <stdlib.h>

@@ -1,7 +1,7 @@
 /*
- * A host over KVM: two guests run the program of kvm-guest.S, each on a virtual CPU and a thread of its own. KVM maps the
- * board's memory of a guest, so its loads and stores need no call; its windows are nobody's memory, so a load or store
- * there is an exit, which becomes one call; and its devices' lines are interrupts of the virtual CPU.
+ * A host over KVM: two guests run the program of kvm-guest.S, each on a virtual CPU and a thread of its own. KVM maps
+ * the board's memory of a guest, so its loads and stores need no call; its windows are nobody's memory, so a load or
+ * store there is an exit, which becomes one call; and its devices' lines are interrupts of the virtual CPU.
  *
  * Where /dev/kvm can't be opened it says so, with status 77.
  */
