@@ -29,12 +29,12 @@ test:
 library:
 	@packaging/build
 
-# Installs the library's header, archive and shared object below PREFIX, with kalyubos.pc and the notices; it is built where it
-# isn't yet. DESTDIR stands before each path.
+# Installs the library's header, archive and shared object below PREFIX, with kalyubos.pc and the notices; it is built first
+# where a source is newer. DESTDIR stands before each path.
 install: packaging/out/libkalyubos.a
 	@DESTDIR="$(DESTDIR)" LIBDIR="$(LIBDIR)" INCLUDEDIR="$(INCLUDEDIR)" packaging/install "$(PREFIX)"
 
-packaging/out/libkalyubos.a:
+packaging/out/libkalyubos.a: crates.txt examples/embed/heap.c $(shell find crates -name out -prune -o -name '*.rt' -print -o -name '*.h' -print)
 	@packaging/build
 
 # Removes what install put there.
