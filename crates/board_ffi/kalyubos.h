@@ -127,12 +127,13 @@ uint32_t kalyubos_read(struct kalyubos *board, uint8_t slot, uint8_t window, uin
                        uint32_t *value);
 
 /*
- * A guest's write. What it notifies is served before the call returns, and `pending` is what then waits, after DONE and
- * after NO_ROOM: set both lines by it, and take the output where there is some. NO_ROOM: what the console puts out next, a
- * chain of its transmit queue or the byte of an emergency write, doesn't fit behind what waits in the slot's outlet.
- * The chains before it are served; it is still on offer, and nothing of it is put out. Take the output and make the
- * same write again, as long as it is answered NO_ROOM and there was output to take: a driver that waits for its
- * buffer doesn't notify again, and Linux's console spins for ever on it.
+ * A guest's write. What it notifies is served before the call returns, and `pending` is what then waits, after DONE
+ * and after NO_ROOM: set both lines by it, and take the output where there is some.
+ *
+ * NO_ROOM: what the console puts out next, a chain of its transmit queue or the byte of an emergency write, doesn't
+ * fit behind what waits in the slot's outlet. The chains before it are served; it is still on offer, and nothing of it
+ * is put out. Take the output and make the same write again, as long as it is answered NO_ROOM and there was output to
+ * take: a driver that waits for its buffer doesn't notify again, and Linux's console spins for ever on it.
  */
 uint32_t kalyubos_write(struct kalyubos *board, uint8_t slot, uint8_t window, uint16_t offset, uint8_t width,
                         uint32_t value, struct kalyubos_pending *pending);
@@ -151,9 +152,10 @@ uint32_t kalyubos_write_memory(struct kalyubos *board, uint8_t slot, uint64_t ad
                                size_t from_len);
 
 /*
- * Types bytes to the slot's console; `took` is how many it took, the first ones: it keeps 4096 until its guest
- * reads them, and `pending` is what then waits. Type the others again until none is taken, then after the guest's next calls: what was taken may have
- * gone to the guest's buffers at once, and a driver that finds buffers enough doesn't notify for more.
+ * Types bytes to the slot's console; `took` is how many it took, the first ones: it keeps 4096 until its guest reads
+ * them. `pending` is what then waits. Type the others again until none is taken, then after the guest's next calls:
+ * what was taken may have gone to the guest's buffers at once, and a driver that finds buffers enough doesn't notify
+ * for more.
  */
 uint32_t kalyubos_input(struct kalyubos *board, uint8_t slot, const uint8_t *bytes, size_t bytes_len, size_t *took,
                         struct kalyubos_pending *pending);

@@ -304,61 +304,43 @@ fn a_full_outlet_refuses_its_own_guest_alone(rt: HostRuntime) -> Result<(), Fail
 }
 
 #[test]
-fn a_console_is_typed_to_and_resized(rt: HostRuntime) -> Result<(), Fail> {
+fn a_console_is_typed_to(rt: HostRuntime) -> Result<(), Fail> {
     let alloc = rt.alloc();
     let mut board = one_guest(&rt, alloc);
-    let (mut took, mut size) = (9, 0);
-    let (mut block, mut console, mut told, mut pending) = (9, 9, true, UNTOLD);
-    same(
-        &rt,
-        kalyubos_input(alloc, &mut board, 0, b"ls\n", &mut took, &mut pending),
-        0,
-    );
-    same(&rt, (took, pending), (3, waits(0)));
-    same(
-        &rt,
-        kalyubos_input(alloc, &mut board, 0, &[0x61; 4096], &mut took, &mut pending),
-        0,
-    );
-    same(&rt, took, 4093);
-    same(
-        &rt,
-        kalyubos_input(alloc, &mut board, 1, b"ls\n", &mut took, &mut pending),
-        3,
-    );
-    pending = UNTOLD;
-    same(
-        &rt,
-        kalyubos_resize(alloc, &mut board, 1, 0x84, 0x2b, &mut pending),
-        3,
-    );
-    same(&rt, pending, UNTOLD);
-    same(
-        &rt,
-        kalyubos_resize(alloc, &mut board, 0, 0x84, 0x2b, &mut pending),
-        0,
-    );
-    same(&rt, pending, waits(0));
-    same(
-        &rt,
-        kalyubos_read(alloc, &mut board, 0, 1, 0x100, 4, &mut size),
-        0,
-    );
-    same(&rt, size, 0x002b_0084);
-    same(
-        &rt,
-        kalyubos_interrupts(alloc, &mut board, 0, &mut block, &mut console),
-        0,
-    );
-    same(&rt, kalyubos_disturbed(alloc, &mut board, 0, &mut told), 0);
+    // slot and bytes, the answer, and how many then are taken and what waits
+    for (slot, bytes, want, taken, told) in &[
+        (0, b"ls\n".as_slice(), 0, 3, waits(0)),
+        (0, &[0x61; 4096], 0, 4093, waits(0)),
+        (1, b"ls\n", 3, 9, UNTOLD),
+    ] {
+        let (mut took, mut pending) = (9, UNTOLD);
+        let got = kalyubos_input(alloc, &mut board, *slot, *bytes, &mut took, &mut pending);
+        same(&rt, (got, took, pending), (*want, *taken, *told));
+    }
+    Ok(())
+}
+
+#[test]
+fn a_console_is_resized(rt: HostRuntime) -> Result<(), Fail> {
+    let alloc = rt.alloc();
+    let mut board = one_guest(&rt, alloc);
+    let (mut size, mut told, mut pending) = (0, true, UNTOLD);
+    let (mut block, mut console) = (9, 9);
+    let got = kalyubos_resize(alloc, &mut board, 1, 0x84, 0x2b, &mut pending);
+    same(&rt, (got, pending), (3, UNTOLD));
+    let got = kalyubos_resize(alloc, &mut board, 0, 0x84, 0x2b, &mut pending);
+    same(&rt, (got, pending), (0, waits(0)));
+    let got = kalyubos_read(alloc, &mut board, 0, 1, 0x100, 4, &mut size);
+    same(&rt, (got, size), (0, 0x002b_0084));
     // no driver is there to be told of the new size
-    same(&rt, (block, console, told), (0, 0, false));
-    same(
-        &rt,
-        kalyubos_interrupts(alloc, &mut board, 1, &mut block, &mut console),
-        3,
-    );
-    same(&rt, kalyubos_disturbed(alloc, &mut board, 1, &mut told), 3);
+    let got = kalyubos_interrupts(alloc, &mut board, 0, &mut block, &mut console);
+    same(&rt, (got, block, console), (0, 0, 0));
+    let got = kalyubos_interrupts(alloc, &mut board, 1, &mut block, &mut console);
+    same(&rt, got, 3);
+    let got = kalyubos_disturbed(alloc, &mut board, 0, &mut told);
+    same(&rt, (got, told), (0, false));
+    let got = kalyubos_disturbed(alloc, &mut board, 1, &mut told);
+    same(&rt, got, 3);
     Ok(())
 }
 
