@@ -1,11 +1,15 @@
-# The two commands of the README, the measurements, tries from outside, the hosts of the static library, and the suite.
-.PHONY: run test bench fuzz broken trouble embed stress doors peer mutants
+# The two commands of the README, the library and its installing, the measurements, tries from outside, the hosts of the
+# library, and the suite.
+.PHONY: run test library install uninstall bench fuzz broken trouble embed stress doors peer mutants
 
 TRACE ?= examples/two-guests.trace
 IMAGE ?=
 SAVE ?=
 N ?= 1000
 FROM ?= 0
+PREFIX ?= /usr/local
+LIBDIR ?= $(PREFIX)/lib
+INCLUDEDIR ?= $(PREFIX)/include
 PROGRAM = crates/vreplay/out/vreplay
 
 # Proves what the program stands on, builds it, and replays a trace. TRACE=FILE names another, IMAGE=FILE an
@@ -20,6 +24,22 @@ run:
 # The gate: every proof from nothing, the must-fail edits, the tests and the programs.
 test:
 	@rt ci
+
+# Proves and builds the library for C.
+library:
+	@packaging/build
+
+# Installs the library's header, archive and shared object below PREFIX, with kalyubos.pc and the notices; it is built first
+# where a source is newer. DESTDIR stands before each path.
+install: packaging/out/libkalyubos.a
+	@DESTDIR="$(DESTDIR)" LIBDIR="$(LIBDIR)" INCLUDEDIR="$(INCLUDEDIR)" packaging/install "$(PREFIX)"
+
+packaging/out/libkalyubos.a: crates.txt examples/embed/heap.c $(shell find crates -name out -prune -o -name '*.rt' -print -o -name '*.h' -print)
+	@packaging/build
+
+# Removes what install put there.
+uninstall:
+	@DESTDIR="$(DESTDIR)" LIBDIR="$(LIBDIR)" INCLUDEDIR="$(INCLUDEDIR)" packaging/install --remove "$(PREFIX)"
 
 # Times the built program over traces that the script makes.
 bench:
@@ -40,8 +60,8 @@ trouble:
 	@fuzz/files
 	@fuzz/trouble $(N) --from $(FROM)
 
-# Builds the static library and its hosts, in C, in Rust and over a CPU emulator where one is installed, runs them,
-# and compares what they print.
+# Builds the library and its hosts, in C and in Rust, over a CPU emulator and over KVM, as far as the machine has what
+# they want, runs them, and compares what they print.
 embed:
 	@examples/embed/run
 

@@ -2,7 +2,8 @@
  * kalyubos.h: up to sixteen guests, each with a block device and a console over virtio-mmio, behind a CPU loop of
  * your own. docs/model.md says what the devices do, and docs/EMBEDDING.md how an exit of a guest becomes a call.
  *
- * Link libboard_ffi.a, and give it a heap: the three functions at the end of this file.
+ * `make install` installs it, and `pkg-config --cflags --libs kalyubos` says how to link it. Its heap is malloc's,
+ * unless the host defines the functions at the end of this file. The bare libboard_ffi.a has no heap.
  *
  * What each call promises is proved, for a caller that keeps these duties:
  *  - A handle is zeroed before its first call, and is then changed by calls alone. It is never copied: a copy
@@ -180,8 +181,9 @@ uint32_t kalyubos_image_len(struct kalyubos *board, size_t *len);
 uint32_t kalyubos_read_image(struct kalyubos *board, size_t start, uint8_t *into, size_t into_len);
 
 /*
- * The heap, which the host defines; examples/embed/heap.c has it over malloc. All three are of one heap, and are
- * called within kalyubos_create and kalyubos_destroy alone. A block is aligned to `align`, a power of two up to 16.
+ * The heap. The installed library has it over malloc, as examples/embed/heap.c does; a host that defines one of these
+ * defines all of them. They are of one heap, and are called within kalyubos_create and kalyubos_destroy alone. A block
+ * is aligned to `align`, a power of two up to 16.
  * `found` is false where there is no memory, and `at` is then any address; a block that couldn't be resized stands as
  * it was. Of a block that is resized the first `kept` bytes stay. A block of size 0 is a block as any other.
  */

@@ -1,7 +1,7 @@
 /*
- * A host over a CPU emulator, the Unicorn engine: two RISC-V CPUs run the program of guest.S, each as a guest of its
- * own. What a CPU loads and stores at its windows and in its memory goes to the board, so all that a guest does is
- * events of its slot; its program stands in a ROM of the host's.
+ * A host over a CPU emulator, the Unicorn engine: two RISC-V CPUs run the program of guest.S in turns, each as a guest
+ * of its own. The engine maps the board's memory of a guest, with the program in it, so a CPU's loads and stores there
+ * need no call; those at its windows become one each.
  */
 #include <stdio.h>
 #include <stdlib.h>
@@ -12,9 +12,9 @@
 #include "kalyubos.h"
 
 /* Where a guest finds what, in physical addresses. */
-static const uint64_t ROM = 0x1000, WINDOWS = 0x0a000000, MEMORY = 0x80000000;
+static const uint64_t WINDOWS = 0x0a000000, MEMORY = 0x80000000, PROGRAM = 0x80010000;
 
-enum { PAGE = 0x1000, MEMORY_LEN = 0x10000, OUTLET = 64, GUESTS = 2, TURN = 20, TURNS = 1000 };
+enum { PAGE = 0x1000, MEMORY_LEN = 0x20000, OUTLET = 64, GUESTS = 2, TURN = 20, TURNS = 1000 };
 
 struct guest {
     uint8_t slot;
@@ -40,7 +40,7 @@ static void cpu_must(uc_err answer, const char *what)
     }
 }
 
-/* ---- what a CPU's loads and stores come to: offsets are from the windows' and from the memory's beginning */
+/* ---- what a CPU's loads and stores at its windows come to: offsets are from the first window's beginning */
 
 static uint64_t window_load(uc_engine *cpu, uint64_t offset, unsigned width, void *user)
 {
@@ -60,45 +60,30 @@ static void window_store(uc_engine *cpu, uint64_t offset, unsigned width, uint64
     must(kalyubos_write(&board, guest->slot, offset / PAGE, offset % PAGE, width, value, &pending), "write");
 }
 
-/* Memory's bytes stand lowest first, as those of a RISC-V CPU do. */
-static uint64_t memory_load(uc_engine *cpu, uint64_t offset, unsigned width, void *user)
-{
-    const struct guest *guest = user;
-    uint8_t bytes[8];
-    uint64_t value = 0;
-    (void)cpu;
-    must(kalyubos_read_memory(&board, guest->slot, MEMORY + offset, bytes, width), "read_memory");
-    for (unsigned i = width; i > 0; i--)
-        value = value << 8 | bytes[i - 1];
-    return value;
-}
-
-static void memory_store(uc_engine *cpu, uint64_t offset, unsigned width, uint64_t value, void *user)
-{
-    const struct guest *guest = user;
-    uint8_t bytes[8];
-    (void)cpu;
-    for (unsigned i = 0; i < width; i++)
-        bytes[i] = value >> 8 * i;
-    must(kalyubos_write_memory(&board, guest->slot, MEMORY + offset, bytes, width), "write_memory");
-}
-
 /* ---- the machine */
+
+/* A guest's memory is the board's, where it lies; heap.c aligns it to pages, as the engine wants it. */
+static void map_memory(const struct guest *guest)
+{
+    uint8_t *bytes;
+    size_t len;
+    must(kalyubos_memory(&board, guest->slot, &bytes, &len), "memory");
+    memcpy(bytes + (PROGRAM - MEMORY), GUEST, sizeof GUEST);
+    cpu_must(uc_mem_map_ptr(guest->cpu, MEMORY, len, UC_PROT_ALL, bytes), "the memory");
+}
 
 static void power_on(struct guest *guest, uint8_t slot)
 {
-    *guest = (struct guest){ slot, NULL, ROM };
+    *guest = (struct guest){ slot, NULL, PROGRAM };
     cpu_must(uc_open(UC_ARCH_RISCV, UC_MODE_RISCV64, &guest->cpu), "a CPU");
-    cpu_must(uc_mem_map(guest->cpu, ROM, PAGE, UC_PROT_READ | UC_PROT_EXEC), "the ROM");
-    cpu_must(uc_mem_write(guest->cpu, ROM, GUEST, sizeof GUEST), "the program");
     cpu_must(uc_mmio_map(guest->cpu, WINDOWS, 2 * PAGE, window_load, guest, window_store, guest), "the windows");
-    cpu_must(uc_mmio_map(guest->cpu, MEMORY, MEMORY_LEN, memory_load, guest, memory_store, guest), "the memory");
+    map_memory(guest);
 }
 
 /* Some instructions of the guest; false where its program is at its end. */
 static bool turn(struct guest *guest)
 {
-    const uint64_t end = ROM + sizeof GUEST;
+    const uint64_t end = PROGRAM + sizeof GUEST;
     if (guest->at == end)
         return false;
     cpu_must(uc_emu_start(guest->cpu, guest->at, end, 0, TURN), "a turn");
@@ -116,7 +101,7 @@ static void report(const struct guest *guest)
     must(kalyubos_take_output(&board, guest->slot, out, sizeof out, &taken), "take_output");
     must(kalyubos_interrupts(&board, guest->slot, &block, &console), "interrupts");
     must(kalyubos_disturbed(&board, guest->slot, &disturbed), "disturbed");
-    if (guest->at != ROM + sizeof GUEST)
+    if (guest->at != PROGRAM + sizeof GUEST)
         printf("guest %u: still at %llx\n", guest->slot, (unsigned long long)guest->at);
     else if (failed != 0)
         printf("guest %u: step %u failed\n", guest->slot, (unsigned)failed);

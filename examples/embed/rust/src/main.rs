@@ -1,6 +1,7 @@
 //! The host of `host.c`, in Rust: the same guest, on a thread of its own, and the same lines.
 
-use kalyubos::{Board, Refusal, Slot, Window};
+use kalyubos::{Board, Error, Slot, Window};
+use std::error;
 use std::thread;
 
 const MEMORY: u64 = 0x8000_0000;
@@ -34,21 +35,20 @@ impl Driver<'_> {
         MEMORY + 0x8000 * self.window as u64
     }
 
-    fn get(&mut self, offset: u16) -> Result<u32, Refusal> {
+    fn get(&mut self, offset: u16) -> Result<u32, Error> {
         self.board.read(0, self.window, offset, 4)
     }
 
-    fn set(&mut self, offset: u16, value: u32) -> Result<(), Refusal> {
-        self.board.write(0, self.window, offset, 4, value)?;
-        Ok(())
+    fn set(&mut self, offset: u16, value: u32) -> Result<(), Error> {
+        self.board.write(0, self.window, offset, 4, value).map(drop)
     }
 
-    fn store(&mut self, addr: u64, from: &[u8]) -> Result<(), Refusal> {
+    fn store(&mut self, addr: u64, from: &[u8]) -> Result<(), Error> {
         self.board.write_memory(0, addr, from)
     }
 
     /// VERSION_1 alone is accepted, and a queue of four made ready.
-    fn bring_up(&mut self) -> Result<(), Refusal> {
+    fn bring_up(&mut self) -> Result<(), Error> {
         let area = self.area() as u32;
         for (offset, value) in [
             (0x070, 0),
@@ -71,14 +71,14 @@ impl Driver<'_> {
     }
 
     /// Puts one chain, whose head is descriptor 0, on offer.
-    fn offer(&mut self, chain: &[u8]) -> Result<(), Refusal> {
+    fn offer(&mut self, chain: &[u8]) -> Result<(), Error> {
         let area = self.area();
         self.store(area + TABLE, chain)?;
         self.store(area + AVAIL, &[0, 0, 1, 0, 0, 0])?;
         self.set(0x050, self.queue)
     }
 
-    fn read_sector(&mut self, sector: u64) -> Result<(), Refusal> {
+    fn read_sector(&mut self, sector: u64) -> Result<(), Error> {
         let data = self.area() + DATA;
         let mut header = [0; 16];
         header[8..].copy_from_slice(&sector.to_le_bytes());
@@ -90,13 +90,24 @@ impl Driver<'_> {
     }
 }
 
-fn guest(board: &mut Board) -> Result<(), Refusal> {
+fn guest(board: &mut Board) -> Result<(), Error> {
     for window in [Window::Block, Window::Console] {
-        let mut driver = Driver { board, window, queue: 0 };
+        let mut driver = Driver {
+            board,
+            window,
+            queue: 0,
+        };
         let (magic, device) = (driver.get(0x000)?, driver.get(0x008)?);
-        println!("window {}: magic {magic:08x}, device {device}", window as u8);
+        println!(
+            "window {}: magic {magic:08x}, device {device}",
+            window as u8
+        );
     }
-    let mut disk = Driver { board, window: Window::Block, queue: 0 };
+    let mut disk = Driver {
+        board,
+        window: Window::Block,
+        queue: 0,
+    };
     disk.bring_up()?;
     disk.read_sector(1)?;
     let data = disk.area() + DATA;
@@ -104,35 +115,39 @@ fn guest(board: &mut Board) -> Result<(), Refusal> {
     board.read_memory(0, data + 0x100, &mut status)?;
     println!("sector 1: status {}", status[0]);
     board.read_memory(0, data + 0x200, &mut text)?;
-    let len = text.iter().position(|&byte| byte == 0).unwrap_or(text.len());
+    let len = text
+        .iter()
+        .position(|&byte| byte == 0)
+        .unwrap_or(text.len());
 
-    let mut console = Driver { board, window: Window::Console, queue: 1 };
+    let mut console = Driver {
+        board,
+        window: Window::Console,
+        queue: 1,
+    };
     console.bring_up()?;
     let data = console.area() + DATA;
     console.store(data, &text[..len])?;
     console.offer(&descriptor(data, len as u32, 0, 0))
 }
 
-fn main() -> Result<(), Refusal> {
+fn main() -> Result<(), Box<dyn error::Error>> {
     let mut image = vec![0; 2 * 512];
     image[512..532].copy_from_slice(b"hello from sector 1\n");
-    let slot = Slot {
-        base: MEMORY,
-        len: 0x1_0000,
-        start: 0,
-        count: 2,
-        cols: 80,
-        rows: 25,
-        outlet: 0x8000,
-        read_only: false,
-    };
-    let mut board = Board::new(&[slot], &image, 8)?;
-    thread::scope(|cpus| cpus.spawn(|| guest(&mut board)).join().expect("the guest's thread ends"))?;
+    let mut board = Board::new(&[Slot::new(MEMORY, 0x1_0000, 0..2)], &image, 8)?;
+    thread::scope(|cpus| {
+        cpus.spawn(|| guest(&mut board))
+            .join()
+            .expect("the guest's thread ends")
+    })?;
     let mut out = [0; 64];
     let taken = board.take_output(0, &mut out)?;
     print!("console: {}", String::from_utf8_lossy(&out[..taken]));
-    let (block, console) = board.interrupts(0)?;
+    let lines = board.interrupts(0)?;
     let disturbed = u8::from(board.disturbed(0)?);
-    println!("interrupts: {block} and {console}, disturbed: {disturbed}");
+    println!(
+        "interrupts: {} and {}, disturbed: {disturbed}",
+        lines.block, lines.console
+    );
     Ok(())
 }

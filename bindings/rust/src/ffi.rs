@@ -1,8 +1,9 @@
-//! The header's declarations, and the heap that the library is given.
+//! The declarations of `kalyubos.h`, which says what each call does and what its caller must keep.
 
 use std::ffi::c_void;
 
 /// A board, or none.
+#[derive(Debug)]
 #[repr(C)]
 pub struct Handle {
     at: *mut c_void,
@@ -16,20 +17,7 @@ impl Handle {
     }
 }
 
-/// What waits once a call is answered.
-#[derive(Clone, Copy, Debug, Default, PartialEq, Eq)]
-#[repr(C)]
-pub struct Pending {
-    /// The word of the block window: its line is high while this isn't 0.
-    pub block: u32,
-    /// The word of the console window.
-    pub console: u32,
-    /// How many bytes of the console's output wait to be taken.
-    pub output: u64,
-}
-
 /// One guest.
-#[derive(Clone, Copy, Debug)]
 #[repr(C)]
 pub struct Slot {
     pub base: u64,
@@ -42,7 +30,17 @@ pub struct Slot {
     pub read_only: bool,
 }
 
+/// What waits once a call is answered.
+#[derive(Default)]
+#[repr(C)]
+pub struct Pending {
+    pub block: u32,
+    pub console: u32,
+    pub output: u64,
+}
+
 unsafe extern "C" {
+    pub fn kalyubos_version() -> u32;
     pub fn kalyubos_create(
         board: *mut Handle,
         slots: *const Slot,
@@ -68,6 +66,12 @@ unsafe extern "C" {
         width: u8,
         value: u32,
         pending: *mut Pending,
+    ) -> u32;
+    pub fn kalyubos_memory(
+        board: *mut Handle,
+        slot: u8,
+        bytes: *mut *mut u8,
+        len: *mut usize,
     ) -> u32;
     pub fn kalyubos_read_memory(
         board: *mut Handle,
@@ -119,46 +123,4 @@ unsafe extern "C" {
         into: *mut u8,
         into_len: usize,
     ) -> u32;
-
-    fn malloc(size: usize) -> *mut c_void;
-    fn realloc(at: *mut c_void, size: usize) -> *mut c_void;
-    fn free(at: *mut c_void);
-}
-
-/// What the heap answers.
-#[repr(C)]
-pub struct Block {
-    found: bool,
-    at: *mut c_void,
-}
-
-/// A block of memory. `malloc` aligns to 16, which is all that the board asks for.
-#[unsafe(no_mangle)]
-pub unsafe extern "C" fn rattle_alloc(size: usize, align: usize) -> Block {
-    let at = unsafe { malloc(if size == 0 { align } else { size }) };
-    Block {
-        found: !at.is_null(),
-        at,
-    }
-}
-
-/// The block with another size.
-#[unsafe(no_mangle)]
-pub unsafe extern "C" fn rattle_realloc(
-    at: *mut c_void,
-    _kept: usize,
-    size: usize,
-    align: usize,
-) -> Block {
-    let at = unsafe { realloc(at, if size == 0 { align } else { size }) };
-    Block {
-        found: !at.is_null(),
-        at,
-    }
-}
-
-/// Frees a block.
-#[unsafe(no_mangle)]
-pub unsafe extern "C" fn rattle_dealloc(at: *mut c_void) {
-    unsafe { free(at) }
 }

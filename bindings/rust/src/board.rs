@@ -1,0 +1,329 @@
+//! The board and its calls.
+
+use crate::error::{CreateError, Error};
+use crate::ffi;
+use crate::slot::Slot;
+use std::ptr::{self, NonNull};
+
+/// The version of the header that `ffi` declares.
+const HEADER: u32 = 100;
+
+/// A guest's two windows, each of 4096 bytes.
+#[derive(Clone, Copy, Debug, PartialEq, Eq, Hash)]
+#[repr(u8)]
+pub enum Window {
+    /// The registers of its disk.
+    Block = 0,
+    /// The registers of its console.
+    Console = 1,
+}
+
+/// InterruptStatus of a slot's windows. A window's line is high while its word isn't 0.
+#[derive(Clone, Copy, Debug, Default, PartialEq, Eq, Hash)]
+pub struct Interrupts {
+    /// The block window's word.
+    pub block: u32,
+    /// The console window's word.
+    pub console: u32,
+}
+
+/// What waits once a call is answered: the host moves the slot's lines and takes its output by it.
+#[derive(Clone, Copy, Debug, Default, PartialEq, Eq, Hash)]
+pub struct Pending {
+    /// Both interrupt words.
+    pub interrupts: Interrupts,
+    /// How many bytes of the console's output wait to be taken.
+    pub output: u64,
+}
+
+impl Pending {
+    fn of_c(told: ffi::Pending) -> Pending {
+        let interrupts = Interrupts {
+            block: told.block,
+            console: told.console,
+        };
+        Pending {
+            interrupts,
+            output: told.output,
+        }
+    }
+}
+
+/// A board of up to sixteen guests. It is ended, and its memory freed, where it is dropped.
+///
+/// A board is `Send` and not `Sync`: one thread at a time calls it. Threads that share it put it into a `Mutex`, and
+/// what each guest sees is the same in whichever order they take the lock.
+#[derive(Debug)]
+pub struct Board {
+    // It holds a board from `new` until the drop.
+    handle: ffi::Handle,
+}
+
+// SAFETY: a handle is proved to be `Send`: what it owns, any thread may use and free, one at a time.
+unsafe impl Send for Board {}
+
+// Each duty of the header is kept here. References are never null, an exclusive one overlaps no other, and a `Board` can't
+// be copied; each call takes `&mut self`, so it is the only one on its handle.
+impl Board {
+    /// Makes a board over a copy of the image, with a cache of at most `cache` sectors before it. It takes all memory that
+    /// the board ever needs.
+    ///
+    /// ```
+    /// use kalyubos::{Board, CreateError, Slot};
+    ///
+    /// let disk = vec![0; 16 * 512];
+    /// let guests = [
+    ///     Slot::new(0x8000_0000, 0x1_0000, 0..8),
+    ///     Slot::new(0x8000_0000, 0x1_0000, 8..16).read_only(true),
+    /// ];
+    /// let board = Board::new(&guests, &disk, 8)?;
+    ///
+    /// let both = [guests[0].clone(), guests[0].clone()];
+    /// assert_eq!(Board::new(&both, &disk, 8).unwrap_err(), CreateError::ExtentsOverlap);
+    /// # Ok::<(), CreateError>(())
+    /// ```
+    pub fn new(slots: &[Slot], image: &[u8], cache: u32) -> Result<Board, CreateError> {
+        let version = unsafe { ffi::kalyubos_version() };
+        if version / 100 != HEADER / 100 {
+            return Err(CreateError::WrongLibrary(version));
+        }
+        let slots: Vec<ffi::Slot> = slots.iter().map(Slot::in_c).collect();
+        let mut handle = ffi::Handle::empty();
+        CreateError::check(unsafe {
+            ffi::kalyubos_create(
+                &mut handle,
+                slots.as_ptr(),
+                slots.len(),
+                image.as_ptr(),
+                image.len(),
+                cache,
+            )
+        })?;
+        Ok(Board { handle })
+    }
+
+    /// What a guest's read of `width` bytes (1, 2 or 4) at an offset of a window gives, extended by zeros. Every offset
+    /// and width has an answer.
+    ///
+    /// ```
+    /// # use kalyubos::{Board, Slot, Window};
+    /// # let mut board = Board::new(&[Slot::new(0, 0x1000, 0..1)], &[0; 512], 1)?;
+    /// const DEVICE_ID: u16 = 0x008;
+    /// assert_eq!(board.read(0, Window::Block, DEVICE_ID, 4)?, 2);
+    /// assert_eq!(board.read(0, Window::Console, DEVICE_ID, 4)?, 3);
+    /// # Ok::<(), Box<dyn std::error::Error>>(())
+    /// ```
+    pub fn read(&mut self, slot: u8, window: Window, offset: u16, width: u8) -> Result<u32, Error> {
+        let mut value = 0;
+        Error::check(unsafe {
+            ffi::kalyubos_read(
+                &mut self.handle,
+                slot,
+                window as u8,
+                offset,
+                width,
+                &mut value,
+            )
+        })?;
+        Ok(value)
+    }
+
+    /// A guest's write. What it notifies is served before the call returns, which tells what then waits.
+    ///
+    /// [`Error::NoRoom`]: the next chain of the console's transmit queue, or the byte of an emergency write, doesn't fit
+    /// behind the output that waits. The chains before it are served, and it stays on offer. Take the output and make the
+    /// same write again, as long as it is answered so and there was output to take.
+    ///
+    /// ```
+    /// # use kalyubos::{Board, Error, Slot, Window};
+    /// # let slot = Slot::new(0, 0x1000, 0..1);
+    /// const EMERG_WR: u16 = 0x108;
+    /// let mut board = Board::new(&[slot.outlet(1)], &[0; 512], 1)?;
+    /// assert_eq!(board.write(0, Window::Console, EMERG_WR, 4, b'a'.into())?.output, 1);
+    /// assert_eq!(board.write(0, Window::Console, EMERG_WR, 4, b'b'.into()), Err(Error::NoRoom));
+    ///
+    /// let mut out = [0; 16];
+    /// assert_eq!(board.take_output(0, &mut out)?, 1);
+    /// assert_eq!(out[0], b'a');
+    /// board.write(0, Window::Console, EMERG_WR, 4, b'b'.into())?;
+    /// # Ok::<(), Box<dyn std::error::Error>>(())
+    /// ```
+    pub fn write(
+        &mut self,
+        slot: u8,
+        window: Window,
+        offset: u16,
+        width: u8,
+        value: u32,
+    ) -> Result<Pending, Error> {
+        let mut told = ffi::Pending::default();
+        Error::check(unsafe {
+            ffi::kalyubos_write(
+                &mut self.handle,
+                slot,
+                window as u8,
+                offset,
+                width,
+                value,
+                &mut told,
+            )
+        })?;
+        Ok(Pending::of_c(told))
+    }
+
+    /// A guest's memory in place: byte 0 is that of address `base`. What is written there is a write of that guest's.
+    ///
+    /// ```
+    /// # use kalyubos::{Board, Slot};
+    /// let mut board = Board::new(&[Slot::new(0x8000_0000, 0x1000, 0..1)], &[0; 512], 1)?;
+    /// let memory = board.memory(0)?;
+    /// assert_eq!(memory.len(), 0x1000);
+    /// memory[..5].copy_from_slice(b"hello");
+    ///
+    /// let mut seen = [0; 5];
+    /// board.read_memory(0, 0x8000_0000, &mut seen)?;
+    /// assert_eq!(&seen, b"hello");
+    /// # Ok::<(), Box<dyn std::error::Error>>(())
+    /// ```
+    pub fn memory(&mut self, slot: u8) -> Result<&mut [u8], Error> {
+        let bytes = self.memory_parts(slot)?;
+        // SAFETY: the bytes are the slot's memory, which stays until the drop, and while they are lent no call is made.
+        Ok(unsafe { &mut *bytes.as_ptr() })
+    }
+
+    /// Where a guest's memory lies, to map it for the guest's CPUs. It stays until the board is dropped, and begins at a
+    /// page of 4096 bytes where the heap is the library's own.
+    ///
+    /// Whoever writes through it keeps two duties: no CPU of the guest runs while a call for it does, or while its
+    /// [`memory`](Board::memory) is lent; and none runs on once the board is dropped. CPUs of other guests may run.
+    pub fn memory_parts(&mut self, slot: u8) -> Result<NonNull<[u8]>, Error> {
+        let (mut bytes, mut len) = (ptr::null_mut(), 0);
+        Error::check(unsafe {
+            ffi::kalyubos_memory(&mut self.handle, slot, &mut bytes, &mut len)
+        })?;
+        let bytes = NonNull::new(bytes).expect("a memory isn't empty");
+        Ok(NonNull::slice_from_raw_parts(bytes, len))
+    }
+
+    /// Copies bytes out of a guest's memory, from address `addr` on.
+    pub fn read_memory(&mut self, slot: u8, addr: u64, into: &mut [u8]) -> Result<(), Error> {
+        Error::check(unsafe {
+            ffi::kalyubos_read_memory(&mut self.handle, slot, addr, into.as_mut_ptr(), into.len())
+        })
+    }
+
+    /// Copies bytes into a guest's memory, from address `addr` on.
+    ///
+    /// ```
+    /// # use kalyubos::{Board, Error, Slot};
+    /// let mut board = Board::new(&[Slot::new(0x8000_0000, 0x1000, 0..1)], &[0; 512], 1)?;
+    /// board.write_memory(0, 0x8000_0ffe, b"ab")?;
+    /// let mut seen = [0; 2];
+    /// board.read_memory(0, 0x8000_0ffe, &mut seen)?;
+    /// assert_eq!(&seen, b"ab");
+    /// assert_eq!(board.write_memory(0, 0x8000_0fff, b"ab"), Err(Error::BadRange));
+    /// # Ok::<(), Box<dyn std::error::Error>>(())
+    /// ```
+    pub fn write_memory(&mut self, slot: u8, addr: u64, from: &[u8]) -> Result<(), Error> {
+        Error::check(unsafe {
+            ffi::kalyubos_write_memory(&mut self.handle, slot, addr, from.as_ptr(), from.len())
+        })
+    }
+
+    /// Types bytes to a console, and tells how many it took, the first ones, and what then waits. Type the others again until none is taken,
+    /// then after the guest's next calls.
+    ///
+    /// ```
+    /// # use kalyubos::{Board, Slot};
+    /// # let mut board = Board::new(&[Slot::new(0, 0x1000, 0..1)], &[0; 512], 1)?;
+    /// assert_eq!(board.input(0, b"ls\n")?.0, 3);
+    /// assert_eq!(board.input(0, &[b'x'; 5000])?.0, 4093); // a console keeps 4096
+    /// # Ok::<(), Box<dyn std::error::Error>>(())
+    /// ```
+    pub fn input(&mut self, slot: u8, bytes: &[u8]) -> Result<(usize, Pending), Error> {
+        let (mut took, mut told) = (0, ffi::Pending::default());
+        Error::check(unsafe {
+            ffi::kalyubos_input(
+                &mut self.handle,
+                slot,
+                bytes.as_ptr(),
+                bytes.len(),
+                &mut took,
+                &mut told,
+            )
+        })?;
+        Ok((took, Pending::of_c(told)))
+    }
+
+    /// Gives a console another size, of which its driver is told, and tells what then waits.
+    pub fn resize(&mut self, slot: u8, cols: u16, rows: u16) -> Result<Pending, Error> {
+        let mut told = ffi::Pending::default();
+        Error::check(unsafe {
+            ffi::kalyubos_resize(&mut self.handle, slot, cols, rows, &mut told)
+        })?;
+        Ok(Pending::of_c(told))
+    }
+
+    /// Moves out the first bytes of what a console put out, as many as find room, and tells how many they are. The others
+    /// wait for the next call.
+    pub fn take_output(&mut self, slot: u8, into: &mut [u8]) -> Result<usize, Error> {
+        let mut taken = 0;
+        Error::check(unsafe {
+            ffi::kalyubos_take_output(
+                &mut self.handle,
+                slot,
+                into.as_mut_ptr(),
+                into.len(),
+                &mut taken,
+            )
+        })?;
+        Ok(taken)
+    }
+
+    /// Both interrupt words of a slot. Each write, input and resize tells them; a read moves none.
+    pub fn interrupts(&mut self, slot: u8) -> Result<Interrupts, Error> {
+        let (mut block, mut console) = (0, 0);
+        Error::check(unsafe {
+            ffi::kalyubos_interrupts(&mut self.handle, slot, &mut block, &mut console)
+        })?;
+        Ok(Interrupts {
+            block: block.into(),
+            console: console.into(),
+        })
+    }
+
+    /// Whether a call of the image ever failed for the slot.
+    pub fn disturbed(&mut self, slot: u8) -> Result<bool, Error> {
+        let mut disturbed = false;
+        Error::check(unsafe { ffi::kalyubos_disturbed(&mut self.handle, slot, &mut disturbed) })?;
+        Ok(disturbed)
+    }
+
+    /// The image's length in bytes.
+    pub fn image_len(&mut self) -> Result<usize, Error> {
+        let mut len = 0;
+        Error::check(unsafe { ffi::kalyubos_image_len(&mut self.handle, &mut len) })?;
+        Ok(len)
+    }
+
+    /// Copies bytes out of the image as it stands, from byte `start` on.
+    pub fn read_image(&mut self, start: usize, into: &mut [u8]) -> Result<(), Error> {
+        Error::check(unsafe {
+            ffi::kalyubos_read_image(&mut self.handle, start, into.as_mut_ptr(), into.len())
+        })
+    }
+
+    /// A copy of the whole image as it stands, to save what the guests wrote.
+    pub fn image(&mut self) -> Result<Vec<u8>, Error> {
+        let mut bytes = vec![0; self.image_len()?];
+        self.read_image(0, &mut bytes)?;
+        Ok(bytes)
+    }
+}
+
+impl Drop for Board {
+    fn drop(&mut self) {
+        // It holds a board, so the answer is 0.
+        unsafe { ffi::kalyubos_destroy(&mut self.handle) };
+    }
+}

@@ -1,0 +1,11 @@
+#![doc = include_str!("../README.md")]
+#![warn(missing_docs)]
+
+mod board;
+mod error;
+mod ffi;
+mod slot;
+
+pub use board::{Board, Interrupts, Pending, Window};
+pub use error::{CreateError, Error};
+pub use slot::Slot;

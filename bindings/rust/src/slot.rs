@@ -1,0 +1,71 @@
+//! A guest, as a board is made of them.
+
+use crate::ffi;
+use std::ops::Range;
+
+/// One guest: its memory, the sectors of the image that its disk shows, and its console.
+#[derive(Clone, Debug, PartialEq, Eq)]
+pub struct Slot {
+    base: u64,
+    len: u64,
+    sectors: Range<u64>,
+    cols: u16,
+    rows: u16,
+    outlet: u32,
+    read_only: bool,
+}
+
+impl Slot {
+    /// A guest with `len` bytes of memory from `base` on, whose disk shows some sectors of the image: one that may be
+    /// written, with a console of 80 by 25 and an outlet of 32 KiB.
+    ///
+    /// ```
+    /// use kalyubos::Slot;
+    ///
+    /// let guest = Slot::new(0x8000_0000, 0x1_0000, 0..8).console(132, 43).read_only(true);
+    /// ```
+    pub fn new(base: u64, len: u64, sectors: Range<u64>) -> Slot {
+        Slot {
+            base,
+            len,
+            sectors,
+            cols: 80,
+            rows: 25,
+            outlet: 0x8000,
+            read_only: false,
+        }
+    }
+
+    /// The size of its console.
+    pub fn console(mut self, cols: u16, rows: u16) -> Slot {
+        (self.cols, self.rows) = (cols, rows);
+        self
+    }
+
+    /// How many bytes of its console's output may wait to be taken. A chain that is longer is never put out, so give it
+    /// the longest that the guest's driver sends. Linux's console sends up to 32 KiB at once.
+    pub fn outlet(mut self, bytes: u32) -> Slot {
+        self.outlet = bytes;
+        self
+    }
+
+    /// Whether its disk refuses writes.
+    pub fn read_only(mut self, refuses: bool) -> Slot {
+        self.read_only = refuses;
+        self
+    }
+
+    /// The slot as C has it. A range that ends before it begins shows no sector.
+    pub(crate) fn in_c(&self) -> ffi::Slot {
+        ffi::Slot {
+            base: self.base,
+            len: self.len,
+            start: self.sectors.start,
+            count: self.sectors.end.saturating_sub(self.sectors.start),
+            cols: self.cols,
+            rows: self.rows,
+            outlet: self.outlet,
+            read_only: self.read_only,
+        }
+    }
+}

@@ -1,0 +1,206 @@
+//! Each call at its edges: what it answers, and that the next call goes on.
+
+use kalyubos::{Board, CreateError, Error, Interrupts, Pending, Slot, Window};
+use std::sync::Mutex;
+use std::thread;
+
+const MEMORY: u64 = 0x8000_0000;
+const LEN: u64 = 0x1_0000;
+const STATUS: u16 = 0x070;
+const EMERG_WR: u16 = 0x108;
+
+fn one_guest() -> Board {
+    Board::new(&[Slot::new(MEMORY, LEN, 0..2)], &[7; 1024], 4).expect("a board")
+}
+
+#[test]
+fn each_refusal_of_create_is_told() {
+    let good = Slot::new(MEMORY, LEN, 0..1);
+    let refused =
+        |slots: &[Slot], image: &[u8], cache| Board::new(slots, image, cache).unwrap_err();
+    let of_one = |slot: Slot| refused(&[slot], &[0; 512], 1);
+    let one = [good.clone()];
+
+    assert_eq!(refused(&[], &[0; 512], 1), CreateError::NoSlots);
+    assert_eq!(
+        refused(&vec![good.clone(); 17], &[0; 512], 1),
+        CreateError::TooManySlots
+    );
+    assert_eq!(
+        refused(&[good.clone(), good.clone()], &[0; 512], 1),
+        CreateError::ExtentsOverlap
+    );
+    assert_eq!(refused(&one, &[0; 513], 1), CreateError::BadImage);
+    assert_eq!(refused(&one, &[0; 512], 0), CreateError::BadCache);
+    assert_eq!(refused(&one, &[0; 512], 65537), CreateError::BadCache);
+    assert_eq!(
+        of_one(Slot::new(MEMORY, LEN + 1, 0..1)),
+        CreateError::BadMemorySize
+    );
+    assert_eq!(
+        of_one(Slot::new(MEMORY, (1 << 28) + 4096, 0..1)),
+        CreateError::BadMemorySize
+    );
+    assert_eq!(
+        of_one(Slot::new(MEMORY + 1, LEN, 0..1)),
+        CreateError::BadMemoryBase
+    );
+    assert_eq!(
+        of_one(Slot::new(MEMORY, LEN, 0..2)),
+        CreateError::ExtentOutside
+    );
+    assert_eq!(of_one(good.outlet((1 << 24) + 1)), CreateError::BadOutlet);
+}
+
+#[test]
+fn there_is_no_slot_1() {
+    let mut board = one_guest();
+    let mut byte = [0];
+    assert_eq!(board.read(1, Window::Block, 0, 4), Err(Error::BadSlot));
+    assert_eq!(
+        board.write(1, Window::Block, STATUS, 4, 1),
+        Err(Error::BadSlot)
+    );
+    assert_eq!(board.read_memory(1, MEMORY, &mut byte), Err(Error::BadSlot));
+    assert_eq!(board.write_memory(1, MEMORY, &byte), Err(Error::BadSlot));
+    assert_eq!(board.memory(1).unwrap_err(), Error::BadSlot);
+    assert_eq!(board.input(1, b"x"), Err(Error::BadSlot));
+    assert_eq!(board.resize(1, 1, 1), Err(Error::BadSlot));
+    assert_eq!(board.take_output(1, &mut byte), Err(Error::BadSlot));
+    assert_eq!(board.interrupts(1), Err(Error::BadSlot));
+    assert_eq!(board.disturbed(1), Err(Error::BadSlot));
+}
+
+#[test]
+fn memory_has_two_ends() {
+    let mut board = one_guest();
+    let mut seen = [0xff; 2];
+    for addr in [MEMORY, MEMORY + LEN - 2] {
+        board.write_memory(0, addr, &[1, 2]).unwrap();
+        board.read_memory(0, addr, &mut seen).unwrap();
+        assert_eq!(seen, [1, 2]);
+    }
+    for addr in [MEMORY - 1, MEMORY + LEN - 1, u64::MAX] {
+        assert_eq!(board.read_memory(0, addr, &mut seen), Err(Error::BadRange));
+        assert_eq!(board.write_memory(0, addr, &seen), Err(Error::BadRange));
+    }
+    // An empty range lies inside up to the memory's end.
+    assert_eq!(board.write_memory(0, MEMORY + LEN, &[]), Ok(()));
+    assert_eq!(
+        board.write_memory(0, MEMORY + LEN + 1, &[]),
+        Err(Error::BadRange)
+    );
+}
+
+#[test]
+fn memory_in_place_is_the_guests() {
+    let mut board = one_guest();
+    let parts = board.memory_parts(0).unwrap();
+    assert_eq!(
+        (parts.len(), parts.cast::<u8>().as_ptr() as usize % 4096),
+        (LEN as usize, 0)
+    );
+    board.memory(0).unwrap()[..2].copy_from_slice(&[1, 2]);
+    board.memory(0).unwrap()[LEN as usize - 1] = 3;
+    let mut seen = [0; 2];
+    board.read_memory(0, MEMORY, &mut seen).unwrap();
+    assert_eq!(seen, [1, 2]);
+    board.read_memory(0, MEMORY + LEN - 2, &mut seen).unwrap();
+    assert_eq!(seen, [0, 3]);
+    board.write_memory(0, MEMORY + LEN - 2, &[4, 5]).unwrap();
+    assert_eq!(board.memory(0).unwrap()[LEN as usize - 2..], [4, 5]);
+    assert_eq!(board.memory_parts(0), Ok(parts));
+}
+
+#[test]
+fn the_image_is_copied() {
+    let mut board = one_guest();
+    let mut last = [0; 1];
+    assert_eq!(board.image_len(), Ok(1024));
+    assert_eq!(board.image(), Ok(vec![7; 1024]));
+    assert_eq!(board.read_image(1023, &mut last), Ok(()));
+    assert_eq!(last, [7]);
+    assert_eq!(board.read_image(1024, &mut last), Err(Error::BadRange));
+}
+
+#[test]
+fn a_resize_raises_the_consoles_line_alone() {
+    let mut board = one_guest();
+    board.write(0, Window::Console, STATUS, 4, 4).unwrap(); // DRIVER_OK
+    assert_eq!(
+        board.interrupts(0),
+        Ok(Interrupts {
+            block: 0,
+            console: 0
+        })
+    );
+    let told = board.resize(0, 100, 40).unwrap();
+    assert_eq!(
+        told,
+        Pending {
+            interrupts: Interrupts {
+                block: 0,
+                console: 2
+            },
+            output: 0
+        }
+    );
+    assert_eq!(board.interrupts(0), Ok(told.interrupts));
+    assert_eq!(board.read(0, Window::Console, 0x100, 2), Ok(100));
+    assert_eq!(board.read(0, Window::Console, 0x102, 2), Ok(40));
+}
+
+#[test]
+fn output_waits_in_parts() {
+    let mut board = one_guest();
+    for (waits, byte) in (1..).zip(*b"abc") {
+        let told = board
+            .write(0, Window::Console, EMERG_WR, 1, byte.into())
+            .unwrap();
+        assert_eq!(told.output, waits);
+    }
+    let mut part = [0; 2];
+    assert_eq!(board.take_output(0, &mut part), Ok(2));
+    assert_eq!(part, *b"ab");
+    assert_eq!(board.take_output(0, &mut part), Ok(1));
+    assert_eq!(part, *b"cb");
+    assert_eq!(board.take_output(0, &mut []), Ok(0));
+    assert_eq!(board.disturbed(0), Ok(false));
+}
+
+#[test]
+fn threads_share_a_board_in_a_lock() {
+    let slots: Vec<Slot> = (0..4)
+        .map(|at| Slot::new(MEMORY, LEN, at..at + 1))
+        .collect();
+    let board = Mutex::new(Board::new(&slots, &[0; 4 * 512], 4).unwrap());
+    thread::scope(|cpus| {
+        for slot in 0..4 {
+            let board = &board;
+            cpus.spawn(move || {
+                for turn in 0..100 {
+                    let mark = [slot, turn];
+                    let mut seen = [0; 2];
+                    board
+                        .lock()
+                        .unwrap()
+                        .write_memory(slot, MEMORY, &mark)
+                        .unwrap();
+                    board
+                        .lock()
+                        .unwrap()
+                        .read_memory(slot, MEMORY, &mut seen)
+                        .unwrap();
+                    assert_eq!(seen, mark);
+                }
+            });
+        }
+    });
+}
+
+#[test]
+fn errors_say_what_is_wrong() {
+    let shown: Box<dyn std::error::Error> = Error::BadSlot.into();
+    assert_eq!(shown.to_string(), "the board has no such slot");
+    assert_eq!(CreateError::NoSlots.to_string(), "a board needs a slot");
+}

@@ -1,0 +1,194 @@
+/*
+ * A host over KVM: two guests run the program of kvm-guest.S, each on a virtual CPU and a thread of its own. KVM maps
+ * the board's memory of a guest, so its loads and stores need no call; its windows are nobody's memory, so a load or
+ * store there is an exit, which becomes one call; and its devices' lines are interrupts of the virtual CPU.
+ *
+ * Where /dev/kvm can't be opened it says so, with status 77.
+ */
+#define _GNU_SOURCE
+#include <errno.h>
+#include <fcntl.h>
+#include <linux/kvm.h>
+#include <pthread.h>
+#include <stdio.h>
+#include <stdlib.h>
+#include <string.h>
+#include <sys/ioctl.h>
+#include <sys/mman.h>
+
+#include "kalyubos.h"
+#include "kvm-guest.h"
+
+enum { GUESTS = 2, MEMORY_LEN = 0x10000, PROGRAM = 0x1000, WINDOWS = 0xd0000, PAGE = 0x1000, OUTLET = 64, NO_KVM = 77 };
+
+/* The vectors of a guest's two lines. */
+enum { BLOCK_VECTOR = 0x20, CONSOLE_VECTOR = 0x21 };
+
+struct guest {
+    uint8_t slot;
+    int machine, cpu;
+    struct kvm_run *run;
+    struct kalyubos_pending lines; /* as the last call of this guest left them */
+};
+
+static struct kalyubos board;
+static pthread_mutex_t lock = PTHREAD_MUTEX_INITIALIZER;
+
+static int must(int result, const char *what)
+{
+    if (result < 0) {
+        perror(what);
+        exit(1);
+    }
+    return result;
+}
+
+static void must_do(uint32_t answer, const char *what)
+{
+    if (answer != KALYUBOS_DONE) {
+        fprintf(stderr, "%s: refused with %u\n", what, (unsigned)answer);
+        exit(1);
+    }
+}
+
+/* ---- the machine */
+
+/* A guest's memory is the board's, where it lies; heap.c aligns it to pages, as KVM wants it. */
+static void map_memory(const struct guest *guest)
+{
+    uint8_t *bytes;
+    size_t len;
+    must_do(kalyubos_memory(&board, guest->slot, &bytes, &len), "memory");
+    memcpy(bytes + PROGRAM, GUEST, sizeof GUEST);
+    struct kvm_userspace_memory_region region = {
+        .slot = 0, .guest_phys_addr = 0, .memory_size = len, .userspace_addr = (uintptr_t)bytes,
+    };
+    must(ioctl(guest->machine, KVM_SET_USER_MEMORY_REGION, &region), "KVM_SET_USER_MEMORY_REGION");
+}
+
+static void power_on(struct guest *guest, int kvm, uint8_t slot)
+{
+    struct kvm_sregs segments;
+    struct kvm_regs registers = { .rip = PROGRAM, .rflags = 2 };
+    guest->slot = slot;
+    guest->machine = must(ioctl(kvm, KVM_CREATE_VM, 0), "KVM_CREATE_VM");
+    map_memory(guest);
+    guest->cpu = must(ioctl(guest->machine, KVM_CREATE_VCPU, 0), "KVM_CREATE_VCPU");
+    size_t len = (size_t)must(ioctl(kvm, KVM_GET_VCPU_MMAP_SIZE, 0), "KVM_GET_VCPU_MMAP_SIZE");
+    guest->run = mmap(NULL, len, PROT_READ | PROT_WRITE, MAP_SHARED, guest->cpu, 0);
+    must(guest->run == MAP_FAILED ? -1 : 0, "the CPU's exits");
+    must(ioctl(guest->cpu, KVM_GET_SREGS, &segments), "KVM_GET_SREGS");
+    segments.cs.base = segments.cs.selector = 0;
+    must(ioctl(guest->cpu, KVM_SET_SREGS, &segments), "KVM_SET_SREGS");
+    must(ioctl(guest->cpu, KVM_SET_REGS, &registers), "KVM_SET_REGS");
+}
+
+/* ---- what a guest's exits come to */
+
+/* A load or a store at a window. The CPU that made it stands still until the call has ended. */
+static void access_window(struct guest *guest)
+{
+    uint64_t place = guest->run->mmio.phys_addr - WINDOWS;
+    uint8_t window = (uint8_t)(place / PAGE), *data = guest->run->mmio.data, width = (uint8_t)guest->run->mmio.len;
+    uint32_t value = 0;
+    if (place >= 2 * PAGE) { /* nobody is there */
+        memset(data, 0xff, sizeof guest->run->mmio.data);
+        return;
+    }
+    pthread_mutex_lock(&lock);
+    if (guest->run->mmio.is_write) {
+        memcpy(&value, data, width < 4 ? width : 4);
+        must_do(kalyubos_write(&board, guest->slot, window, place % PAGE, width, value, &guest->lines), "write");
+    } else {
+        must_do(kalyubos_read(&board, guest->slot, window, place % PAGE, width, &value), "read");
+        memset(data, 0, sizeof guest->run->mmio.data);
+        memcpy(data, &value, sizeof value);
+    }
+    pthread_mutex_unlock(&lock);
+}
+
+/* A line that is high interrupts the CPU as soon as it can be, and until its driver has acknowledged what it tells. */
+static void set_lines(const struct guest *guest)
+{
+    struct kvm_interrupt line = { guest->lines.block != 0 ? BLOCK_VECTOR : CONSOLE_VECTOR };
+    bool high = guest->lines.block != 0 || guest->lines.console != 0;
+    if (high && guest->run->ready_for_interrupt_injection)
+        must(ioctl(guest->cpu, KVM_INTERRUPT, &line), "KVM_INTERRUPT");
+    guest->run->request_interrupt_window = high && !guest->run->ready_for_interrupt_injection;
+}
+
+/* Runs a guest until it halts with nothing left that could wake it. */
+static void *run(void *user)
+{
+    struct guest *guest = user;
+    for (;;) {
+        set_lines(guest);
+        if (ioctl(guest->cpu, KVM_RUN, 0) < 0 && errno != EINTR)
+            must(-1, "KVM_RUN");
+        switch (guest->run->exit_reason) {
+        case KVM_EXIT_MMIO:
+            access_window(guest);
+            break;
+        case KVM_EXIT_INTR: /* a signal came */
+        case KVM_EXIT_IRQ_WINDOW_OPEN:
+            break;
+        case KVM_EXIT_HLT:
+            if (!guest->run->if_flag || (guest->lines.block == 0 && guest->lines.console == 0))
+                return NULL;
+            break;
+        default:
+            fprintf(stderr, "guest %u: exit %u\n", guest->slot, guest->run->exit_reason);
+            exit(1);
+        }
+    }
+}
+
+static void report(const struct guest *guest)
+{
+    struct kvm_regs registers;
+    uint8_t out[OUTLET];
+    size_t taken;
+    bool disturbed;
+    must(ioctl(guest->cpu, KVM_GET_REGS, &registers), "KVM_GET_REGS");
+    must_do(kalyubos_take_output(&board, guest->slot, out, sizeof out, &taken), "take_output");
+    must_do(kalyubos_disturbed(&board, guest->slot, &disturbed), "disturbed");
+    if (guest->run->if_flag)
+        printf("guest %u: waits at %llx\n", guest->slot, (unsigned long long)registers.rip);
+    else if (registers.rax % 0x10000 != 0)
+        printf("guest %u: step %u failed\n", guest->slot, (unsigned)(registers.rax % 0x10000));
+    else
+        printf("guest %u: done\n", guest->slot);
+    printf("console: ");
+    fwrite(out, 1, taken, stdout);
+    printf("interrupts: %u and %u, disturbed: %d\n", guest->lines.block, guest->lines.console, disturbed);
+}
+
+int main(void)
+{
+    int kvm = open("/dev/kvm", O_RDWR | O_CLOEXEC);
+    if (kvm < 0) {
+        perror("/dev/kvm");
+        return NO_KVM;
+    }
+    static uint8_t image[4 * 512];
+    strcpy((char *)image, "the first half of the image\n");
+    strcpy((char *)image + 2 * 512, "the second half\n");
+    struct kalyubos_slot slots[GUESTS] = {
+        { .len = MEMORY_LEN, .start = 0, .count = 2, .cols = 80, .rows = 25, .outlet = OUTLET },
+        { .len = MEMORY_LEN, .start = 2, .count = 2, .cols = 80, .rows = 25, .outlet = OUTLET },
+    };
+    must_do(kalyubos_create(&board, slots, GUESTS, image, sizeof image, 8), "create");
+
+    static struct guest guests[GUESTS];
+    pthread_t threads[GUESTS];
+    for (uint8_t slot = 0; slot < GUESTS; slot++)
+        power_on(&guests[slot], kvm, slot);
+    for (unsigned i = 0; i < GUESTS; i++)
+        must(-pthread_create(&threads[i], NULL, run, &guests[i]), "a thread");
+    for (unsigned i = 0; i < GUESTS; i++)
+        must(-pthread_join(threads[i], NULL), "a thread's end");
+    for (unsigned i = 0; i < GUESTS; i++)
+        report(&guests[i]);
+    must_do(kalyubos_destroy(&board), "destroy");
+    return 0;
+}
