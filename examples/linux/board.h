@@ -9,7 +9,7 @@
 #include "kalyubos.h"
 
 /* The size of each guest's memory, and where it begins. */
-enum { MEMORY_LEN = 0x02000000 };
+enum { MEMORY_LEN = 0x01000000 };
 static const uint64_t MEMORY_BASE = 0x80000000;
 
 struct board_settings {
