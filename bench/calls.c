@@ -28,7 +28,8 @@ static void must(uint32_t answer)
 
 static void set_of(uint8_t window, uint16_t offset, uint32_t value)
 {
-    must(kalyubos_write(&board, 0, window, offset, 4, value));
+    struct kalyubos_pending pending;
+    must(kalyubos_write(&board, 0, window, offset, 4, value, &pending));
 }
 
 static void set(uint16_t offset, uint32_t value)

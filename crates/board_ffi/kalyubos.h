@@ -12,10 +12,18 @@
  *    run at the same time, if the heap may; what it gave on one thread it takes back on any.
  *  - No pointer is null, also where its length is 0. A buffer is as long as its length says, and none of a
  *    call's buffers and out parameters overlaps another, or the handle.
- *  - A `bool` is 0 or 1. 64 KiB of stack are free, which is more than any call was seen to take.
+ *  - A `bool` is 0 or 1. 64 KiB of stack are free, which is more than any call was seen to take; a guard page behind
+ *    them turns a smaller stack into a fault.
+ *  - No call is made in the forked child of a process that had threads. The heap functions return: they neither jump
+ *    out by longjmp nor throw.
+ *  - While a call for a guest runs, no CPU of that guest runs, and nobody reads or writes its memory in place
+ *    (kalyubos_memory). CPUs of other guests may run then: a call reads and writes no memory but that of its guest.
+ *
+ * The library is built for x86-64-v2 (SSE4.2 and POPCNT) and Linux's calling convention.
  *
  * Nothing of the caller's is kept: a call copies what it needs. Each answers a number, and after any but
- * KALYUBOS_DONE its out parameters are as they were.
+ * KALYUBOS_DONE its out parameters are as they were, but that `pending` is told after KALYUBOS_NO_ROOM as well.
+ * The numbers of the answers are fixed for good; a later version only adds some.
  *
  * kalyubos_create takes all memory that a board needs, and kalyubos_destroy gives it back. No other call takes or
  * gives any, so no guest can be refused memory for what another did: what a guest sees is decided by its own slot's
@@ -31,6 +39,15 @@
 #ifdef __cplusplus
 extern "C" {
 #endif
+
+/* The version of this header, 0.1.0: 10000 for each major version, 100 for each minor one, and the patch. */
+#define KALYUBOS_VERSION 100
+
+/*
+ * The KALYUBOS_VERSION that the library was built with. A host fits a library of the same major version and, before
+ * 1.0.0, of the same minor one.
+ */
+uint32_t kalyubos_version(void);
 
 /* What a call answers. */
 enum {
@@ -64,6 +81,13 @@ struct kalyubos {
     void *at;
 };
 
+/* What waits once a call is answered. */
+struct kalyubos_pending {
+    uint32_t block;   /* InterruptStatus of the slot's block window; its line is high while this isn't 0 */
+    uint32_t console; /* and of its console window */
+    uint64_t output;  /* how many bytes of its console's output wait to be taken */
+};
+
 /* One guest. */
 struct kalyubos_slot {
     uint64_t base;   /* the first address of its memory */
@@ -88,25 +112,37 @@ struct kalyubos_slot {
 uint32_t kalyubos_create(struct kalyubos *board, const struct kalyubos_slot *slots, size_t slots_len,
                          const uint8_t *image, size_t image_len, uint32_t cache);
 
-/* Ends the board, frees its memory and leaves the handle empty. Take the image's bytes out before. */
+/*
+ * Ends the board, frees its memory and leaves the handle empty. Take the image's bytes out before, and let go of
+ * memory in place.
+ */
 uint32_t kalyubos_destroy(struct kalyubos *board);
 
 /*
  * A guest's read of `width` bytes (1, 2 or 4) at an offset of a window: `value` is what its register gets, extended
- * by zeros. Every offset and width has an answer.
+ * by zeros. Every offset and width has an answer. A read changes nothing: no interrupt word, and no output.
  */
 uint32_t kalyubos_read(struct kalyubos *board, uint8_t slot, uint8_t window, uint16_t offset, uint8_t width,
                        uint32_t *value);
 
 /*
- * A guest's write. What it notifies is served before the call returns. NO_ROOM: what the console puts out next, a
+ * A guest's write. What it notifies is served before the call returns, and `pending` is what then waits, after DONE and
+ * after NO_ROOM: set both lines by it, and take the output where there is some. NO_ROOM: what the console puts out next, a
  * chain of its transmit queue or the byte of an emergency write, doesn't fit behind what waits in the slot's outlet.
  * The chains before it are served; it is still on offer, and nothing of it is put out. Take the output and make the
  * same write again, as long as it is answered NO_ROOM and there was output to take: a driver that waits for its
  * buffer doesn't notify again, and Linux's console spins for ever on it.
  */
 uint32_t kalyubos_write(struct kalyubos *board, uint8_t slot, uint8_t window, uint16_t offset, uint8_t width,
-                        uint32_t value);
+                        uint32_t value, struct kalyubos_pending *pending);
+
+/*
+ * Lends the slot's memory in place: `bytes` is where its first byte lies, that of address `base`, and `len` how many
+ * there are. Both stay until kalyubos_destroy. Read and write the bytes as you like between calls for the slot, or map
+ * them to its CPUs; what is written in place is the event of a memory write of that guest. The memory is one block of
+ * the heap, of exactly `len` bytes: a heap that begins such blocks at a page makes it fit to be mapped.
+ */
+uint32_t kalyubos_memory(struct kalyubos *board, uint8_t slot, uint8_t **bytes, size_t *len);
 
 /* Copies bytes out of the slot's memory, and into it, from address `addr` on. */
 uint32_t kalyubos_read_memory(struct kalyubos *board, uint8_t slot, uint64_t addr, uint8_t *into, size_t into_len);
@@ -115,13 +151,15 @@ uint32_t kalyubos_write_memory(struct kalyubos *board, uint8_t slot, uint64_t ad
 
 /*
  * Types bytes to the slot's console; `took` is how many it took, the first ones: it keeps 4096 until its guest
- * reads them. Type the others again until none is taken, then after the guest's next calls: what was taken may have
+ * reads them, and `pending` is what then waits. Type the others again until none is taken, then after the guest's next calls: what was taken may have
  * gone to the guest's buffers at once, and a driver that finds buffers enough doesn't notify for more.
  */
-uint32_t kalyubos_input(struct kalyubos *board, uint8_t slot, const uint8_t *bytes, size_t bytes_len, size_t *took);
+uint32_t kalyubos_input(struct kalyubos *board, uint8_t slot, const uint8_t *bytes, size_t bytes_len, size_t *took,
+                        struct kalyubos_pending *pending);
 
-/* Gives the slot's console another size, of which its driver is told. */
-uint32_t kalyubos_resize(struct kalyubos *board, uint8_t slot, uint16_t cols, uint16_t rows);
+/* Gives the slot's console another size, of which its driver is told; `pending` is what then waits. */
+uint32_t kalyubos_resize(struct kalyubos *board, uint8_t slot, uint16_t cols, uint16_t rows,
+                         struct kalyubos_pending *pending);
 
 /*
  * Moves out the first bytes of what the slot's console put out, as many as find room; `taken` is how many they

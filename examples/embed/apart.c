@@ -114,13 +114,21 @@ static void take(struct guest *guest, size_t room)
     tell_number(guest, taken);
 }
 
+static void tell_pending(struct guest *guest, const struct kalyubos_pending *pending)
+{
+    tell_number(guest, (uint64_t)pending->block << 32 | pending->console);
+    tell_number(guest, pending->output);
+}
+
 /* A store to a register; where there was no room, output is taken at times, and the same store is made again. */
 static void set(struct guest *guest, uint8_t window, uint16_t offset, uint8_t width, uint32_t value)
 {
+    struct kalyubos_pending pending = {0};
     uint32_t answer;
     do {
-        answer = kalyubos_write(guest->board, guest->slot, window, offset, width, value);
+        answer = kalyubos_write(guest->board, guest->slot, window, offset, width, value, &pending);
         tell_number(guest, answer);
+        tell_pending(guest, &pending);
         if (answer == KALYUBOS_NO_ROOM)
             take(guest, chance(guest, 1 << 12));
     } while (answer == KALYUBOS_NO_ROOM && chance(guest, 4) != 0);
@@ -187,10 +195,20 @@ static void offer(struct guest *guest, uint8_t window)
 static void type(struct guest *guest)
 {
     uint8_t bytes[100];
-    size_t took = 0;
+    size_t took = 0, len = chance(guest, sizeof bytes);
+    struct kalyubos_pending pending = {0};
     memset(bytes, 'a' + (int)chance(guest, 26), sizeof bytes);
-    tell_number(guest, kalyubos_input(guest->board, guest->slot, bytes, chance(guest, sizeof bytes), &took));
+    tell_number(guest, kalyubos_input(guest->board, guest->slot, bytes, len, &took, &pending));
     tell_number(guest, took);
+    tell_pending(guest, &pending);
+}
+
+static void resize(struct guest *guest)
+{
+    struct kalyubos_pending pending = {0};
+    uint16_t cols = (uint16_t)chance(guest, 200);
+    tell_number(guest, kalyubos_resize(guest->board, guest->slot, cols, 25, &pending));
+    tell_pending(guest, &pending);
 }
 
 static void look(struct guest *guest)
@@ -221,7 +239,7 @@ static void turn(struct guest *guest)
     case 2: case 3: bring_up(guest, window); break;
     case 4: load(guest, MEMORY + chance(guest, MEMORY_LEN), chance(guest, 2048)); break;
     case 5: type(guest); break;
-    case 6: tell_number(guest, kalyubos_resize(guest->board, guest->slot, (uint16_t)chance(guest, 200), 25)); break;
+    case 6: resize(guest); break;
     case 7: take(guest, chance(guest, 5000)); break;
     case 8: look(guest); break;
     default: offer(guest, window);
@@ -295,7 +313,8 @@ enum { CHAIN = 0x10000, CHAINS = 256, OUTLET = CHAIN * CHAINS };
 
 static void set_console(struct kalyubos *board, uint8_t slot, uint16_t offset, uint32_t value, uint32_t wanted)
 {
-    uint32_t answer = kalyubos_write(board, slot, KALYUBOS_CONSOLE, offset, 4, value);
+    struct kalyubos_pending pending;
+    uint32_t answer = kalyubos_write(board, slot, KALYUBOS_CONSOLE, offset, 4, value, &pending);
     need(answer == wanted, "a store to the console", answer);
 }
 

@@ -51,12 +51,13 @@ static uint64_t window_load(uc_engine *cpu, uint64_t offset, unsigned width, voi
     return value;
 }
 
-/* A machine with interrupt lines looks at kalyubos_interrupts after this; these guests wait at their rings. */
+/* A machine with interrupt lines sets them by the words in `pending`; these guests wait at their rings. */
 static void window_store(uc_engine *cpu, uint64_t offset, unsigned width, uint64_t value, void *user)
 {
     const struct guest *guest = user;
+    struct kalyubos_pending pending;
     (void)cpu;
-    must(kalyubos_write(&board, guest->slot, offset / PAGE, offset % PAGE, width, value), "write");
+    must(kalyubos_write(&board, guest->slot, offset / PAGE, offset % PAGE, width, value, &pending), "write");
 }
 
 /* Memory's bytes stand lowest first, as those of a RISC-V CPU do. */

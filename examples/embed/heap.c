@@ -1,11 +1,16 @@
-/* The board's heap over malloc. `malloc` aligns to 16, which is all that the board asks for. */
+/*
+ * The board's heap over malloc. `malloc` aligns to 16, which is all that the board asks for. Blocks of whole pages, as
+ * guests' memories are, begin at a page, so that they can be mapped where a guest runs.
+ */
 #include <stdlib.h>
 
 #include "kalyubos.h"
 
+enum { PAGE = 4096 };
+
 struct kalyubos_block rattle_alloc(size_t size, size_t align)
 {
-    void *at = malloc(size != 0 ? size : align);
+    void *at = size != 0 && size % PAGE == 0 ? aligned_alloc(PAGE, size) : malloc(size != 0 ? size : align);
     return (struct kalyubos_block){ at != NULL, at };
 }
 

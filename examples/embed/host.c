@@ -42,9 +42,10 @@ static bool show(void)
 /* A store. Where the console has no room for what comes of it, room is made, and the same store is made again. */
 static void set(uint8_t window, uint16_t offset, uint32_t value)
 {
+    struct kalyubos_pending pending;
     uint32_t answer;
     do
-        answer = kalyubos_write(&board, 0, window, offset, 4, value);
+        answer = kalyubos_write(&board, 0, window, offset, 4, value, &pending);
     while (answer == KALYUBOS_NO_ROOM && show());
     must(answer, "write");
 }

@@ -77,6 +77,7 @@ static struct kalyubos boards[BOARDS];
 static uint8_t image[SECTORS * 512];
 static struct kalyubos_slot slots[SLOTS];
 static FILE *trace, *records;
+static uint64_t waiting; /* how many bytes of output the last call said to wait, of those that are told */
 
 static void fail(const char *what, uint32_t answer)
 {
@@ -99,6 +100,9 @@ static void end_record(struct kalyubos *board, uint8_t slot)
     uint8_t block = 0, console = 0;
     size_t taken = 0;
     kalyubos_take_output(board, slot, out, sizeof out, &taken);
+    if (taken != waiting)
+        fail("other output waits", (uint32_t)taken);
+    waiting = 0;
     kalyubos_interrupts(board, slot, &block, &console);
     fputc(' ', records);
     put_bytes(records, out, taken);
@@ -119,6 +123,18 @@ static bool told(const struct kalyubos *board)
 
 /* ---- calls on a board */
 
+/* What waits, as a call told it, is what the calls that ask for it tell. */
+static void compare(struct kalyubos *board, uint8_t slot, const struct kalyubos_pending *pending)
+{
+    uint8_t block, console;
+    if (kalyubos_interrupts(board, slot, &block, &console) != KALYUBOS_DONE)
+        return;
+    if (pending->block != block || pending->console != console)
+        fail("other words wait", pending->block << 8 | pending->console);
+    if (told(board))
+        waiting = pending->output;
+}
+
 static void read_register(struct kalyubos *board, uint8_t slot, uint8_t window, uint16_t offset, uint8_t width)
 {
     uint32_t value = 0;
@@ -137,7 +153,10 @@ static void write_register(struct kalyubos *board, uint8_t slot, uint8_t window,
 {
     if (width < 4)
         value &= (1u << 8 * width) - 1;
-    uint32_t answer = kalyubos_write(board, slot, window, offset, width, value);
+    struct kalyubos_pending pending = {0};
+    uint32_t answer = kalyubos_write(board, slot, window, offset, width, value, &pending);
+    if (answer != KALYUBOS_BAD_WINDOW)
+        compare(board, slot, &pending);
     if (!told(board))
         return;
     fprintf(trace, "w %x %c %03x %u %0*" PRIx32 "\n", slot, window ? 'c' : 'b', offset, width, 2 * width, value);
@@ -173,7 +192,9 @@ static void write_memory(struct kalyubos *board, uint8_t slot, uint64_t addr, co
 static void input(struct kalyubos *board, uint8_t slot, const uint8_t *bytes, size_t len)
 {
     size_t took = 0;
-    uint32_t answer = kalyubos_input(board, slot, bytes, len, &took);
+    struct kalyubos_pending pending = {0};
+    uint32_t answer = kalyubos_input(board, slot, bytes, len, &took, &pending);
+    compare(board, slot, &pending);
     if (!told(board))
         return;
     char text[32];
@@ -187,7 +208,9 @@ static void input(struct kalyubos *board, uint8_t slot, const uint8_t *bytes, si
 
 static void resize(struct kalyubos *board, uint8_t slot, uint16_t cols, uint16_t rows)
 {
-    uint32_t answer = kalyubos_resize(board, slot, cols, rows);
+    struct kalyubos_pending pending = {0};
+    uint32_t answer = kalyubos_resize(board, slot, cols, rows, &pending);
+    compare(board, slot, &pending);
     if (!told(board))
         return;
     fprintf(trace, "sz %x %x %x\n", slot, cols, rows);

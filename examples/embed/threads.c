@@ -38,14 +38,15 @@ static void turn(struct kalyubos *board, uint8_t mark)
     uint8_t seen, out[2], block, console;
     size_t count;
     bool disturbed;
+    struct kalyubos_pending pending;
 
     must(kalyubos_read(board, 0, mark % 2, 0, 4, &magic) == KALYUBOS_DONE && magic == MAGIC, "read");
     must(kalyubos_write_memory(board, 0, SLOT.base, &mark, 1) == KALYUBOS_DONE, "write_memory");
     must(kalyubos_read_memory(board, 0, SLOT.base, &seen, 1) == KALYUBOS_DONE && seen == mark, "read_memory");
-    must(kalyubos_write(board, 0, KALYUBOS_CONSOLE, CONSOLE_EMERGENCY, 4, mark) == KALYUBOS_DONE, "write");
+    must(kalyubos_write(board, 0, KALYUBOS_CONSOLE, CONSOLE_EMERGENCY, 4, mark, &pending) == KALYUBOS_DONE, "write");
     must(kalyubos_take_output(board, 0, out, 2, &count) == KALYUBOS_DONE && count == 1 && out[0] == mark, "output");
-    must(kalyubos_input(board, 0, &mark, 1, &count) == KALYUBOS_DONE, "input");
-    must(kalyubos_resize(board, 0, mark, 25) == KALYUBOS_DONE, "resize");
+    must(kalyubos_input(board, 0, &mark, 1, &count, &pending) == KALYUBOS_DONE, "input");
+    must(kalyubos_resize(board, 0, mark, 25, &pending) == KALYUBOS_DONE, "resize");
     must(kalyubos_interrupts(board, 0, &block, &console) == KALYUBOS_DONE, "interrupts");
     must(kalyubos_disturbed(board, 0, &disturbed) == KALYUBOS_DONE && !disturbed, "disturbed");
 }

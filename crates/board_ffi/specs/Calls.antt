@@ -7,9 +7,10 @@ use Rattle.mmio_window.specs.declared.device_kind.DeviceKind.{DeviceKind}
 use Rattle.mmio_window.specs.declared.device_kind.DeviceKind.TheVariants.{Block, Console}
 use Rattle.board.specs.declared.event.EventKind.{EventKind}
 use Rattle.board.specs.declared.reply.Reply.{Reply}
-use Rattle.board.specs.Slot.{interrupt_words}
+use Rattle.board.specs.Slot.{BoardSlot, interrupt_words}
 use Rattle.embed.specs.Course.{IsTaken}
 use Rattle.embed.specs.Session.{SessionState, IsStep, output_of}
+use Rattle.board_ffi.specs.declared.pending.Pending.{Pending}
 use Rattle.board_ffi.specs.Codes.{is_reply, reply_of}
 use Rattle.board_ffi.specs.Handle.{Held}
 
@@ -35,6 +36,25 @@ pub record MovesOutput (slot : ℕ) (into_old into_new : List ℕ) (taken : ℕ)
   pub count : taken ≡ min (length (output_of slot old)) (length into_old)
   pub moved : into_new ≡ take taken (output_of slot old) ++ drop taken into_old
   pub left : IsTaken old slot (length into_old) (take taken (output_of slot old)) new
+
+-- what waits for a slot of a session: both interrupt words, and how many bytes of its console's output
+abbrev pub pending_of : ℕ → BoardSlot → SessionState → Pending
+pending_of slot found session = record {
+  block = (interrupt_words found).0;
+  console = (interrupt_words found).1;
+  output = length (output_of slot session);
+}
+
+-- What waits for a slot is told of the board as the call leaves it; of a slot or a board that isn't there nothing is.
+abbrev pub Tells : ℕ → Held → Pending → Pending → Type 0
+Tells slot board before after =
+    MatchOption board (after ≡ before)
+    (λ session. MatchOption (slice_get session.slots slot) (after ≡ before) (λ found. after ≡ pending_of slot found session))
+
+-- there is such a slot, its memory has so many bytes, and nothing changes
+pub record HasMemory (slot len : ℕ) (old new : SessionState) : Type 0 where
+  pub there : IsSomeAnd (slice_get old.slots slot) (λ found. len ≡ length found.memory.bytes)
+  pub kept : new ≡ old
 
 -- there is no such slot, and nothing changes
 pub record IsMissing (slot code : ℕ) (old new : SessionState) : Type 0 where

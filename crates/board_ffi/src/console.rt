@@ -3,13 +3,14 @@
 ghost use Rattle.std.specs.Prelude.{◌≡◌, ◌≢◌, ◌⊎◌};
 ghost use Rattle.board.specs.declared.event.EventKind.{EventKind};
 ghost use Rattle.board.specs.declared.reply.Reply.{Reply};
-ghost use Rattle.board_ffi.specs.Calls.{Calls, IsMissing, MovesOutput, Takes};
+ghost use Rattle.board_ffi.specs.Calls.{Calls, IsMissing, MovesOutput, Takes, Tells};
 
 use crate::codes::{BAD_SLOT, DONE, NO_BOARD, of_refusal};
 use crate::handle::Handle;
+use crate::pending::Pending;
 use std::alloc::Global;
 
-/// Types bytes to a guest's console, and tells how many were taken: the first ones.
+/// Types bytes to a guest's console, and tells how many were taken, the first ones, and what then waits.
 #[unsafe(no_mangle)]
 pub extern "C" fn kalyubos_input(
     alloc: Global,
@@ -17,16 +18,19 @@ pub extern "C" fn kalyubos_input(
     slot: u8,
     bytes: &[u8],
     took: &mut usize,
+    pending: &mut Pending,
 ) -> u32
     ensures step { Calls board.old.session board.new.session result
         (Takes slot (EventKind.Input bytes.now) result (Reply.Took took.new)) }
     ensures refused { (result ≡ 0) ⊎ (result ≡ 1) ⊎ (result ≡ 3) }
     ensures kept { result ≢ 0 → took.new ≡ took.old }
+    ensures pending { Tells slot board.new.session pending.old pending.new }
 {
     let Some(mut session) = board.take(alloc) else {
         return NO_BOARD;
     };
     let answer = session.input(slot, bytes);
+    pending.tell(&session, slot);
     board.put(session);
     match answer {
         Ok(taken) => {
@@ -37,7 +41,7 @@ pub extern "C" fn kalyubos_input(
     }
 }
 
-/// Gives a guest's console another size, of which its driver is told.
+/// Gives a guest's console another size, of which its driver is told, and tells what then waits.
 #[unsafe(no_mangle)]
 pub extern "C" fn kalyubos_resize(
     alloc: Global,
@@ -45,14 +49,17 @@ pub extern "C" fn kalyubos_resize(
     slot: u8,
     cols: u16,
     rows: u16,
+    pending: &mut Pending,
 ) -> u32
     ensures step { Calls board.old.session board.new.session result
         (Takes slot (EventKind.Resize cols rows) result Reply.Done) }
+    ensures pending { Tells slot board.new.session pending.old pending.new }
 {
     let Some(mut session) = board.take(alloc) else {
         return NO_BOARD;
     };
     let answer = session.resize(slot, cols, rows);
+    pending.tell(&session, slot);
     board.put(session);
     match answer {
         Ok(()) => DONE,

@@ -1,8 +1,8 @@
 //! The board for C: a static library, whose header is `kalyubos.h`.
 //!
 //! Each export takes a handle, does what the session behind it does, and answers a number. `handle` is what
-//! C holds, `codes` the numbers. `create` makes a board and destroys it; `registers`, `memory`, `console` and
-//! `image` have the calls on one.
+//! C holds, `codes` the numbers, `pending` what waits once a call is answered. `create` makes a board and destroys it;
+//! `registers`, `memory`, `console` and `image` have the calls on one. `version` is the header's number.
 #![tactic(auto)]
 
 mod codes;
@@ -11,6 +11,8 @@ mod create;
 mod handle;
 mod image;
 mod memory;
+mod pending;
 mod registers;
 #[cfg(test)]
 mod tests;
+mod version;

@@ -1,13 +1,16 @@
 //! A guest's memory between its accesses. Nothing here takes memory.
 
-ghost use Rattle.std.specs.Prelude.{◌≡◌, ◌≢◌, length};
+ghost use Rattle.std.specs.Prelude.{◌≡◌, ◌≢◌, ◌≤◌, length, IsSomeAnd};
+ghost use Rattle.std.specs.List.{slice_get};
 ghost use Rattle.board.specs.declared.event.EventKind.{EventKind};
 ghost use Rattle.board.specs.declared.reply.Reply.{Reply};
-ghost use Rattle.board_ffi.specs.Calls.{Calls, Takes};
+ghost use Rattle.board_ffi.specs.Calls.{Calls, HasMemory, IsMissing, Takes};
 
-use crate::codes::{DONE, NO_BOARD, of_refusal};
+use crate::codes::{BAD_SLOT, DONE, NO_BOARD, of_refusal};
 use crate::handle::Handle;
+use embed::Session;
 use std::alloc::Global;
+use std::ptr::NonNull;
 
 /// Copies bytes out of a guest's memory, from address `addr` on.
 #[unsafe(no_mangle)]
@@ -54,4 +57,45 @@ pub extern "C" fn kalyubos_write_memory(
         Ok(()) => DONE,
         Err(why) => of_refusal(why),
     }
+}
+
+/// Lends a guest's memory in place: where its first byte lies, and how many bytes there are.
+#[unsafe(no_mangle)]
+pub extern "C" fn kalyubos_memory(
+    alloc: Global,
+    board: &mut Handle,
+    slot: u8,
+    bytes: &mut *mut u8,
+    len: &mut usize,
+) -> u32
+    ensures lent { result ≡ 0 → Calls board.old.session board.new.session result
+        (HasMemory slot len.new) }
+    ensures missing { result ≢ 0 → Calls board.old.session board.new.session result
+        (IsMissing slot result) }
+    ensures kept { result ≢ 0 → (bytes.new ≡ bytes.old) × (len.new ≡ len.old) }
+{
+    let Some(session) = board.take(alloc) else {
+        return NO_BOARD;
+    };
+    let answer = lend(&session, slot, bytes, len);
+    board.put(session);
+    answer
+}
+
+// Where the slot's memory lies.
+fn lend(session: &Session, slot: u8, bytes: &mut *mut u8, len: &mut usize) -> u32
+    ensures lent { result ≡ 0 → IsSomeAnd (slice_get session.now.slots slot)
+        (λ found. len.new ≡ length found.memory.bytes) }
+    ensures missing { result ≢ 0 → (result ≡ 3) × (length session.now.slots ≤ slot) }
+    ensures kept { result ≢ 0 → (bytes.new ≡ bytes.old) × (len.new ≡ len.old) }
+{
+    let Some(memory) = session.memory(slot) else {
+        return BAD_SLOT;
+    };
+    let lent = memory.slice(memory.base(), memory.len());
+    if let Some(first) = lent.first() {
+        *bytes = NonNull::from_ref(first).as_ptr();
+    }
+    *len = lent.len();
+    DONE
 }

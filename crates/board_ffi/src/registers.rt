@@ -3,10 +3,11 @@
 ghost use Rattle.std.specs.Prelude.{◌≡◌, ◌≢◌, MatchOption};
 ghost use Rattle.board.specs.declared.event.EventKind.{EventKind};
 ghost use Rattle.board.specs.declared.reply.Reply.{Reply};
-ghost use Rattle.board_ffi.specs.Calls.{Calls, HasWords, IsMissing, IsUndisturbed, Takes, window_of};
+ghost use Rattle.board_ffi.specs.Calls.{Calls, HasWords, IsMissing, IsUndisturbed, Takes, Tells, window_of};
 
 use crate::codes::{BAD_SLOT, BAD_WINDOW, DONE, NO_BOARD, of_refusal};
 use crate::handle::Handle;
+use crate::pending::Pending;
 use embed::DeviceKind;
 use std::alloc::Global;
 
@@ -44,7 +45,7 @@ pub extern "C" fn kalyubos_read(
     }
 }
 
-/// A guest's write of a register. What it notifies is served to its end.
+/// A guest's write of a register. What it notifies is served to its end, and what then waits is told.
 #[unsafe(no_mangle)]
 pub extern "C" fn kalyubos_write(
     alloc: Global,
@@ -54,11 +55,14 @@ pub extern "C" fn kalyubos_write(
     offset: u16,
     width: u8,
     value: u32,
+    pending: &mut Pending,
 ) -> u32
     ensures step { MatchOption (window_of window)
         ((result ≡ 6) × (board.new ≡ board.old))
         (λ kind. Calls board.old.session board.new.session result
         (Takes slot (EventKind.Write kind offset width value) result Reply.Done)) }
+    ensures pending { MatchOption (window_of window) (pending.new ≡ pending.old)
+        (λ _. Tells slot board.new.session pending.old pending.new) }
 {
     let Some(window) = window_numbered(window) else {
         return BAD_WINDOW;
@@ -67,6 +71,7 @@ pub extern "C" fn kalyubos_write(
         return NO_BOARD;
     };
     let answer = session.write(slot, window, offset, width, value);
+    pending.tell(&session, slot);
     board.put(session);
     match answer {
         Ok(()) => DONE,

@@ -4,8 +4,10 @@ use crate::console::{kalyubos_input, kalyubos_resize, kalyubos_take_output};
 use crate::create::{Slot, kalyubos_create, kalyubos_destroy};
 use crate::handle::Handle;
 use crate::image::{kalyubos_image_len, kalyubos_read_image};
-use crate::memory::{kalyubos_read_memory, kalyubos_write_memory};
+use crate::memory::{kalyubos_memory, kalyubos_read_memory, kalyubos_write_memory};
+use crate::pending::Pending;
 use crate::registers::{kalyubos_disturbed, kalyubos_interrupts, kalyubos_read, kalyubos_write};
+use crate::version::kalyubos_version;
 use std::alloc::Global;
 use std::process::Abort;
 use std::test::*;
@@ -24,6 +26,22 @@ const SLOT: Slot = Slot {
 
 /// A disk of two sectors.
 const IMAGE: [u8; 1024] = [7; 1024];
+
+/// What a call is handed to tell of, and what stands there after one that tells nothing.
+const UNTOLD: Pending = Pending {
+    block: 9,
+    console: 9,
+    output: 9,
+};
+
+/// What waits where neither line is raised.
+fn waits(output: u64) -> Pending {
+    Pending {
+        block: 0,
+        console: 0,
+        output,
+    }
+}
 
 /// The two are equal.
 fn same<T: PartialEq + Drop>(rt: &impl Abort, got: T, want: T) {
@@ -109,8 +127,18 @@ fn a_full_handle_is_kept_and_an_empty_one_has_no_board(rt: HostRuntime) -> Resul
     );
     same(&rt, kalyubos_destroy(alloc, &mut board), 0);
     same(&rt, kalyubos_destroy(alloc, &mut board), 1);
-    same(&rt, kalyubos_write(alloc, &mut board, 0, 0, 0, 4, 0), 1);
-    same(&rt, kalyubos_resize(alloc, &mut board, 0, 1, 1), 1);
+    let mut pending = UNTOLD;
+    same(
+        &rt,
+        kalyubos_write(alloc, &mut board, 0, 0, 0, 4, 0, &mut pending),
+        1,
+    );
+    same(
+        &rt,
+        kalyubos_resize(alloc, &mut board, 0, 1, 1, &mut pending),
+        1,
+    );
+    same(&rt, pending, UNTOLD);
     same(&rt, kalyubos_write_memory(alloc, &mut board, 0, 0, &[]), 1);
     same(
         &rt,
@@ -126,7 +154,7 @@ fn an_empty_handle_tells_nothing(rt: HostRuntime) -> Result<(), Fail> {
     let alloc = rt.alloc();
     let mut board = Handle::empty(alloc);
     let (mut value, mut count, mut told) = (9, 9, true);
-    let (mut block, mut console) = (9, 9);
+    let (mut block, mut console, mut pending) = (9, 9, UNTOLD);
     same(
         &rt,
         kalyubos_read(alloc, &mut board, 0, 0, 0, 4, &mut value),
@@ -134,9 +162,10 @@ fn an_empty_handle_tells_nothing(rt: HostRuntime) -> Result<(), Fail> {
     );
     same(
         &rt,
-        kalyubos_input(alloc, &mut board, 0, b"a", &mut count),
+        kalyubos_input(alloc, &mut board, 0, b"a", &mut count, &mut pending),
         1,
     );
+    same(&rt, pending, UNTOLD);
     same(
         &rt,
         kalyubos_take_output(alloc, &mut board, 0, &mut [], &mut count),
@@ -186,27 +215,27 @@ fn what_a_console_puts_out_is_taken(rt: HostRuntime) -> Result<(), Fail> {
     let alloc = rt.alloc();
     let mut board = one_guest(&rt, alloc);
     let (mut out, mut taken) = ([0; 1], 9);
-    // emergency writes of "h" and "i"
-    same(
-        &rt,
-        kalyubos_write(alloc, &mut board, 0, 1, 0x108, 4, 0x68),
-        0,
-    );
-    same(
-        &rt,
-        kalyubos_write(alloc, &mut board, 0, 1, 0x108, 4, 0x69),
-        0,
-    );
-    same(
-        &rt,
-        kalyubos_write(alloc, &mut board, 1, 1, 0x108, 4, 0x69),
-        3,
-    );
-    same(
-        &rt,
-        kalyubos_write(alloc, &mut board, 0, 2, 0x108, 4, 0x69),
-        6,
-    );
+    // slot, window and byte of emergency writes, their answers, and what they tell to wait
+    for (slot, window, byte, want, told) in &[
+        (0, 1, b'h', 0, waits(1)),
+        (0, 1, b'i', 0, waits(2)),
+        (0, 1, b'j', 15, waits(2)),
+        (1, 1, b'i', 3, UNTOLD),
+        (0, 2, b'i', 6, UNTOLD),
+    ] {
+        let mut pending = UNTOLD;
+        let got = kalyubos_write(
+            alloc,
+            &mut board,
+            *slot,
+            *window,
+            0x108,
+            4,
+            *byte as u32,
+            &mut pending,
+        );
+        same(&rt, (got, pending), (*want, *told));
+    }
     for want in [b'h', b'i'] {
         same(
             &rt,
@@ -241,7 +270,8 @@ const TWO: [Slot; 2] = [
 
 /// An emergency write of this byte.
 fn say(alloc: Global, board: &mut Handle, slot: u8, byte: u8) -> u32 {
-    kalyubos_write(alloc, board, slot, 1, 0x108, 4, byte as u32)
+    let mut pending = UNTOLD;
+    kalyubos_write(alloc, board, slot, 1, 0x108, 4, byte as u32, &mut pending)
 }
 
 #[test]
@@ -278,26 +308,37 @@ fn a_console_is_typed_to_and_resized(rt: HostRuntime) -> Result<(), Fail> {
     let alloc = rt.alloc();
     let mut board = one_guest(&rt, alloc);
     let (mut took, mut size) = (9, 0);
-    let (mut block, mut console, mut told) = (9, 9, true);
+    let (mut block, mut console, mut told, mut pending) = (9, 9, true, UNTOLD);
     same(
         &rt,
-        kalyubos_input(alloc, &mut board, 0, b"ls\n", &mut took),
+        kalyubos_input(alloc, &mut board, 0, b"ls\n", &mut took, &mut pending),
         0,
     );
-    same(&rt, took, 3);
+    same(&rt, (took, pending), (3, waits(0)));
     same(
         &rt,
-        kalyubos_input(alloc, &mut board, 0, &[0x61; 4096], &mut took),
+        kalyubos_input(alloc, &mut board, 0, &[0x61; 4096], &mut took, &mut pending),
         0,
     );
     same(&rt, took, 4093);
     same(
         &rt,
-        kalyubos_input(alloc, &mut board, 1, b"ls\n", &mut took),
+        kalyubos_input(alloc, &mut board, 1, b"ls\n", &mut took, &mut pending),
         3,
     );
-    same(&rt, kalyubos_resize(alloc, &mut board, 0, 0x84, 0x2b), 0);
-    same(&rt, kalyubos_resize(alloc, &mut board, 1, 0x84, 0x2b), 3);
+    pending = UNTOLD;
+    same(
+        &rt,
+        kalyubos_resize(alloc, &mut board, 1, 0x84, 0x2b, &mut pending),
+        3,
+    );
+    same(&rt, pending, UNTOLD);
+    same(
+        &rt,
+        kalyubos_resize(alloc, &mut board, 0, 0x84, 0x2b, &mut pending),
+        0,
+    );
+    same(&rt, pending, waits(0));
     same(
         &rt,
         kalyubos_read(alloc, &mut board, 0, 1, 0x100, 4, &mut size),
@@ -385,5 +426,65 @@ fn the_image_is_copied(rt: HostRuntime) -> Result<(), Fail> {
         0,
     );
     same(&rt, bytes, [7; 4]);
+    Ok(())
+}
+
+/// A driver's first words to its console, which then knows that it is there: the offset and the value of each write.
+const DRIVER: [(u16, u32); 6] = [
+    (0x70, 0),
+    (0x70, 1),
+    (0x70, 3),
+    (0x24, 1),
+    (0x20, 1),
+    (0x70, 11),
+];
+
+#[test]
+fn a_write_tells_both_words(rt: HostRuntime) -> Result<(), Fail> {
+    let alloc = rt.alloc();
+    let mut board = one_guest(&rt, alloc);
+    let mut pending = UNTOLD;
+    for (offset, value) in &DRIVER {
+        kalyubos_write(alloc, &mut board, 0, 1, *offset, 4, *value, &mut pending);
+    }
+    kalyubos_write(alloc, &mut board, 0, 1, 0x70, 4, 15, &mut pending);
+    same(&rt, pending, waits(0));
+    // a driver that is there is told of a new size: bit 1 (4.2.2)
+    kalyubos_resize(alloc, &mut board, 0, 100, 30, &mut pending);
+    same(&rt, (pending.block, pending.console), (0, 2));
+    kalyubos_write(alloc, &mut board, 0, 1, 0x64, 4, 2, &mut pending);
+    same(&rt, pending, waits(0));
+    Ok(())
+}
+
+#[test]
+fn a_memory_is_lent(rt: HostRuntime) -> Result<(), Fail> {
+    let alloc = rt.alloc();
+    let mut board = one_guest(&rt, alloc);
+    let (mut bytes, mut len) = (std::ptr::null_mut(), 9);
+    same(
+        &rt,
+        kalyubos_memory(alloc, &mut board, 1, &mut bytes, &mut len),
+        3,
+    );
+    same(&rt, len, 9);
+    same(
+        &rt,
+        kalyubos_memory(alloc, &mut board, 0, &mut bytes, &mut len),
+        0,
+    );
+    same(&rt, len, 0x1_0000);
+    same(&rt, kalyubos_destroy(alloc, &mut board), 0);
+    same(
+        &rt,
+        kalyubos_memory(alloc, &mut board, 0, &mut bytes, &mut len),
+        1,
+    );
+    Ok(())
+}
+
+#[test]
+fn the_version_is_the_headers(rt: HostRuntime) -> Result<(), Fail> {
+    same(&rt, kalyubos_version(), 100);
     Ok(())
 }

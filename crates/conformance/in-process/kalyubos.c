@@ -13,6 +13,8 @@ static struct kalyubos board;
 static uint8_t *image;
 static size_t image_len;
 
+enum { OUTLET = 1 << 20 /* more than a guest of the scenarios puts out by one event */ };
+
 /* Ends the program where a call doesn't answer what it must. */
 static void must(uint32_t answer)
 {
@@ -42,8 +44,10 @@ static const char *make(const struct setup *setup)
     struct kalyubos_slot slots[17] = {0};
     for (size_t i = 0; i < setup->guests_len && i < 17; i++) {
         const struct guest *guest = &setup->guests[i];
-        slots[i] = (struct kalyubos_slot){guest->base, guest->len, guest->start, guest->count,
-                                          guest->cols, guest->rows, guest->read_only};
+        slots[i] = (struct kalyubos_slot){
+            .base = guest->base, .len = guest->len, .start = guest->start, .count = guest->count,
+            .cols = guest->cols, .rows = guest->rows, .outlet = OUTLET, .read_only = guest->read_only,
+        };
     }
     image = setup->image;
     image_len = setup->image_len;
@@ -76,7 +80,8 @@ static uint32_t read(unsigned guest, unsigned window, unsigned offset, unsigned 
 
 static void write(unsigned guest, unsigned window, unsigned offset, unsigned width, uint32_t value)
 {
-    must(kalyubos_write(&board, (uint8_t)guest, (uint8_t)window, (uint16_t)offset, (uint8_t)width, value));
+    struct kalyubos_pending pending;
+    must(kalyubos_write(&board, (uint8_t)guest, (uint8_t)window, (uint16_t)offset, (uint8_t)width, value, &pending));
     take_output(guest);
 }
 
@@ -92,14 +97,16 @@ static size_t input(unsigned guest, const uint8_t *bytes, size_t len)
 {
     static const uint8_t none[1];
     size_t took = 0;
-    must(kalyubos_input(&board, (uint8_t)guest, bytes ? bytes : none, len, &took));
+    struct kalyubos_pending pending;
+    must(kalyubos_input(&board, (uint8_t)guest, bytes ? bytes : none, len, &took, &pending));
     take_output(guest);
     return took;
 }
 
 static void resize(unsigned guest, uint16_t cols, uint16_t rows)
 {
-    must(kalyubos_resize(&board, (uint8_t)guest, cols, rows));
+    struct kalyubos_pending pending;
+    must(kalyubos_resize(&board, (uint8_t)guest, cols, rows, &pending));
 }
 
 #ifdef OURS

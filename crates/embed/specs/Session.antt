@@ -1,6 +1,7 @@
 -- A session, as its embedder sees it, and what one event does to it.
-use Rattle.std.specs.Prelude.{⊤, ◌≡◌, ◌≢◌, ◌↔◌, ℕ, ◌≤◌, Bool, false, List, [], length, map, Some, unwrap_or, IsSomeAnd}
+use Rattle.std.specs.Prelude.{⊤, ◌≡◌, ◌≢◌, ◌↔◌, ℕ, ◌≤◌, Bool, false, List, [], length, map, Some, slice_set, unwrap_or, IsSomeAnd}
 use Rattle.std.specs.List.{slice_get}
+use Rattle.guest_memory.specs.Memory.{Memory}
 use Rattle.sector_cache.specs.Disk.{Disk, new_disk}
 use Rattle.board.specs.declared.event.Event.{Event}
 use Rattle.board.specs.declared.event.EventKind.{EventKind}
@@ -92,6 +93,12 @@ new_session guests image = record {
   image = image;
   mark = false;
   outputs = map (λ guest. none_waiting guest.outlet) guests;
+}
+
+-- a session in which a slot, which was this one, has another memory, and nothing else is other
+abbrev pub with_memory : ℕ → BoardSlot → Memory → SessionState → SessionState
+with_memory slot found memory session = record session {
+  slots = slice_set session.slots slot (record found { memory = memory });
 }
 
 -- an event that is no read of memory

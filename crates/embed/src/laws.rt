@@ -2,14 +2,17 @@
 
 ghost use Rattle.std.specs.Prelude.{◌≡◌, ◌/◌, ℕ, List, [], ◌∷◌, length, Some};
 ghost use Rattle.std.specs.List.{slice_get};
+ghost use Rattle.guest_memory.specs.Memory.{Inside, put};
+ghost use Rattle.board.specs.declared.event.EventKind.{EventKind};
+ghost use Rattle.board.specs.declared.reply.Reply.{Reply};
 ghost use Rattle.board.specs.Fault.{IsAccepted};
-ghost use Rattle.board.specs.Slot.{SlotState};
+ghost use Rattle.board.specs.Slot.{BoardSlot, SlotState};
 ghost use Rattle.board.specs.Within.{Seat};
 ghost use Rattle.embed.specs.declared.guest.GuestSpec.{GuestSpec};
 ghost use Rattle.embed.specs.Alone.{Answer, Call, IsSeatCourse, IsSeatedAlone, SeeAlike, at_front, new_session_alone, own_calls, part_of_image};
 ghost use Rattle.embed.specs.Course.{Deed, HadRoom, IsCourse, RunsAlone};
 ghost use Rattle.embed.specs.Refusing.{AreOutlets};
-ghost use Rattle.embed.specs.Session.{SessionState, limit_of, new_session, output_of, slots_of, world_of};
+ghost use Rattle.embed.specs.Session.{IsStep, SessionState, limit_of, new_session, output_of, slots_of, with_memory, world_of};
 
 use std::alloc::Allocator;
 
@@ -54,4 +57,19 @@ pub fn a_guest_with_room_runs_alone<A: Allocator>()
     ensures { (g : ℕ) (old new : SessionState) (deeds : List (Deed A)) (state : SlotState) →
         IsCourse old deeds new → HadRoom g deeds → slice_get (world_of old).slots g ≡ Some state →
         RunsAlone g state old deeds new }
+{}
+
+/// Bytes that were put into a guest's memory in place, between two calls, are the event of their write: so what
+/// holds of each guest over courses of events holds of a guest whose CPUs store into memory that is lent to them.
+pub fn a_write_in_place_is_an_event<A: Allocator>()
+    ensures range { (old : SessionState) (slot addr : ℕ) (found : BoardSlot) (bytes : List ℕ) →
+        slice_get old.slots slot ≡ Some found → Inside found.memory addr (length bytes) →
+        IsStep {A = A} old (record { slot = slot; what = EventKind.MemWrite addr bytes }) Reply.Done
+        (with_memory slot found (put found.memory addr bytes) old) }
+
+    // and whatever all of them came to is one write
+    ensures whole { (old : SessionState) (slot : ℕ) (found : BoardSlot) (bytes : List ℕ) →
+        slice_get old.slots slot ≡ Some found → length bytes ≡ length found.memory.bytes →
+        IsStep {A = A} old (record { slot = slot; what = EventKind.MemWrite found.memory.base bytes }) Reply.Done
+        (with_memory slot found (record found.memory { bytes = bytes }) old) }
 {}

@@ -16,7 +16,10 @@ mod session;
 pub use board::{BoardFault, CacheFault, DeviceKind, Extent, GuestMemory, MemoryFault, SlotSpec};
 pub use fault::SessionFault;
 pub use guest::GuestSpec;
-pub use laws::{a_guest_with_room_runs_alone, each_guest_is_alone, the_outlet_decides};
+pub use laws::{
+    a_guest_with_room_runs_alone, a_write_in_place_is_an_event, each_guest_is_alone,
+    the_outlet_decides,
+};
 pub use refusal::Refusal;
 pub use session::Session;
 

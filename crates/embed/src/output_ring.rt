@@ -45,6 +45,13 @@ impl<A: Allocator> OutputRing<A> {
         self.ring.as_slices()
     }
 
+    /// How many bytes wait.
+    pub(crate) fn len(&self) -> usize
+        ensures { result ≡ length self.now.bytes }
+    {
+        self.ring.len()
+    }
+
     /// Moves the first bytes out, as many as find room, and answers how many they are.
     pub(crate) fn take(&mut self, into: &mut [u8]) -> usize
         ensures count { result ≡ min (length self.old.bytes) (length into.old) }

@@ -163,7 +163,7 @@ fn each_output_waits_for_itself(rt: HostRuntime) -> Result<(), Fail> {
             .output(0)
             .is_some_and(|parts| parts.0 == b"abc".as_slice() && parts.1.is_empty())
     );
-    assert!(rt; session.take_output(0, &mut []) == Some(0));
+    assert!(rt; session.take_output(0, &mut []) == Some(0) && session.output_len(0) == Some(3));
     assert!(rt; session.take_output(0, &mut two) == Some(2) && two == *b"ab");
     assert!(rt;
         session

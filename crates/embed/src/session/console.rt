@@ -52,6 +52,15 @@ impl<A: Allocator> Session<A> {
         Some(output.waiting())
     }
 
+    /// How many bytes of what the slot's console put out wait to be taken.
+    pub fn output_len(&self, slot: u8) -> Option<usize>
+        ensures there { IsSome result ↔ (slot < length self.now.slots) }
+        ensures value { IfSome result (λ count. count ≡ length (output_of slot self.now)) }
+    {
+        let output = self.outputs.get(slot as usize)?;
+        Some(output.len())
+    }
+
     /// Moves the first bytes of what the slot's console put out into `into`, as many as find room, and
     /// answers how many they are. The others stay.
     pub fn take_output(&mut self, slot: u8, into: &mut [u8]) -> Option<usize>

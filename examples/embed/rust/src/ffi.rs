@@ -16,6 +16,18 @@ impl Handle {
     }
 }
 
+/// What waits once a call is answered.
+#[derive(Clone, Copy, Debug, Default, PartialEq, Eq)]
+#[repr(C)]
+pub struct Pending {
+    /// The word of the block window: its line is high while this isn't 0.
+    pub block: u32,
+    /// The word of the console window.
+    pub console: u32,
+    /// How many bytes of the console's output wait to be taken.
+    pub output: u64,
+}
+
 /// One guest.
 #[derive(Clone, Copy, Debug)]
 #[repr(C)]
@@ -55,6 +67,7 @@ unsafe extern "C" {
         offset: u16,
         width: u8,
         value: u32,
+        pending: *mut Pending,
     ) -> u32;
     pub fn kalyubos_read_memory(
         board: *mut Handle,
@@ -76,8 +89,15 @@ unsafe extern "C" {
         bytes: *const u8,
         bytes_len: usize,
         took: *mut usize,
+        pending: *mut Pending,
     ) -> u32;
-    pub fn kalyubos_resize(board: *mut Handle, slot: u8, cols: u16, rows: u16) -> u32;
+    pub fn kalyubos_resize(
+        board: *mut Handle,
+        slot: u8,
+        cols: u16,
+        rows: u16,
+        pending: *mut Pending,
+    ) -> u32;
     pub fn kalyubos_take_output(
         board: *mut Handle,
         slot: u8,

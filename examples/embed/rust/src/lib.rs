@@ -3,7 +3,7 @@
 
 mod ffi;
 
-pub use ffi::Slot;
+pub use ffi::{Pending, Slot};
 
 /// A guest's two windows.
 #[derive(Clone, Copy, Debug, PartialEq, Eq)]
@@ -79,6 +79,8 @@ impl Board {
         Ok(value)
     }
 
+    /// What waits of the slot once what the write notifies is served. `Refusal::NoRoom`: take the output, and make
+    /// the same write again.
     pub fn write(
         &mut self,
         slot: u8,
@@ -86,10 +88,20 @@ impl Board {
         offset: u16,
         width: u8,
         value: u32,
-    ) -> Result<(), Refusal> {
+    ) -> Result<Pending, Refusal> {
+        let mut pending = Pending::default();
         answer(unsafe {
-            ffi::kalyubos_write(&mut self.0, slot, window as u8, offset, width, value)
-        })
+            ffi::kalyubos_write(
+                &mut self.0,
+                slot,
+                window as u8,
+                offset,
+                width,
+                value,
+                &mut pending,
+            )
+        })?;
+        Ok(pending)
     }
 
     pub fn read_memory(&mut self, slot: u8, addr: u64, into: &mut [u8]) -> Result<(), Refusal> {
@@ -104,16 +116,26 @@ impl Board {
         })
     }
 
-    pub fn input(&mut self, slot: u8, bytes: &[u8]) -> Result<usize, Refusal> {
-        let mut took = 0;
+    /// How many bytes the console took, and what waits then.
+    pub fn input(&mut self, slot: u8, bytes: &[u8]) -> Result<(usize, Pending), Refusal> {
+        let (mut took, mut pending) = (0, Pending::default());
         answer(unsafe {
-            ffi::kalyubos_input(&mut self.0, slot, bytes.as_ptr(), bytes.len(), &mut took)
+            ffi::kalyubos_input(
+                &mut self.0,
+                slot,
+                bytes.as_ptr(),
+                bytes.len(),
+                &mut took,
+                &mut pending,
+            )
         })?;
-        Ok(took)
+        Ok((took, pending))
     }
 
-    pub fn resize(&mut self, slot: u8, cols: u16, rows: u16) -> Result<(), Refusal> {
-        answer(unsafe { ffi::kalyubos_resize(&mut self.0, slot, cols, rows) })
+    pub fn resize(&mut self, slot: u8, cols: u16, rows: u16) -> Result<Pending, Refusal> {
+        let mut pending = Pending::default();
+        answer(unsafe { ffi::kalyubos_resize(&mut self.0, slot, cols, rows, &mut pending) })?;
+        Ok(pending)
     }
 
     pub fn take_output(&mut self, slot: u8, into: &mut [u8]) -> Result<usize, Refusal> {

@@ -39,7 +39,8 @@ impl Driver<'_> {
     }
 
     fn set(&mut self, offset: u16, value: u32) -> Result<(), Refusal> {
-        self.board.write(0, self.window, offset, 4, value)
+        self.board.write(0, self.window, offset, 4, value)?;
+        Ok(())
     }
 
     fn store(&mut self, addr: u64, from: &[u8]) -> Result<(), Refusal> {

@@ -1,0 +1,141 @@
+/*
+ * Memory in place: what a guest's CPUs store there the device reads, and what the device writes they load, at both ends
+ * of the memory, while another guest's stays as it was. And what a write tells to wait.
+ */
+#include <stdio.h>
+#include <stdlib.h>
+#include <string.h>
+
+#include "kalyubos.h"
+
+enum { PAGE = 4096, MEMORY_LEN = 2 * PAGE, GUESTS = 2, SECTORS = 2, SECTOR_LEN = 512 };
+static const uint64_t MEMORY = 0x80000000;
+
+/* Where the driver's areas lie: the request's header at the first byte, its data at the last one. */
+enum { HEADER = 0, STATUS = 16, TABLE = 0x100, AVAIL = 0x200, USED = 0x300, DATA = MEMORY_LEN - SECTOR_LEN };
+enum { IN = 0, OUT = 1, NEXT = 1, WRITE = 2, CHAINS = 4 };
+
+static struct kalyubos board;
+static uint8_t *memory[GUESTS];
+static uint16_t offered;
+
+static void need(bool holds, const char *what)
+{
+    if (!holds) {
+        fprintf(stderr, "memory: %s\n", what);
+        exit(1);
+    }
+}
+
+static struct kalyubos_pending set(uint8_t slot, uint8_t window, uint16_t offset, uint32_t value)
+{
+    struct kalyubos_pending pending;
+    need(kalyubos_write(&board, slot, window, offset, 4, value, &pending) == KALYUBOS_DONE, "write");
+    return pending;
+}
+
+static void bring_up(uint8_t slot)
+{
+    const uint32_t at = (uint32_t)MEMORY;
+    const uint32_t steps[][2] = { { 0x70, 0 }, { 0x70, 1 }, { 0x70, 3 }, { 0x24, 1 }, { 0x20, 1 }, { 0x70, 11 },
+                                  { 0x38, CHAINS }, { 0x80, at + TABLE }, { 0x90, at + AVAIL }, { 0xa0, at + USED },
+                                  { 0x44, 1 }, { 0x70, 15 } };
+    for (size_t i = 0; i < sizeof steps / sizeof *steps; i++)
+        set(slot, KALYUBOS_BLOCK, (uint16_t)steps[i][0], steps[i][1]);
+}
+
+/* A request of one sector, which the guest's CPUs put into its memory. This host is little-endian, as the rings are. */
+static struct kalyubos_pending request(uint8_t slot, uint32_t type, uint64_t sector)
+{
+    struct { uint32_t type, reserved; uint64_t sector; } header = { type, 0, sector };
+    struct { uint64_t addr; uint32_t len; uint16_t flags, next; } table[3] = {
+        { MEMORY + HEADER, sizeof header, NEXT, 1 },
+        { MEMORY + DATA, SECTOR_LEN, NEXT | (type == IN ? WRITE : 0), 2 },
+        { MEMORY + STATUS, 1, WRITE, 0 },
+    };
+    offered++;
+    memcpy(memory[slot] + HEADER, &header, sizeof header);
+    memcpy(memory[slot] + TABLE, table, sizeof table);
+    memcpy(memory[slot] + AVAIL + 2, &offered, sizeof offered);
+    memory[slot][STATUS] = 0xff;
+    return set(slot, KALYUBOS_BLOCK, 0x50, 0);
+}
+
+/* ---- what is tried */
+
+static void lend(void)
+{
+    uint8_t *none = NULL;
+    size_t len = 7;
+    need(kalyubos_memory(&board, GUESTS, &none, &len) == KALYUBOS_BAD_SLOT, "a slot that there isn't");
+    need(none == NULL && len == 7, "told of a slot that there isn't");
+    for (uint8_t slot = 0; slot < GUESTS; slot++) {
+        need(kalyubos_memory(&board, slot, &memory[slot], &len) == KALYUBOS_DONE, "memory");
+        need(len == MEMORY_LEN, "the length");
+        for (size_t i = 0; i < len; i++)
+            need(memory[slot][i] == 0, "a new memory's bytes");
+        printf("guest %u: %zu bytes, from a page on: %d\n", slot, len, (uintptr_t)memory[slot] % PAGE == 0);
+    }
+}
+
+/* Bytes at both ends, written one way and read the other. */
+static void copy(void)
+{
+    const uint64_t ends[] = { 0, MEMORY_LEN - 1 };
+    for (size_t i = 0; i < 2; i++) {
+        uint8_t seen = 0, mark = (uint8_t)(0x41 + i);
+        memory[0][ends[i]] = mark;
+        need(kalyubos_read_memory(&board, 0, MEMORY + ends[i], &seen, 1) == KALYUBOS_DONE && seen == mark, "a load");
+        need(kalyubos_write_memory(&board, 0, MEMORY + ends[i], &(uint8_t){ 0x7a }, 1) == KALYUBOS_DONE, "a store");
+        need(memory[0][ends[i]] == 0x7a && memory[1][ends[i]] == 0, "a byte in place");
+    }
+    puts("both ends: read and written in place");
+}
+
+/* The device reads what was written in place, and writes what is read there. */
+static void serve(void)
+{
+    bring_up(0);
+    memset(memory[0] + DATA, 0x6b, SECTOR_LEN);
+    struct kalyubos_pending pending = request(0, OUT, 1);
+    printf("OUT: status %u, words %u and %u\n", memory[0][STATUS], (unsigned)pending.block, (unsigned)pending.console);
+    pending = set(0, KALYUBOS_BLOCK, 0x64, 1);
+    printf("acknowledged: words %u and %u\n", (unsigned)pending.block, (unsigned)pending.console);
+    memset(memory[0] + DATA, 0, SECTOR_LEN);
+    pending = request(0, IN, 1);
+    printf("IN: status %u, words %u and %u, first byte %02x, last byte %02x\n", memory[0][STATUS],
+           (unsigned)pending.block, (unsigned)pending.console, memory[0][DATA], memory[0][MEMORY_LEN - 1]);
+    for (size_t i = 0; i < MEMORY_LEN; i++)
+        need(memory[1][i] == 0, "the other guest's memory");
+    puts("the other guest's memory: as it was");
+}
+
+static void speak(void)
+{
+    set(1, KALYUBOS_CONSOLE, 0x108, 'h'); /* an emergency write */
+    struct kalyubos_pending pending = set(1, KALYUBOS_CONSOLE, 0x108, 'i');
+    printf("console: %u bytes wait\n", (unsigned)pending.output);
+}
+
+int main(void)
+{
+    static uint8_t image[GUESTS * SECTORS * SECTOR_LEN];
+    struct kalyubos_slot slots[GUESTS] = {
+        { .base = MEMORY, .len = MEMORY_LEN, .start = 0, .count = SECTORS, .outlet = 8 },
+        { .base = MEMORY, .len = MEMORY_LEN, .start = SECTORS, .count = SECTORS, .outlet = 8 },
+    };
+    need(kalyubos_version() == KALYUBOS_VERSION, "the library is of another version than the header");
+    need(kalyubos_create(&board, slots, GUESTS, image, sizeof image, 4) == KALYUBOS_DONE, "create");
+    lend();
+    copy();
+    serve();
+    speak();
+
+    uint8_t *again = NULL;
+    size_t len = 0;
+    need(kalyubos_memory(&board, 0, &again, &len) == KALYUBOS_DONE && again == memory[0], "the memory moved");
+    need(kalyubos_destroy(&board) == KALYUBOS_DONE, "destroy while lent");
+    need(kalyubos_memory(&board, 0, &again, &len) == KALYUBOS_NO_BOARD, "a memory without a board");
+    puts("destroyed while lent");
+    return 0;
+}
