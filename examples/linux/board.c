@@ -11,6 +11,7 @@ enum { GUESTS = 16, COLUMNS = 80, ROWS = 25 };
 static struct kalyubos board;
 static struct board_settings settings;
 static uint8_t *memories[GUESTS];
+static struct kalyubos_pending waits[GUESTS]; /* after the slot's last call */
 
 static void must(uint32_t answer, const char *what)
 {
@@ -20,36 +21,19 @@ static void must(uint32_t answer, const char *what)
     }
 }
 
-/* ---- the heap, and in it the guests' memories: the blocks of their size, in the order of the slots */
-
-static size_t memories_found;
-
-static void *note(void *at, size_t size)
-{
-    if (size == MEMORY_LEN && memories_found < GUESTS)
-        memories[memories_found++] = at;
-    return at;
-}
-
-struct kalyubos_block rattle_alloc(size_t size, size_t align)
-{
-    void *at = note(malloc(size != 0 ? size : align), size);
-    return (struct kalyubos_block){ at != NULL, at };
-}
-
-struct kalyubos_block rattle_realloc(void *at, size_t kept, size_t size, size_t align)
-{
-    void *moved = note(realloc(at, size != 0 ? size : align), size);
-    (void)kept;
-    return (struct kalyubos_block){ moved != NULL, moved };
-}
-
-void rattle_dealloc(void *at)
-{
-    free(at);
-}
-
 /* ---- opening and closing */
+
+/* The slot's memory in place, or one of our own that calls copy. */
+static uint8_t *memory_of(uint8_t slot)
+{
+    uint8_t *bytes;
+    size_t len;
+    if (!settings.copies)
+        must(kalyubos_memory(&board, slot, &bytes, &len), "memory");
+    else if ((bytes = calloc(MEMORY_LEN, 1)) == NULL)
+        must(KALYUBOS_NO_MEMORY, "memory");
+    return bytes;
+}
 
 void board_open(const struct board_settings *wanted)
 {
@@ -64,8 +48,8 @@ void board_open(const struct board_settings *wanted)
     if (settings.record != NULL && !record_to(settings.record))
         must(KALYUBOS_NO_ROOM, settings.record);
     must(record_create(&board, slots, settings.guests, settings.image, start * 512, settings.cache), "create");
-    for (size_t i = 0; i < settings.guests && settings.copies; i++)
-        memories[i] = calloc(MEMORY_LEN, 1);
+    for (size_t i = 0; i < settings.guests; i++)
+        memories[i] = memory_of(i);
 }
 
 void board_close(void)
@@ -107,7 +91,7 @@ uint32_t board_read(uint8_t slot, uint8_t window, uint16_t offset, uint8_t width
 bool board_write(uint8_t slot, uint8_t window, uint16_t offset, uint8_t width, uint32_t value)
 {
     before(slot);
-    uint32_t answer = record_write(&board, slot, window, offset, width, value);
+    uint32_t answer = record_write(&board, slot, window, offset, width, value, &waits[slot]);
     after(slot);
     if (answer != KALYUBOS_NO_ROOM)
         must(answer, "write");
@@ -118,28 +102,28 @@ size_t board_type(uint8_t slot, const uint8_t *bytes, size_t len)
 {
     size_t took;
     before(slot);
-    must(record_input(&board, slot, bytes, len, &took), "input");
+    must(record_input(&board, slot, bytes, len, &took, &waits[slot]), "input");
     after(slot);
     return took;
 }
 
 void board_resize(uint8_t slot, uint16_t cols, uint16_t rows)
 {
-    must(record_resize(&board, slot, cols, rows), "resize");
+    must(record_resize(&board, slot, cols, rows, &waits[slot]), "resize");
 }
 
 size_t board_output(uint8_t slot, uint8_t *into, size_t len)
 {
-    size_t taken;
-    must(record_take_output(&board, slot, into, len, &taken), "take_output");
+    size_t taken = 0;
+    if (waits[slot].output > 0)
+        must(record_take_output(&board, slot, into, len, &taken), "take_output");
+    waits[slot].output -= taken;
     return taken;
 }
 
 bool board_line(uint8_t slot, uint8_t window)
 {
-    uint8_t words[2];
-    must(kalyubos_interrupts(&board, slot, &words[KALYUBOS_BLOCK], &words[KALYUBOS_CONSOLE]), "interrupts");
-    return words[window] != 0;
+    return (window == KALYUBOS_BLOCK ? waits[slot].block : waits[slot].console) != 0;
 }
 
 void board_image(size_t start, uint8_t *into, size_t len)

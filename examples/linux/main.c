@@ -164,18 +164,23 @@ static void take_turn(struct machine *machine)
         machine_pass(machine);
 }
 
-/* Gives each guest a turn; false where none is on. */
-static bool turn(void)
+/* Gives each guest that is on a turn. */
+static void turn(void)
 {
-    bool goes_on = false;
-    for (size_t i = 0; i < words.count; i++) {
+    for (size_t i = 0; i < words.count; i++)
         if (guests[i].is_noise)
             noise_run(&guests[i].noise, ACTS);
         else if (is_on(&guests[i]))
             take_turn(&guests[i].machine);
-        goes_on = goes_on || is_on(&guests[i]);
-    }
-    return goes_on;
+}
+
+/* Whether a guest is on that is waited for: with a person, guest 0. */
+static bool goes_on(void)
+{
+    for (size_t i = 0; i < (words.interactive ? 1 : words.count); i++)
+        if (is_on(&guests[i]))
+            return true;
+    return false;
 }
 
 /* ---- a person at guest 0 */
@@ -279,10 +284,12 @@ int main(int argc, char **argv)
     words = words_of(argc, argv);
     open_guests();
     enter_terminal();
-    while (turn())
-        if (words.interactive && is_on(&guests[0]))
+    while (goes_on()) {
+        turn();
+        if (words.interactive)
             listen(&guests[0].machine);
+    }
     bool good = report_guests();
     board_close();
-    return good ? 0 : 1;
+    return good || words.interactive ? 0 : 1;
 }

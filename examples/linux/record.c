@@ -19,9 +19,9 @@ struct text {
 struct seen {
     uint64_t base;
     size_t len;
-    uint8_t *memory; /* as its last call left it */
-    uint8_t *now;    /* as its next call finds it */
-    uint8_t words[2];
+    uint8_t *now;  /* its memory in place */
+    uint8_t *left; /* as its last call left it */
+    struct kalyubos_pending waits;
     struct text output; /* what the host hasn't taken yet */
     struct text untold; /* what no record has yet */
 };
@@ -32,7 +32,7 @@ static struct seen seen[SLOTS];
 /* Whether a call is one to write down: an event may name a slot that isn't there, and this file writes none of those. */
 static bool writes(uint8_t slot)
 {
-    return trace != NULL && slot < SLOTS && seen[slot].memory != NULL;
+    return trace != NULL && slot < SLOTS && seen[slot].left != NULL;
 }
 
 /* ---- text */
@@ -53,7 +53,7 @@ static void put_record(uint8_t slot, const char *reply)
     struct seen *of = &seen[slot];
     fprintf(records, "%x %s ", slot, reply);
     put_bytes(records, of->untold.bytes, of->untold.len);
-    fprintf(records, " %x %x\n", of->words[0], of->words[1]);
+    fprintf(records, " %x %x\n", (unsigned)of->waits.block, (unsigned)of->waits.console);
     of->untold.len = 0;
 }
 
@@ -71,9 +71,9 @@ static void put_memory(uint8_t slot, size_t start, size_t end)
 static size_t difference(const struct seen *of, size_t at)
 {
     enum { STEP = 4096 };
-    while (at + STEP <= of->len && memcmp(of->memory + at, of->now + at, STEP) == 0)
+    while (at + STEP <= of->len && memcmp(of->left + at, of->now + at, STEP) == 0)
         at += STEP;
-    while (at < of->len && of->memory[at] == of->now[at])
+    while (at < of->len && of->left[at] == of->now[at])
         at++;
     return at;
 }
@@ -83,16 +83,15 @@ static size_t end_of(const struct seen *of, size_t start)
 {
     size_t end = start;
     for (size_t at = start; at < of->len && at - end < GAP; at++)
-        if (of->memory[at] != of->now[at])
+        if (of->left[at] != of->now[at])
             end = at + 1;
     return end;
 }
 
 /* Writes down what the guest's memory has that its last call didn't leave there. */
-static void put_changes(struct kalyubos *board, uint8_t slot)
+static void put_changes(uint8_t slot)
 {
     struct seen *of = &seen[slot];
-    kalyubos_read_memory(board, slot, of->base, of->now, of->len);
     for (size_t at = difference(of, 0); at < of->len; at = difference(of, at)) {
         size_t end = end_of(of, at);
         put_memory(slot, at, end);
@@ -122,13 +121,19 @@ static void keep_output(struct kalyubos *board, uint8_t slot)
     }
 }
 
-/* What a call left behind. */
-static void look(struct kalyubos *board, uint8_t slot)
+/* Keeps what a call left behind; to the host all output waits that it hasn't taken. */
+static void keep(struct kalyubos *board, uint8_t slot, struct kalyubos_pending *pending)
 {
     struct seen *of = &seen[slot];
-    keep_output(board, slot);
-    kalyubos_interrupts(board, slot, &of->words[0], &of->words[1]);
-    kalyubos_read_memory(board, slot, of->base, of->memory, of->len);
+    of->waits = *pending;
+    if (pending->output > 0)
+        keep_output(board, slot);
+    pending->output = of->output.len;
+    for (size_t at = difference(of, 0); at < of->len; at = difference(of, at)) {
+        size_t end = end_of(of, at);
+        memcpy(of->left + at, of->now + at, end - at);
+        at = end;
+    }
 }
 
 /* ---- the files */
@@ -146,8 +151,7 @@ bool record_end(void)
 {
     bool good = trace == NULL || (fclose(trace) == 0 && fclose(records) == 0);
     for (size_t i = 0; i < SLOTS; i++) {
-        free(seen[i].memory);
-        free(seen[i].now);
+        free(seen[i].left);
         free(seen[i].output.bytes);
         free(seen[i].untold.bytes);
     }
@@ -158,15 +162,16 @@ bool record_end(void)
 
 /* ---- the calls */
 
-static void put_slot(size_t index, const struct kalyubos_slot *slot)
+static void put_slot(struct kalyubos *board, uint8_t index, const struct kalyubos_slot *slot)
 {
+    struct seen *of = &seen[index];
+    *of = (struct seen){ .base = slot->base };
     fprintf(trace, "slot %llx %llx %llx %llx %s %x %x\n", (unsigned long long)slot->base,
             (unsigned long long)slot->len, (unsigned long long)slot->start, (unsigned long long)slot->count,
             slot->read_only ? "ro" : "rw", slot->cols, slot->rows);
-    seen[index] = (struct seen){ .base = slot->base, .len = slot->len };
-    seen[index].memory = calloc(slot->len, 1);
-    seen[index].now = calloc(slot->len, 1);
-    if (seen[index].memory == NULL || seen[index].now == NULL)
+    kalyubos_memory(board, index, &of->now, &of->len);
+    of->left = calloc(of->len, 1);
+    if (of->left == NULL)
         abort();
 }
 
@@ -178,7 +183,7 @@ uint32_t record_create(struct kalyubos *board, const struct kalyubos_slot *slots
         return answer;
     fprintf(trace, "vreplay 1\ncache %x\n", (unsigned)cache);
     for (size_t i = 0; i < slots_len; i++)
-        put_slot(i, &slots[i]);
+        put_slot(board, i, &slots[i]);
     return answer;
 }
 
@@ -199,13 +204,13 @@ uint32_t record_read(struct kalyubos *board, uint8_t slot, uint8_t window, uint1
 
 /* A write that is refused for want of room isn't written down before it is made again and done. */
 uint32_t record_write(struct kalyubos *board, uint8_t slot, uint8_t window, uint16_t offset, uint8_t width,
-                      uint32_t value)
+                      uint32_t value, struct kalyubos_pending *pending)
 {
     if (!writes(slot))
-        return kalyubos_write(board, slot, window, offset, width, value);
-    put_changes(board, slot);
-    uint32_t answer = kalyubos_write(board, slot, window, offset, width, value);
-    look(board, slot);
+        return kalyubos_write(board, slot, window, offset, width, value, pending);
+    put_changes(slot);
+    uint32_t answer = kalyubos_write(board, slot, window, offset, width, value, pending);
+    keep(board, slot, pending);
     if (answer != KALYUBOS_DONE)
         return answer;
     uint32_t within = width < 4 ? value & (((uint32_t)1 << 8 * width) - 1) : value;
@@ -214,16 +219,15 @@ uint32_t record_write(struct kalyubos *board, uint8_t slot, uint8_t window, uint
     return answer;
 }
 
-uint32_t record_input(struct kalyubos *board, uint8_t slot, const uint8_t *bytes, size_t bytes_len, size_t *took)
+uint32_t record_input(struct kalyubos *board, uint8_t slot, const uint8_t *bytes, size_t bytes_len, size_t *took,
+                      struct kalyubos_pending *pending)
 {
     char reply[32];
     if (!writes(slot))
-        return kalyubos_input(board, slot, bytes, bytes_len, took);
-    put_changes(board, slot);
-    uint32_t answer = kalyubos_input(board, slot, bytes, bytes_len, took);
-    look(board, slot);
-    if (answer != KALYUBOS_DONE)
-        return answer;
+        return kalyubos_input(board, slot, bytes, bytes_len, took, pending);
+    put_changes(slot);
+    uint32_t answer = kalyubos_input(board, slot, bytes, bytes_len, took, pending);
+    keep(board, slot, pending);
     fprintf(trace, "in %x ", slot);
     put_bytes(trace, bytes, bytes_len);
     fputc('\n', trace);
@@ -232,12 +236,13 @@ uint32_t record_input(struct kalyubos *board, uint8_t slot, const uint8_t *bytes
     return answer;
 }
 
-uint32_t record_resize(struct kalyubos *board, uint8_t slot, uint16_t cols, uint16_t rows)
+uint32_t record_resize(struct kalyubos *board, uint8_t slot, uint16_t cols, uint16_t rows,
+                       struct kalyubos_pending *pending)
 {
-    uint32_t answer = kalyubos_resize(board, slot, cols, rows);
-    if (!writes(slot) || answer != KALYUBOS_DONE)
+    uint32_t answer = kalyubos_resize(board, slot, cols, rows, pending);
+    if (!writes(slot))
         return answer;
-    kalyubos_interrupts(board, slot, &seen[slot].words[0], &seen[slot].words[1]);
+    keep(board, slot, pending);
     fprintf(trace, "sz %x %x %x\n", slot, cols, rows);
     put_record(slot, "done");
     return answer;

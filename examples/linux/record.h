@@ -21,9 +21,11 @@ uint32_t record_create(struct kalyubos *board, const struct kalyubos_slot *slots
 uint32_t record_read(struct kalyubos *board, uint8_t slot, uint8_t window, uint16_t offset, uint8_t width,
                      uint32_t *value);
 uint32_t record_write(struct kalyubos *board, uint8_t slot, uint8_t window, uint16_t offset, uint8_t width,
-                      uint32_t value);
-uint32_t record_input(struct kalyubos *board, uint8_t slot, const uint8_t *bytes, size_t bytes_len, size_t *took);
-uint32_t record_resize(struct kalyubos *board, uint8_t slot, uint16_t cols, uint16_t rows);
+                      uint32_t value, struct kalyubos_pending *pending);
+uint32_t record_input(struct kalyubos *board, uint8_t slot, const uint8_t *bytes, size_t bytes_len, size_t *took,
+                      struct kalyubos_pending *pending);
+uint32_t record_resize(struct kalyubos *board, uint8_t slot, uint16_t cols, uint16_t rows,
+                       struct kalyubos_pending *pending);
 uint32_t record_take_output(struct kalyubos *board, uint8_t slot, uint8_t *into, size_t into_len, size_t *taken);
 
 #endif
