@@ -9,7 +9,7 @@
 
 enum { GUESTS = 16 };
 
-void fail(const char *what)
+_Noreturn void fail(const char *what)
 {
     fprintf(stderr, "linux-machine: %s: %s\n", what, errno != 0 ? strerror(errno) : "not as it should be");
     exit(2);
@@ -40,7 +40,6 @@ static uint64_t feature(const char *word)
         if (strcmp(word, features[i].name) == 0)
             return (uint64_t)1 << features[i].bit;
     fail(word);
-    return 0;
 }
 
 static const struct option OPTIONS[] = {

@@ -24,6 +24,6 @@ struct words {
 struct words words_of(int argc, char **argv);
 
 /* Says what went wrong, and ends the process. */
-void fail(const char *what);
+_Noreturn void fail(const char *what);
 
 #endif
