@@ -1,0 +1,132 @@
+/* The library's calls behind board.h. */
+#include "board.h"
+
+#include <stdio.h>
+#include <stdlib.h>
+
+#include "record.h"
+
+enum { GUESTS = 16, COLUMNS = 80, ROWS = 25 };
+
+static struct kalyubos board;
+static struct board_settings settings;
+static uint8_t *memories[GUESTS];
+static struct kalyubos_pending waits[GUESTS]; /* after the slot's last call */
+
+static void must(uint32_t answer, const char *what)
+{
+    if (answer != KALYUBOS_DONE) {
+        fprintf(stderr, "%s: refused with %u\n", what, (unsigned)answer);
+        exit(1);
+    }
+}
+
+/* ---- opening and closing */
+
+/* The slot's memory in place, or one of our own that calls copy. */
+static uint8_t *memory_of(uint8_t slot)
+{
+    uint8_t *bytes;
+    size_t len;
+    if (!settings.copies)
+        must(kalyubos_memory(&board, slot, &bytes, &len), "memory");
+    else if ((bytes = calloc(MEMORY_LEN, 1)) == NULL)
+        must(KALYUBOS_NO_MEMORY, "memory");
+    return bytes;
+}
+
+void board_open(const struct board_settings *wanted)
+{
+    struct kalyubos_slot slots[GUESTS];
+    uint64_t start = 0;
+    settings = *wanted;
+    for (size_t i = 0; i < settings.guests; i++) {
+        slots[i] = (struct kalyubos_slot){ MEMORY_BASE, MEMORY_LEN, start, settings.sectors[i], COLUMNS, ROWS,
+                                           settings.outlet, false };
+        start += settings.sectors[i];
+    }
+    if (settings.record != NULL && !record_to(settings.record))
+        must(KALYUBOS_NO_ROOM, settings.record);
+    must(record_create(&board, slots, settings.guests, settings.image, start * 512, settings.cache), "create");
+    for (size_t i = 0; i < settings.guests; i++)
+        memories[i] = memory_of(i);
+}
+
+void board_close(void)
+{
+    for (size_t i = 0; i < settings.guests && settings.copies; i++)
+        free(memories[i]);
+    must(kalyubos_destroy(&board), "destroy");
+    if (!record_end())
+        must(KALYUBOS_NO_ROOM, "the record");
+}
+
+uint8_t *board_memory(uint8_t slot)
+{
+    return memories[slot];
+}
+
+/* ---- the calls */
+
+/* Where memories are copied: what stands round each call that may look at a memory. */
+static void before(uint8_t slot)
+{
+    if (settings.copies)
+        must(kalyubos_write_memory(&board, slot, MEMORY_BASE, memories[slot], MEMORY_LEN), "write_memory");
+}
+
+static void after(uint8_t slot)
+{
+    if (settings.copies)
+        must(kalyubos_read_memory(&board, slot, MEMORY_BASE, memories[slot], MEMORY_LEN), "read_memory");
+}
+
+uint32_t board_read(uint8_t slot, uint8_t window, uint16_t offset, uint8_t width)
+{
+    uint32_t value;
+    must(record_read(&board, slot, window, offset, width, &value), "read");
+    return value;
+}
+
+bool board_write(uint8_t slot, uint8_t window, uint16_t offset, uint8_t width, uint32_t value)
+{
+    before(slot);
+    uint32_t answer = record_write(&board, slot, window, offset, width, value, &waits[slot]);
+    after(slot);
+    if (answer != KALYUBOS_NO_ROOM)
+        must(answer, "write");
+    return answer == KALYUBOS_DONE;
+}
+
+size_t board_type(uint8_t slot, const uint8_t *bytes, size_t len)
+{
+    size_t took;
+    before(slot);
+    must(record_input(&board, slot, bytes, len, &took, &waits[slot]), "input");
+    after(slot);
+    return took;
+}
+
+void board_resize(uint8_t slot, uint16_t cols, uint16_t rows)
+{
+    must(record_resize(&board, slot, cols, rows, &waits[slot]), "resize");
+}
+
+size_t board_output(uint8_t slot, uint8_t *into, size_t len)
+{
+    size_t taken = 0;
+    if (waits[slot].output > 0)
+        must(record_take_output(&board, slot, into, len, &taken), "take_output");
+    waits[slot].output -= taken;
+    return taken;
+}
+
+bool board_line(uint8_t slot, uint8_t window)
+{
+    return (window == KALYUBOS_BLOCK ? waits[slot].block : waits[slot].console) != 0;
+}
+
+void board_image(size_t start, uint8_t *into, size_t len)
+{
+    must(kalyubos_read_image(&board, start, into, len), "read_image");
+}

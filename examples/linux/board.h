@@ -1,0 +1,49 @@
+/* The board behind the machines: the library's calls, one board for the process. Whoever is refused is told and ends. */
+#ifndef BOARD_H
+#define BOARD_H
+
+#include <stdbool.h>
+#include <stddef.h>
+#include <stdint.h>
+
+#include "kalyubos.h"
+
+/* The size of each guest's memory, and where it begins. */
+enum { MEMORY_LEN = 0x01000000 };
+static const uint64_t MEMORY_BASE = 0x80000000;
+
+struct board_settings {
+    size_t guests;
+    const uint64_t *sectors; /* of each guest's disk; the disks stand in the image one after the other */
+    const uint8_t *image;
+    uint32_t cache;  /* how many sectors the board keeps */
+    uint32_t outlet; /* how many bytes of a console's output may wait */
+    const char *record; /* the file that the guests' calls are written to as a trace, or NULL */
+    bool copies;     /* each call copies a guest's whole memory into the board and back, and none is lent */
+};
+
+void board_open(const struct board_settings *settings);
+void board_close(void);
+
+/* A guest's memory, which its CPU may change between calls. */
+uint8_t *board_memory(uint8_t slot);
+
+uint32_t board_read(uint8_t slot, uint8_t window, uint16_t offset, uint8_t width);
+
+/* False where the console's output has no room: take some, and make the write again. */
+bool board_write(uint8_t slot, uint8_t window, uint16_t offset, uint8_t width, uint32_t value);
+
+/* How many of the bytes the console took. */
+size_t board_type(uint8_t slot, const uint8_t *bytes, size_t len);
+void board_resize(uint8_t slot, uint16_t cols, uint16_t rows);
+
+/* Takes output, and tells how many bytes it was. */
+size_t board_output(uint8_t slot, uint8_t *into, size_t len);
+
+/* Whether a window's interrupt line is high. */
+bool board_line(uint8_t slot, uint8_t window);
+
+/* Copies the image's bytes. */
+void board_image(size_t start, uint8_t *into, size_t len);
+
+#endif

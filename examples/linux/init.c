@@ -1,0 +1,211 @@
+/*
+ * The guest's only program, without a C library (the kernel's nolibc). It writes and reads files and the raw disk behind
+ * the file system, says what it found, then answers lines from the console until it is told to go off. Each line that
+ * begins with "good" or "bad" is a check.
+ */
+#include <linux/fs.h>
+#include <stdbool.h>
+
+#include "pattern.h"
+
+enum {
+    NAME = 64,
+    FILES = 4,
+    RAW = 0x200000,    /* the raw disk begins behind the file system, see build */
+    RAW_BLOCKS = 8,
+    DIRECT = 040000    /* O_DIRECT: not from the page cache */
+};
+
+#define WINDOW_SIZE 0x5413 /* TIOCGWINSZ */
+
+static char expected[BLOCK] __attribute__((aligned(4096)));
+static char found[BLOCK] __attribute__((aligned(4096)));
+
+static void check(bool holds, const char *what)
+{
+    printf("%s: %s\n", holds ? "good" : "bad", what);
+}
+
+static bool is_expected(void)
+{
+    return memcmp(expected, found, BLOCK) == 0;
+}
+
+static bool flush(int file)
+{
+    return my_syscall1(__NR_fsync, file) == 0;
+}
+
+/* Reads a text of one line, without its end. */
+static void read_text(const char *path, char *into, int room)
+{
+    int file = open(path, O_RDONLY, 0);
+    int length = read(file, into, room - 1);
+    close(file);
+    into[length > 0 ? length : 0] = 0;
+    if (strchr(into, '\n'))
+        *strchr(into, '\n') = 0;
+}
+
+static void show_text(const char *what, const char *path)
+{
+    char text[NAME];
+    read_text(path, text, sizeof text);
+    printf("%s: %s\n", what, text);
+}
+
+/* ---- the disk */
+
+static bool write_block(const char *path, int flags, long at, unsigned int seed)
+{
+    int file = open(path, O_WRONLY | flags, 0600);
+    fill(expected, seed);
+    bool done = file >= 0 && lseek(file, at, SEEK_SET) == at && write(file, expected, BLOCK) == BLOCK && flush(file);
+    close(file);
+    return done;
+}
+
+static bool read_block(const char *path, long at)
+{
+    int file = open(path, O_RDONLY | DIRECT, 0);
+    bool done = file >= 0 && lseek(file, at, SEEK_SET) == at && read(file, found, BLOCK) == BLOCK;
+    close(file);
+    return done;
+}
+
+static void try_files(unsigned int seed)
+{
+    char path[] = "/files/0";
+    bool written = true, same = true;
+    for (int i = 0; i < FILES; i++) {
+        path[7] = '0' + i;
+        written = write_block(path, O_CREAT, 0, seed + i) && written;
+    }
+    for (int i = 0; i < FILES; i++) {
+        path[7] = '0' + i;
+        fill(expected, seed + i);
+        same = read_block(path, 0) && is_expected() && same;
+    }
+    check(written, "files are written");
+    check(same, "the disk has the files' bytes");
+}
+
+static void try_raw(unsigned int seed)
+{
+    bool written = true, same = true;
+    for (int i = 0; i < RAW_BLOCKS; i++)
+        written = write_block("/dev/vda", DIRECT, RAW + i * BLOCK, seed + FILES + i) && written;
+    for (int i = 0; i < RAW_BLOCKS; i++) {
+        fill(expected, seed + FILES + i);
+        same = read_block("/dev/vda", RAW + i * BLOCK) && is_expected() && same;
+    }
+    check(written, "the raw disk is written");
+    check(same, "the raw disk has its bytes");
+}
+
+/* Zeroes the raw disk's second block, and looks at it and its neighbours. */
+static void try_zeroes(unsigned int seed)
+{
+    unsigned long long range[2] = { RAW + BLOCK, BLOCK };
+    int disk = open("/dev/vda", O_RDWR, 0);
+    check(ioctl(disk, BLKZEROOUT, range) == 0, "a range of the disk is zeroed");
+    close(disk);
+    bool zero = read_block("/dev/vda", RAW + BLOCK);
+    for (int i = 0; i < BLOCK; i++)
+        zero = zero && found[i] == 0;
+    check(zero, "the range is zero");
+    fill(expected, seed + FILES);
+    bool before = read_block("/dev/vda", RAW) && is_expected();
+    fill(expected, seed + FILES + 2);
+    check(before && read_block("/dev/vda", RAW + 2 * BLOCK) && is_expected(), "its neighbours stand");
+}
+
+/* ---- the console */
+
+static void show_size(void)
+{
+    unsigned short size[4] = { 0, 0, 0, 0 };
+    ioctl(0, WINDOW_SIZE, size);
+    printf("the console has %d columns and %d rows\n", size[1], size[0]);
+}
+
+/* What the drivers negotiated: a digit for each bit, from bit 0 on. */
+static void show_features(void)
+{
+    char digits[NAME + 1];
+    read_text("/sys/bus/virtio/devices/virtio0/features", digits, sizeof digits);
+    printf("features of the disk: %s\n", digits);
+    read_text("/sys/bus/virtio/devices/virtio1/features", digits, sizeof digits);
+    printf("features of the console: %s\n", digits);
+}
+
+static void show_file(const char *path)
+{
+    int file = open(path, O_RDONLY, 0), length;
+    while ((length = read(file, found, BLOCK)) > 0)
+        write(1, found, length);
+    close(file);
+}
+
+static void show_help(void)
+{
+    printf("size: of the console; serial: of the disk; features: of both; interrupts, version: of the kernel;\n"
+           "lines: many of them; off; all else is said again\n");
+}
+
+static void show_lines(void)
+{
+    for (int i = 0; i < 500; i++)
+        printf("%d and all that comes after it, up to the end of a line of the console\n", i);
+}
+
+static void answer(const char *line)
+{
+    if (strcmp(line, "size") == 0)
+        show_size();
+    else if (strcmp(line, "serial") == 0)
+        show_text("serial", "/sys/block/vda/serial");
+    else if (strcmp(line, "features") == 0)
+        show_features();
+    else if (strcmp(line, "interrupts") == 0)
+        show_file("/proc/interrupts");
+    else if (strcmp(line, "version") == 0)
+        show_file("/proc/version");
+    else if (strcmp(line, "lines") == 0)
+        show_lines();
+    else if (strcmp(line, "help") == 0)
+        show_help();
+    else
+        printf("you said \"%s\"\n", line);
+}
+
+/* A line of the console; false at "off" or where there is none. */
+static bool ask(char *line)
+{
+    printf("> ");
+    int length = read(0, line, BLOCK - 1);
+    if (length <= 0)
+        return false;
+    line[line[length - 1] == '\n' ? length - 1 : length] = 0;
+    return strcmp(line, "off") != 0;
+}
+
+int main(void)
+{
+    static char line[BLOCK];
+    char name[NAME];
+    mount("proc", "/proc", "proc", 0, NULL);
+    mount("sysfs", "/sys", "sysfs", 0, NULL);
+    read_text("/name", name, sizeof name);
+    printf("init of %s\n", name);
+    unsigned int seed = name[strlen(name) - 1];
+    try_files(seed);
+    try_raw(seed);
+    try_zeroes(seed);
+    while (ask(line))
+        answer(line);
+    printf("going off\n");
+    mount("none", "/", NULL, MS_REMOUNT | MS_RDONLY, NULL);
+    reboot(LINUX_REBOOT_CMD_POWER_OFF);
+    return 1;
+}

@@ -1,0 +1,207 @@
+/* The machine of machine.h; machine.dts tells the guest of it. */
+#include "machine.h"
+
+#include <string.h>
+
+#include "board.h"
+
+static const uint64_t PLIC = 0x0c000000, PLIC_LEN = 0x400000, WINDOWS = 0x10000000;
+
+enum { WINDOW_LEN = 0x1000, WINDOW_COUNT = 2 };
+
+/* Where the kernel and the tree lie in memory. */
+enum { KERNEL = 0x200000, TREE = MEMORY_LEN - 0x10000 };
+
+static const uint64_t NEVER = ~(uint64_t)0;
+
+/* ---- interrupts */
+
+static void move_lines(struct machine *machine)
+{
+    for (unsigned window = 0; window < WINDOW_COUNT; window++) {
+        bool was = machine->plic.high >> (window + 1) & 1, is = board_line(machine->slot, window);
+        machine->counts[window].rises += is && !was;
+        plic_line(&machine->plic, window + 1, is);
+    }
+    cpu_line(&machine->cpu, CPU_EXTERNAL_INTERRUPT, plic_wants(&machine->plic));
+}
+
+static void move_timer(struct machine *machine)
+{
+    cpu_line(&machine->cpu, CPU_TIMER_INTERRUPT, machine->cpu.cycles >= machine->timer);
+}
+
+/* ---- the console's two ends */
+
+static bool take_output(struct machine *machine)
+{
+    uint8_t bytes[4096];
+    size_t all = 0, taken;
+    while ((taken = board_output(machine->slot, bytes, sizeof bytes)) > 0) {
+        terminal_show(&machine->terminal, bytes, taken);
+        all += taken;
+    }
+    return all > 0;
+}
+
+/* What isn't taken is offered again at once, and then after each of the guest's writes. */
+static void type(struct machine *machine)
+{
+    struct terminal *terminal = &machine->terminal;
+    size_t took = 1;
+    while (terminal->typed_len > 0 && took > 0) {
+        took = board_type(machine->slot, terminal->typed, terminal->typed_len);
+        terminal_took(terminal, took);
+    }
+}
+
+void machine_talk(struct machine *machine)
+{
+    unsigned prompts = machine->terminal.prompts;
+    take_output(machine);
+    /* The driver knows no size before the first resize. */
+    if (prompts == 0 && machine->terminal.prompts > 0)
+        board_resize(machine->slot, machine->terminal.cols, machine->terminal.rows);
+    type(machine);
+    move_lines(machine);
+}
+
+/* ---- the windows */
+
+enum { DEVICE_FEATURES = 0x010, DEVICE_FEATURES_SEL = 0x014 };
+
+/* A read of the offered features lacks those that are hidden. */
+static uint64_t window_load(struct machine *machine, unsigned window, uint16_t offset, unsigned width)
+{
+    uint32_t value = board_read(machine->slot, window, offset, width);
+    machine->counts[window].reads++;
+    if (offset == DEVICE_FEATURES && machine->selected[window] < 2)
+        value &= ~(machine->hidden >> 32 * machine->selected[window]);
+    return value;
+}
+
+static void window_store(struct machine *machine, unsigned window, uint16_t offset, unsigned width, uint32_t value)
+{
+    machine->counts[window].writes++;
+    if (offset == DEVICE_FEATURES_SEL)
+        machine->selected[window] = value;
+    while (!board_write(machine->slot, window, offset, width, value) && take_output(machine))
+        machine->refused++;
+    if (!machine->late)
+        machine_talk(machine);
+    else
+        move_lines(machine);
+}
+
+/* ---- the bus */
+
+static bool bus_load(void *user, uint64_t addr, unsigned width, uint64_t *value)
+{
+    struct machine *machine = user;
+    if (addr - WINDOWS < WINDOW_COUNT * WINDOW_LEN && width <= 4)
+        *value = window_load(machine, (addr - WINDOWS) / WINDOW_LEN, addr % WINDOW_LEN, width);
+    else if (addr - PLIC < PLIC_LEN && width == 4)
+        *value = plic_load(&machine->plic, addr - PLIC);
+    else
+        return false;
+    cpu_line(&machine->cpu, CPU_EXTERNAL_INTERRUPT, plic_wants(&machine->plic));
+    return true;
+}
+
+static bool bus_store(void *user, uint64_t addr, unsigned width, uint64_t value)
+{
+    struct machine *machine = user;
+    if (addr - WINDOWS < WINDOW_COUNT * WINDOW_LEN && width <= 4)
+        window_store(machine, (addr - WINDOWS) / WINDOW_LEN, addr % WINDOW_LEN, width, value);
+    else if (addr - PLIC < PLIC_LEN && width == 4)
+        plic_store(&machine->plic, addr - PLIC, value);
+    else
+        return false;
+    cpu_line(&machine->cpu, CPU_EXTERNAL_INTERRUPT, plic_wants(&machine->plic));
+    return true;
+}
+
+/* ---- what mode M answers (RISC-V Supervisor Binary Interface, 1.0.0) */
+
+enum { A0 = 10, A1 = 11, A6 = 16, A7 = 17 };
+enum { SBI_SUCCESS = 0, SBI_NOT_SUPPORTED = -2 };
+
+static const uint64_t SBI_PUTCHAR = 1, SBI_BASE = 0x10, SBI_TIME = 0x54494d45, SBI_RESET = 0x53525354;
+
+static bool is_answered(uint64_t extension)
+{
+    return extension == SBI_PUTCHAR || extension == SBI_BASE || extension == SBI_TIME || extension == SBI_RESET;
+}
+
+/* The base extension's functions: 0 is the specification's version, 3 asks for an extension; the others are names. */
+static uint64_t base_answer(uint64_t function, uint64_t argument)
+{
+    return function == 0 ? 1 << 24 : function == 3 ? is_answered(argument) : 0;
+}
+
+static void set_timer(struct machine *machine, uint64_t ticks)
+{
+    machine->timer = ticks < NEVER / CYCLES_PER_TICK ? ticks * CYCLES_PER_TICK : NEVER;
+    move_timer(machine);
+    machine->cpu.stop_at = machine->cpu.cycles;
+}
+
+static void turn_off(struct machine *machine)
+{
+    machine->off = true;
+    machine->cpu.stop_at = machine->cpu.cycles;
+}
+
+static void call(void *user)
+{
+    struct machine *machine = user;
+    uint64_t *x = machine->cpu.x, extension = x[A7], argument = x[A0];
+    x[A0] = is_answered(extension) ? SBI_SUCCESS : SBI_NOT_SUPPORTED;
+    if (extension == SBI_BASE)
+        x[A1] = base_answer(x[A6], argument);
+    else if (extension == SBI_TIME)
+        set_timer(machine, argument);
+    else if (extension == SBI_RESET)
+        turn_off(machine);
+    else if (extension == SBI_PUTCHAR)
+        fputc(argument, machine->early);
+}
+
+/* ---- running */
+
+static void place(struct machine *machine, uint64_t offset, struct machine_file file)
+{
+    memcpy(machine->cpu.memory + offset, file.bytes, file.len);
+}
+
+void machine_start(struct machine *machine, uint8_t slot, struct machine_file kernel, struct machine_file tree)
+{
+    machine->slot = slot;
+    machine->timer = NEVER;
+    machine->cpu.memory = board_memory(slot);
+    machine->cpu.memory_base = MEMORY_BASE;
+    machine->cpu.memory_len = MEMORY_LEN;
+    machine->cpu.bus = (struct cpu_bus){ machine, bus_load, bus_store, call };
+    place(machine, KERNEL, kernel);
+    place(machine, TREE, tree);
+    cpu_reset(&machine->cpu, MEMORY_BASE + KERNEL);
+    machine->cpu.x[A1] = MEMORY_BASE + TREE;
+}
+
+void machine_run(struct machine *machine, uint64_t cycles)
+{
+    struct cpu *cpu = &machine->cpu;
+    uint64_t end = cpu->cycles + cycles;
+    do {
+        move_timer(machine);
+        cpu->stop_at = cpu->cycles < machine->timer && machine->timer < end ? machine->timer : end;
+        cpu_run(cpu);
+    } while (!machine->off && !cpu->waits && cpu->cycles < end);
+}
+
+void machine_pass(struct machine *machine)
+{
+    if (machine->timer != NEVER && machine->cpu.cycles < machine->timer)
+        machine->cpu.cycles = machine->timer;
+    move_timer(machine);
+}

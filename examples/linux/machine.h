@@ -1,0 +1,49 @@
+/* A guest's machine: a CPU, an interrupt controller, the board's two windows, and what mode M answers. */
+#ifndef MACHINE_H
+#define MACHINE_H
+
+#include <stdint.h>
+
+#include "cpu.h"
+#include "plic.h"
+#include "terminal.h"
+
+/* How often the CPU came to a window, and how often its interrupt line rose. */
+struct machine_counts {
+    uint64_t reads, writes, rises;
+};
+
+struct machine {
+    uint8_t slot;
+    bool off;
+    bool late;            /* output is taken where there is no room for more, and while the guest waits */
+    uint64_t timer;       /* the cycle of the timer's interrupt, or all ones */
+    uint64_t hidden;      /* feature bits of the devices that the driver isn't shown */
+    uint32_t selected[2]; /* the word of the features that each window was asked for */
+    struct machine_counts counts[2];
+    uint64_t refused;     /* writes that were made again, since there was no room for the output */
+    FILE *early;          /* what the kernel says before it has a console, where it is told to */
+    struct cpu cpu;
+    struct plic plic;
+    struct terminal terminal;
+};
+
+/* A kernel or a device tree, in memory. */
+struct machine_file {
+    const uint8_t *bytes;
+    size_t len;
+};
+
+/* Loads the kernel and the tree into the slot's memory. */
+void machine_start(struct machine *machine, uint8_t slot, struct machine_file kernel, struct machine_file tree);
+
+/* Runs for some cycles, until it is off, or until it waits for an interrupt. */
+void machine_run(struct machine *machine, uint64_t cycles);
+
+/* Lets the time of a machine that waits pass until its timer; without one nothing passes. */
+void machine_pass(struct machine *machine);
+
+/* Types to the console what its terminal has, and takes what it put out. */
+void machine_talk(struct machine *machine);
+
+#endif

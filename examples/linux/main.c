@@ -1,0 +1,295 @@
+/*
+ * linux-machine --kernel FILE --tree FILE [OPTION].. GUEST..: a guest for each word, which is the file of its disk, or
+ * "noise". All share one board: one image of their disks, and one cache. They run in turns until each is off.
+ *
+ *   --to FOLDER       where each guest's console, disk and report go, as guest-0.console
+ *   --script TEXT     lines to type, one at each prompt
+ *   --show GUEST      shows one guest's console; --quiet shows none
+ *   --interactive     gives a person the console of guest 0, with the terminal's size
+ *   --cache SECTORS   how many the board keeps
+ *   --outlet BYTES    how many a console may put out before they are taken
+ *   --late            takes them only where there is no room for more, and while the guest waits
+ *   --copies          copies each guest's memory into the board and back round each call
+ *   --without FEATURE a feature that no driver is shown, as RING_PACKED
+ *   --cycles COUNT    leaves a guest that isn't off by then
+ *   --record FILE     writes what the guests did as a trace, and the answers to FILE.records
+ */
+#include <poll.h>
+#include <stdlib.h>
+#include <string.h>
+#include <sys/ioctl.h>
+#include <termios.h>
+#include <unistd.h>
+
+#include "board.h"
+#include "machine.h"
+#include "noise.h"
+#include "words.h"
+
+enum { GUESTS = 16, SECTOR = 512, TURN = 1000000, ACTS = 5000, NOISE_SECTORS = 64, PATH = 4096 };
+
+struct guest {
+    bool is_noise;
+    uint64_t sectors;
+    struct machine machine;
+    struct noise noise;
+};
+
+static struct words words;
+static struct guest guests[GUESTS];
+
+/* ---- files */
+
+static FILE *open_file(const char *path, const char *mode)
+{
+    FILE *file = fopen(path, mode);
+    if (file == NULL)
+        fail(path);
+    return file;
+}
+
+/* A guest's file in the folder that was asked for. */
+static FILE *create(size_t guest, const char *what)
+{
+    char path[PATH];
+    snprintf(path, sizeof path, "%s/guest-%zu.%s", words.to, guest, what);
+    return open_file(path, "wb");
+}
+
+static struct machine_file read_file(const char *path)
+{
+    FILE *file = open_file(path, "rb");
+    fseek(file, 0, SEEK_END);
+    size_t len = ftell(file);
+    uint8_t *bytes = malloc(len + 1);
+    rewind(file);
+    if (bytes == NULL || fread(bytes, 1, len, file) != len)
+        fail(path);
+    fclose(file);
+    return (struct machine_file){ bytes, len };
+}
+
+/* ---- the guests */
+
+static enum terminal_screen screen_of(int guest)
+{
+    if (words.interactive)
+        return guest == 0 ? TERMINAL_BYTES : TERMINAL_HIDDEN;
+    if (words.quiet || (words.shown >= 0 && words.shown != guest))
+        return TERMINAL_HIDDEN;
+    return TERMINAL_LINES;
+}
+
+/* The size of the person's terminal, or else one that isn't the board's first. */
+static struct winsize size_of_terminal(void)
+{
+    struct winsize size;
+    if (!words.interactive || ioctl(0, TIOCGWINSZ, &size) != 0)
+        size = (struct winsize){ .ws_col = 100, .ws_row = 30 };
+    return size;
+}
+
+static void power_on(size_t index, struct machine_file kernel, struct machine_file tree)
+{
+    struct machine *machine = &guests[index].machine;
+    struct winsize size = size_of_terminal();
+    machine->late = words.late;
+    machine->hidden = words.hidden;
+    machine->early = create(index, "early");
+    machine->terminal.number = index;
+    machine->terminal.cols = size.ws_col;
+    machine->terminal.rows = size.ws_row;
+    machine->terminal.screen = screen_of(index);
+    machine->terminal.log = create(index, "console");
+    machine->terminal.script = words.script;
+    machine_start(machine, index, kernel, tree);
+}
+
+/* The disks' bytes, one disk after the other. */
+static uint8_t *image_of_guests(void)
+{
+    uint8_t *image = NULL;
+    size_t len = 0;
+    for (size_t i = 0; i < words.count; i++) {
+        struct machine_file disk = { NULL, NOISE_SECTORS * SECTOR };
+        guests[i].is_noise = strcmp(words.guests[i], "noise") == 0;
+        if (!guests[i].is_noise)
+            disk = read_file(words.guests[i]);
+        image = realloc(image, len + disk.len);
+        if (image == NULL)
+            fail("the image");
+        if (guests[i].is_noise)
+            memset(image + len, 0, disk.len);
+        else
+            memcpy(image + len, disk.bytes, disk.len);
+        free((void *)disk.bytes);
+        guests[i].sectors = disk.len / SECTOR;
+        len += disk.len;
+    }
+    return image;
+}
+
+static void open_guests(void)
+{
+    uint64_t sectors[GUESTS];
+    uint8_t *image = image_of_guests();
+    struct machine_file kernel = read_file(words.kernel), tree = read_file(words.tree);
+    for (size_t i = 0; i < words.count; i++)
+        sectors[i] = guests[i].sectors;
+    board_open(&(struct board_settings){ words.count, sectors, image, words.cache, words.outlet, words.record,
+                                         words.copies });
+    free(image);
+    for (size_t i = 0; i < words.count; i++)
+        if (guests[i].is_noise)
+            guests[i].noise = (struct noise){ i, i + 1, 0 };
+        else
+            power_on(i, kernel, tree);
+    free((void *)kernel.bytes);
+    free((void *)tree.bytes);
+}
+
+/* ---- turns */
+
+static bool is_on(const struct guest *guest)
+{
+    return !guest->is_noise && !guest->machine.off && guest->machine.cpu.cycles < words.cycles;
+}
+
+static void take_turn(struct machine *machine)
+{
+    machine_run(machine, TURN);
+    if (machine->cpu.waits || machine->off)
+        machine_talk(machine);
+    if (machine->cpu.waits)
+        machine_pass(machine);
+}
+
+/* Gives each guest that is on a turn. */
+static void turn(void)
+{
+    for (size_t i = 0; i < words.count; i++)
+        if (guests[i].is_noise)
+            noise_run(&guests[i].noise, ACTS);
+        else if (is_on(&guests[i]))
+            take_turn(&guests[i].machine);
+}
+
+/* Whether a guest is on that is waited for: with a person, guest 0. */
+static bool goes_on(void)
+{
+    for (size_t i = 0; i < (words.interactive ? 1 : words.count); i++)
+        if (is_on(&guests[i]))
+            return true;
+    return false;
+}
+
+/* ---- a person at guest 0 */
+
+static struct termios before;
+
+static void leave_terminal(void)
+{
+    tcsetattr(0, TCSANOW, &before);
+}
+
+static void enter_terminal(void)
+{
+    struct termios raw;
+    if (!words.interactive || tcgetattr(0, &before) != 0)
+        return;
+    raw = before;
+    cfmakeraw(&raw);
+    tcsetattr(0, TCSANOW, &raw);
+    atexit(leave_terminal);
+}
+
+/* Types what the person typed; a machine that waits lets a hundredth of a second pass. */
+static void listen(struct machine *machine)
+{
+    uint8_t bytes[256];
+    struct pollfd input = { 0, POLLIN, 0 };
+    fflush(stdout);
+    if (poll(&input, 1, machine->cpu.waits ? 10 : 0) <= 0)
+        return;
+    ssize_t len = read(0, bytes, sizeof bytes);
+    if (len > 0)
+        terminal_type(&machine->terminal, bytes, len);
+    machine_talk(machine);
+}
+
+/* ---- the end */
+
+/* FNV-1a of 64 bits. */
+static uint64_t sum_of(const uint8_t *bytes, size_t len)
+{
+    uint64_t sum = 0xcbf29ce484222325;
+    for (size_t i = 0; i < len; i++)
+        sum = (sum ^ bytes[i]) * 0x100000001b3;
+    return sum;
+}
+
+static void save_disk(size_t index, size_t start, size_t len)
+{
+    uint8_t *bytes = malloc(len);
+    FILE *file = create(index, "disk");
+    if (bytes == NULL)
+        fail("the disk's bytes");
+    board_image(start, bytes, len);
+    if (fwrite(bytes, 1, len, file) != len || fclose(file) != 0)
+        fail("the disk's file");
+    free(bytes);
+}
+
+static void report_window(FILE *report, const char *name, const struct machine_counts *counts)
+{
+    fprintf(report, "%s: %llu reads, %llu writes, %llu interrupts\n", name, (unsigned long long)counts->reads,
+            (unsigned long long)counts->writes, (unsigned long long)counts->rises);
+}
+
+/* What a guest did, in a file by which two runs are compared; whether it went off. */
+static bool report_guest(size_t index)
+{
+    struct machine *machine = &guests[index].machine;
+    FILE *report = create(index, "report");
+    fprintf(report, "%s after %llu cycles\n", machine->off ? "off" : "still on", (unsigned long long)machine->cpu.cycles);
+    report_window(report, "block", &machine->counts[0]);
+    report_window(report, "console", &machine->counts[1]);
+    fprintf(report, "memory: %016llx\n", (unsigned long long)sum_of(board_memory(index), MEMORY_LEN));
+    fclose(report);
+    fclose(machine->terminal.log);
+    fclose(machine->early);
+    if (machine->refused > 0)
+        printf("guest %zu: %llu writes were made again\n", index, (unsigned long long)machine->refused);
+    return machine->off;
+}
+
+/* Whether all went off. */
+static bool report_guests(void)
+{
+    bool good = true;
+    size_t start = 0;
+    for (size_t i = 0; i < words.count; i++) {
+        save_disk(i, start, guests[i].sectors * SECTOR);
+        start += guests[i].sectors * SECTOR;
+        if (guests[i].is_noise)
+            printf("guest %zu: noise, %llu writes\n", i, (unsigned long long)guests[i].noise.writes);
+        else
+            good = report_guest(i) && good;
+    }
+    return good;
+}
+
+int main(int argc, char **argv)
+{
+    words = words_of(argc, argv);
+    open_guests();
+    enter_terminal();
+    while (goes_on()) {
+        turn();
+        if (words.interactive)
+            listen(&guests[0].machine);
+    }
+    bool good = report_guests();
+    board_close();
+    return good || words.interactive ? 0 : 1;
+}

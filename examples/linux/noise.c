@@ -1,0 +1,78 @@
+/* The guest of noise.h. */
+#include "noise.h"
+
+#include <string.h>
+
+#include "board.h"
+
+enum { QUEUES = 2, AREA = 0x10000, AREAS = QUEUES * 2 * AREA, REGISTERS = 0x140 };
+
+/* The registers that a driver writes (VIRTIO 1.2, 4.2.2). */
+enum {
+    DRIVER_FEATURES = 0x020, DRIVER_FEATURES_SEL = 0x024, QUEUE_SEL = 0x030, QUEUE_SIZE = 0x038, QUEUE_READY = 0x044,
+    NOTIFY = 0x050, STATUS = 0x070, QUEUE_DESC = 0x080, QUEUE_DRIVER = 0x090, QUEUE_DEVICE = 0x0a0
+};
+
+/* xorshift64* */
+static uint32_t at_random(struct noise *noise)
+{
+    noise->state ^= noise->state >> 12;
+    noise->state ^= noise->state << 25;
+    noise->state ^= noise->state >> 27;
+    return noise->state * 0x2545f4914f6cdd1d >> 32;
+}
+
+static void set(struct noise *noise, unsigned window, uint16_t offset, uint32_t value)
+{
+    uint8_t bytes[4096];
+    noise->writes++;
+    while (!board_write(noise->slot, window, offset, 4, value) && board_output(noise->slot, bytes, sizeof bytes) > 0)
+        continue;
+    while (board_output(noise->slot, bytes, sizeof bytes) > 0)
+        continue;
+}
+
+static void bring_up(struct noise *noise, unsigned window)
+{
+    set(noise, window, STATUS, 0);
+    set(noise, window, STATUS, 3);
+    set(noise, window, DRIVER_FEATURES_SEL, 1);
+    set(noise, window, DRIVER_FEATURES, 1 | (at_random(noise) & 4)); /* VERSION_1, and at times RING_PACKED */
+    set(noise, window, STATUS, 11);
+    for (uint32_t queue = 0; queue < QUEUES; queue++) {
+        uint32_t area = MEMORY_BASE + (window * QUEUES + queue) * AREA;
+        set(noise, window, QUEUE_SEL, queue);
+        set(noise, window, QUEUE_SIZE, 8);
+        set(noise, window, QUEUE_DESC, area);
+        set(noise, window, QUEUE_DRIVER, area + 0x1000);
+        set(noise, window, QUEUE_DEVICE, area + 0x2000);
+        set(noise, window, QUEUE_READY, 1);
+    }
+    set(noise, window, STATUS, 15);
+}
+
+/* A descriptor at random, whose buffer mostly lies in the memory, somewhere in a ring. */
+static void write_noise(struct noise *noise)
+{
+    uint8_t *area = board_memory(noise->slot) + at_random(noise) % (AREAS / AREA) * AREA;
+    uint32_t fields[4] = { MEMORY_BASE + at_random(noise) % AREAS, 0, at_random(noise) % 0x10000,
+                           at_random(noise) };
+    memcpy(area + at_random(noise) % 8 * 16, fields, sizeof fields);
+    memcpy(area + 0x1000 + at_random(noise) % 24, &fields[3], 2);
+    memcpy(area + at_random(noise) % 0x3000, &fields[2], 4);
+}
+
+void noise_run(struct noise *noise, unsigned count)
+{
+    for (unsigned i = 0; i < count; i++) {
+        unsigned window = at_random(noise) % 2, what = at_random(noise) % 16;
+        if (what == 0)
+            bring_up(noise, window);
+        else if (what == 1)
+            set(noise, window, at_random(noise) % REGISTERS / 4 * 4, at_random(noise));
+        else if (what < 12)
+            write_noise(noise);
+        else
+            set(noise, window, NOTIFY, at_random(noise) % QUEUES);
+    }
+}

@@ -1,0 +1,264 @@
+/* The calls of record.h. */
+#include "record.h"
+
+#include <stdio.h>
+#include <stdlib.h>
+#include <string.h>
+
+enum { SLOTS = 16, GAP = 16 /* bytes that stayed, between two that changed, which are worth no line of their own */ };
+
+static const char DIGITS[] = "0123456789abcdef";
+
+/* Bytes that a console put out. */
+struct text {
+    uint8_t *bytes;
+    size_t len, room;
+};
+
+/* What is known of a slot. */
+struct seen {
+    uint64_t base;
+    size_t len;
+    uint8_t *now;  /* its memory in place */
+    uint8_t *left; /* as its last call left it */
+    struct kalyubos_pending waits;
+    struct text output; /* what the host hasn't taken yet */
+    struct text untold; /* what no record has yet */
+};
+
+static FILE *trace, *records;
+static struct seen seen[SLOTS];
+
+/* Whether a call is one to write down: an event may name a slot that isn't there, and this file writes none of those. */
+static bool writes(uint8_t slot)
+{
+    return trace != NULL && slot < SLOTS && seen[slot].left != NULL;
+}
+
+/* ---- text */
+
+static void put_bytes(FILE *file, const uint8_t *bytes, size_t len)
+{
+    if (len == 0)
+        fputc('-', file);
+    for (size_t i = 0; i < len; i++) {
+        fputc(DIGITS[bytes[i] >> 4], file);
+        fputc(DIGITS[bytes[i] & 15], file);
+    }
+}
+
+/* A record: the reply, the output that no record has yet, and the interrupt words as they stand. */
+static void put_record(uint8_t slot, const char *reply)
+{
+    struct seen *of = &seen[slot];
+    fprintf(records, "%x %s ", slot, reply);
+    put_bytes(records, of->untold.bytes, of->untold.len);
+    fprintf(records, " %x %x\n", (unsigned)of->waits.block, (unsigned)of->waits.console);
+    of->untold.len = 0;
+}
+
+static void put_memory(uint8_t slot, size_t start, size_t end)
+{
+    fprintf(trace, "mw %x %llx ", slot, (unsigned long long)(seen[slot].base + start));
+    put_bytes(trace, seen[slot].now + start, end - start);
+    fputc('\n', trace);
+    put_record(slot, "done");
+}
+
+/* ---- what changed */
+
+/* Where the next difference lies from `at` on, or the end. */
+static size_t difference(const struct seen *of, size_t at)
+{
+    enum { STEP = 4096 };
+    while (at + STEP <= of->len && memcmp(of->left + at, of->now + at, STEP) == 0)
+        at += STEP;
+    while (at < of->len && of->left[at] == of->now[at])
+        at++;
+    return at;
+}
+
+/* The end of a run of differences: as many bytes as GAP after it are the same. */
+static size_t end_of(const struct seen *of, size_t start)
+{
+    size_t end = start;
+    for (size_t at = start; at < of->len && at - end < GAP; at++)
+        if (of->left[at] != of->now[at])
+            end = at + 1;
+    return end;
+}
+
+/* Writes down what the guest's memory has that its last call didn't leave there. */
+static void put_changes(uint8_t slot)
+{
+    struct seen *of = &seen[slot];
+    for (size_t at = difference(of, 0); at < of->len; at = difference(of, at)) {
+        size_t end = end_of(of, at);
+        put_memory(slot, at, end);
+        at = end;
+    }
+}
+
+static void append(struct text *text, const uint8_t *bytes, size_t len)
+{
+    if (text->room - text->len < len) {
+        text->room = 2 * text->room + len;
+        text->bytes = realloc(text->bytes, text->room);
+        if (text->bytes == NULL)
+            abort();
+    }
+    memcpy(text->bytes + text->len, bytes, len);
+    text->len += len;
+}
+
+static void keep_output(struct kalyubos *board, uint8_t slot)
+{
+    uint8_t bytes[4096];
+    size_t taken = 0;
+    while (kalyubos_take_output(board, slot, bytes, sizeof bytes, &taken) == KALYUBOS_DONE && taken > 0) {
+        append(&seen[slot].output, bytes, taken);
+        append(&seen[slot].untold, bytes, taken);
+    }
+}
+
+/* Keeps what a call left behind; to the host all output waits that it hasn't taken. */
+static void keep(struct kalyubos *board, uint8_t slot, struct kalyubos_pending *pending)
+{
+    struct seen *of = &seen[slot];
+    of->waits = *pending;
+    if (pending->output > 0)
+        keep_output(board, slot);
+    pending->output = of->output.len;
+    for (size_t at = difference(of, 0); at < of->len; at = difference(of, at)) {
+        size_t end = end_of(of, at);
+        memcpy(of->left + at, of->now + at, end - at);
+        at = end;
+    }
+}
+
+/* ---- the files */
+
+bool record_to(const char *file)
+{
+    char name[4096];
+    snprintf(name, sizeof name, "%s.records", file);
+    trace = fopen(file, "w");
+    records = fopen(name, "w");
+    return trace != NULL && records != NULL;
+}
+
+bool record_end(void)
+{
+    bool good = trace == NULL || (fclose(trace) == 0 && fclose(records) == 0);
+    for (size_t i = 0; i < SLOTS; i++) {
+        free(seen[i].left);
+        free(seen[i].output.bytes);
+        free(seen[i].untold.bytes);
+    }
+    memset(seen, 0, sizeof seen);
+    trace = records = NULL;
+    return good;
+}
+
+/* ---- the calls */
+
+static void put_slot(struct kalyubos *board, uint8_t index, const struct kalyubos_slot *slot)
+{
+    struct seen *of = &seen[index];
+    *of = (struct seen){ .base = slot->base };
+    fprintf(trace, "slot %llx %llx %llx %llx %s %x %x\n", (unsigned long long)slot->base,
+            (unsigned long long)slot->len, (unsigned long long)slot->start, (unsigned long long)slot->count,
+            slot->read_only ? "ro" : "rw", slot->cols, slot->rows);
+    kalyubos_memory(board, index, &of->now, &of->len);
+    of->left = calloc(of->len, 1);
+    if (of->left == NULL)
+        abort();
+}
+
+uint32_t record_create(struct kalyubos *board, const struct kalyubos_slot *slots, size_t slots_len,
+                       const uint8_t *image, size_t image_len, uint32_t cache)
+{
+    uint32_t answer = kalyubos_create(board, slots, slots_len, image, image_len, cache);
+    if (trace == NULL || answer != KALYUBOS_DONE)
+        return answer;
+    fprintf(trace, "vreplay 1\ncache %x\n", (unsigned)cache);
+    for (size_t i = 0; i < slots_len; i++)
+        put_slot(board, i, &slots[i]);
+    return answer;
+}
+
+static const char WINDOWS[] = "bc";
+
+uint32_t record_read(struct kalyubos *board, uint8_t slot, uint8_t window, uint16_t offset, uint8_t width,
+                     uint32_t *value)
+{
+    char reply[16];
+    uint32_t answer = kalyubos_read(board, slot, window, offset, width, value);
+    if (!writes(slot) || answer != KALYUBOS_DONE)
+        return answer;
+    fprintf(trace, "r %x %c %03x %x\n", slot, WINDOWS[window], offset, width);
+    snprintf(reply, sizeof reply, "v:%08x", (unsigned)*value);
+    put_record(slot, reply);
+    return answer;
+}
+
+/* A write that is refused for want of room isn't written down before it is made again and done. */
+uint32_t record_write(struct kalyubos *board, uint8_t slot, uint8_t window, uint16_t offset, uint8_t width,
+                      uint32_t value, struct kalyubos_pending *pending)
+{
+    if (!writes(slot))
+        return kalyubos_write(board, slot, window, offset, width, value, pending);
+    put_changes(slot);
+    uint32_t answer = kalyubos_write(board, slot, window, offset, width, value, pending);
+    keep(board, slot, pending);
+    if (answer != KALYUBOS_DONE)
+        return answer;
+    uint32_t within = width < 4 ? value & (((uint32_t)1 << 8 * width) - 1) : value;
+    fprintf(trace, "w %x %c %03x %x %0*x\n", slot, WINDOWS[window], offset, width, 2 * width, (unsigned)within);
+    put_record(slot, "done");
+    return answer;
+}
+
+uint32_t record_input(struct kalyubos *board, uint8_t slot, const uint8_t *bytes, size_t bytes_len, size_t *took,
+                      struct kalyubos_pending *pending)
+{
+    char reply[32];
+    if (!writes(slot))
+        return kalyubos_input(board, slot, bytes, bytes_len, took, pending);
+    put_changes(slot);
+    uint32_t answer = kalyubos_input(board, slot, bytes, bytes_len, took, pending);
+    keep(board, slot, pending);
+    fprintf(trace, "in %x ", slot);
+    put_bytes(trace, bytes, bytes_len);
+    fputc('\n', trace);
+    snprintf(reply, sizeof reply, "took:%zx", *took);
+    put_record(slot, reply);
+    return answer;
+}
+
+uint32_t record_resize(struct kalyubos *board, uint8_t slot, uint16_t cols, uint16_t rows,
+                       struct kalyubos_pending *pending)
+{
+    uint32_t answer = kalyubos_resize(board, slot, cols, rows, pending);
+    if (!writes(slot))
+        return answer;
+    keep(board, slot, pending);
+    fprintf(trace, "sz %x %x %x\n", slot, cols, rows);
+    put_record(slot, "done");
+    return answer;
+}
+
+/* The output that was taken to write it down, and else the library's. */
+uint32_t record_take_output(struct kalyubos *board, uint8_t slot, uint8_t *into, size_t into_len, size_t *taken)
+{
+    if (!writes(slot))
+        return kalyubos_take_output(board, slot, into, into_len, taken);
+    struct text *output = &seen[slot].output;
+    *taken = output->len < into_len ? output->len : into_len;
+    if (*taken > 0) {
+        memcpy(into, output->bytes, *taken);
+        output->len -= *taken;
+        memmove(output->bytes, output->bytes + *taken, output->len);
+    }
+    return KALYUBOS_DONE;
+}

@@ -1,0 +1,31 @@
+/*
+ * The library's calls, which also write what guests did as a trace for vreplay (docs/formats.md), and beside it, in
+ * FILE.records, what they were answered. A host calls record_read where it would call kalyubos_read, and so on. What
+ * changed in a guest's memory between two of its calls, by the CPU or by the host, becomes `mw` lines.
+ *
+ * One board for the process. Where record_to wasn't called nothing is written, and each call is the library's.
+ */
+#ifndef RECORD_H
+#define RECORD_H
+
+#include "kalyubos.h"
+
+/* Writes to FILE from now on; false where it can't be written. Call it before record_create. */
+bool record_to(const char *file);
+
+/* Ends the files; false where not all was written. */
+bool record_end(void);
+
+uint32_t record_create(struct kalyubos *board, const struct kalyubos_slot *slots, size_t slots_len,
+                       const uint8_t *image, size_t image_len, uint32_t cache);
+uint32_t record_read(struct kalyubos *board, uint8_t slot, uint8_t window, uint16_t offset, uint8_t width,
+                     uint32_t *value);
+uint32_t record_write(struct kalyubos *board, uint8_t slot, uint8_t window, uint16_t offset, uint8_t width,
+                      uint32_t value, struct kalyubos_pending *pending);
+uint32_t record_input(struct kalyubos *board, uint8_t slot, const uint8_t *bytes, size_t bytes_len, size_t *took,
+                      struct kalyubos_pending *pending);
+uint32_t record_resize(struct kalyubos *board, uint8_t slot, uint16_t cols, uint16_t rows,
+                       struct kalyubos_pending *pending);
+uint32_t record_take_output(struct kalyubos *board, uint8_t slot, uint8_t *into, size_t into_len, size_t *taken);
+
+#endif

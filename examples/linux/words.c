@@ -1,0 +1,90 @@
+/* The words of words.h. */
+#include "words.h"
+
+#include <errno.h>
+#include <getopt.h>
+#include <stdio.h>
+#include <stdlib.h>
+#include <string.h>
+
+enum { GUESTS = 16 };
+
+_Noreturn void fail(const char *what)
+{
+    fprintf(stderr, "linux-machine: %s: %s\n", what, errno != 0 ? strerror(errno) : "not as it should be");
+    exit(2);
+}
+
+static uint64_t number(const char *word)
+{
+    char *end;
+    uint64_t found = strtoull(word, &end, 0);
+    if (*word == 0 || *end != 0)
+        fail(word);
+    return found;
+}
+
+/* A feature's bit by its name (VIRTIO 1.2, 5.2.3 and 6). */
+static uint64_t feature(const char *word)
+{
+    static const struct {
+        const char *name;
+        unsigned bit;
+    } features[] = {
+        { "WRITE_ZEROES", 14 },
+        { "INDIRECT_DESC", 28 },
+        { "EVENT_IDX", 29 },
+        { "RING_PACKED", 34 },
+    };
+    for (size_t i = 0; i < sizeof features / sizeof *features; i++)
+        if (strcmp(word, features[i].name) == 0)
+            return (uint64_t)1 << features[i].bit;
+    fail(word);
+}
+
+static const struct option OPTIONS[] = {
+    { "cache", required_argument, NULL, 'c' },   { "copies", no_argument, NULL, 'p' },
+    { "cycles", required_argument, NULL, 'n' },  { "interactive", no_argument, NULL, 'i' },
+    { "kernel", required_argument, NULL, 'k' },  { "late", no_argument, NULL, 'l' },
+    { "outlet", required_argument, NULL, 'o' },  { "quiet", no_argument, NULL, 'q' },
+    { "record", required_argument, NULL, 'r' },  { "script", required_argument, NULL, 's' },
+    { "show", required_argument, NULL, 'g' },    { "to", required_argument, NULL, 'd' },
+    { "tree", required_argument, NULL, 't' },    { "without", required_argument, NULL, 'w' },
+    { NULL, 0, NULL, 0 },
+};
+
+static void take(struct words *words, int option)
+{
+    switch (option) {
+    case 'c': words->cache = number(optarg); break;
+    case 'd': words->to = optarg; break;
+    case 'g': words->shown = number(optarg); break;
+    case 'i': words->interactive = true; break;
+    case 'k': words->kernel = optarg; break;
+    case 'l': words->late = true; break;
+    case 'n': words->cycles = number(optarg); break;
+    case 'o': words->outlet = number(optarg); break;
+    case 'p': words->copies = true; break;
+    case 'q': words->quiet = true; break;
+    case 'r': words->record = optarg; break;
+    case 's': words->script = optarg; break;
+    case 't': words->tree = optarg; break;
+    case 'w': words->hidden |= feature(optarg); break;
+    default: exit(2);
+    }
+}
+
+struct words words_of(int argc, char **argv)
+{
+    struct words words = {
+        .to = ".", .script = "", .cache = 1024, .outlet = 0x8000, .cycles = 4000000000, .shown = -1,
+    };
+    int option;
+    while ((option = getopt_long(argc, argv, "", OPTIONS, NULL)) != -1)
+        take(&words, option);
+    words.guests = argv + optind;
+    words.count = argc - optind;
+    if (words.kernel == NULL || words.tree == NULL || words.count == 0 || words.count > GUESTS)
+        fail("--kernel, --tree and one to sixteen guests are wanted");
+    return words;
+}

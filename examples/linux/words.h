@@ -1,0 +1,29 @@
+/* The words of the command; main.c says what they are. */
+#ifndef WORDS_H
+#define WORDS_H
+
+#include <stdbool.h>
+#include <stddef.h>
+#include <stdint.h>
+
+struct words {
+    const char *kernel, *tree;
+    const char *to;     /* the folder of the guests' files */
+    const char *script; /* the lines that are typed, one at each prompt */
+    const char *record;
+    uint32_t cache, outlet;
+    uint64_t hidden; /* feature bits that no driver is shown */
+    uint64_t cycles; /* a guest that isn't off after so many is left */
+    bool late, copies, interactive, quiet;
+    int shown; /* the one guest on the screen, or -1 for all */
+    char *const *guests;
+    size_t count;
+};
+
+/* Ends the process where the words aren't as they should be. */
+struct words words_of(int argc, char **argv);
+
+/* Says what went wrong, and ends the process. */
+_Noreturn void fail(const char *what);
+
+#endif
