@@ -17,7 +17,7 @@ class Probes:
 
     def __init__(self, guest, driver):
         self.guest, self.driver, self.dice = guest, driver, guest.dice
-        self.ways = [self.failed, self.far, self.far]
+        self.ways = [self.failed, self.failed_first, self.far, self.far]
         if driver.offered.high & RING_PACKED and driver.offered.block & EVENT_IDX:
             self.ways += [self.more_than_n] * 2
         if guest.slot.count >= LONG_READS[-1]:
@@ -72,18 +72,50 @@ class Probes:
         """FAILED: the registers go on, and nothing is served."""
         guest, queue = self.guest, self.bring_up_alike(4)
         byte = queue.buffer(1)
-        guest.put(byte, b"\xff")
         self.offer_one(queue, [(byte, 1, WRITE)])
+        self.notify()
         guest.write("b", STATUS, FAILED | LIVE, reply="done")
         self.status_is(FAILED | LIVE)
+        for acknowledged, left in [(2, 1), (1, 0)]:
+            guest.write("b", 0x064, acknowledged)
+            guest.read("b", INTERRUPT_STATUS, found=left)
         guest.write("b", 0x030, 0)
-        for size, is_ready in [(0x101, 0), (4, 1)]:
+        self.made_ready_again(queue)
+        guest.write("b", STATUS, LIVE)
+        self.left_alone(queue, byte)
+
+    def made_ready_again(self, queue):
+        """The queue is stopped, can't be made ready with a wrong part, and can with the right one."""
+        guest, low = self.guest, queue.at % (1 << 32)
+        offset, area = self.dice.choice([(0x080, queue.at), (0x090, queue.driver_area), (0x0A0, queue.device_area)])
+        for register, wrong, right in [(0x038, 0x101, 4), (offset, low + 1, area), (offset + 4, (area >> 32) + 1, area >> 32)]:
             guest.write("b", QUEUE_READY, 0)
             guest.read("b", QUEUE_READY, found=0)
-            guest.write("b", 0x038, size)
-            guest.write("b", QUEUE_READY, 1)
-            guest.read("b", QUEUE_READY, found=is_ready)
+            for value, is_ready in [(wrong, 0), (right, 1)]:
+                guest.write("b", register, value)
+                guest.write("b", QUEUE_READY, 1)
+                guest.read("b", QUEUE_READY, found=is_ready)
+
+    def failed_first(self):
+        """FAILED before the features: a driver comes up all the same, and isn't served."""
+        guest, driver, queue = self.guest, self.driver, self.bring_up_alike(4)
+        for status in [0, 1, FAILED | 3]:
+            guest.write("b", STATUS, status)
+        for selector, word in [(0, driver.low), (1, driver.high)]:
+            guest.write("b", 0x024, selector)
+            guest.write("b", 0x020, word)
+        guest.write("b", STATUS, 0xB)
+        self.status_is(FAILED | 0xB)
+        queue.set_up()
+        guest.read("b", QUEUE_READY, found=1)
         guest.write("b", STATUS, LIVE)
+        self.left_alone(queue, queue.buffer(1))
+
+    def left_alone(self, queue, byte):
+        """A failed window that is live but for that serves no chain."""
+        guest = self.guest
+        guest.put(byte, b"\xff")
+        self.offer_one(queue, [(byte, 1, WRITE)])
         self.notify()
         self.status_is(FAILED | LIVE)
         guest.read("b", INTERRUPT_STATUS, found=0)

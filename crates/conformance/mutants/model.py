@@ -100,6 +100,10 @@ class Cache:
         self.image.write(sector, new)
         self.keep(sector, new)
 
+    def zero(self, sector):
+        self.kept.pop(sector, None)
+        self.image.write(sector, bytes(SECTOR))
+
     def flush(self):
         self.image.flush()
 
@@ -572,7 +576,7 @@ class Slot:
         zeroed = [sector + one for sector, count, _ in segments for one in range(count)]
         try:
             for sector in zeroed:
-                self.cache.write(self.start + sector, bytes(SECTOR))
+                self.cache.zero(self.start + sector)
         except ImageFails:
             return IOERR
         return self.flush()
