@@ -18,7 +18,7 @@
 #include "trace.h"
 
 enum { SECTOR = 512, TAKEN_AT_ONCE = 1 << 16 };
-static const uint32_t OUTLETS[] = { 0, 1, 64, 300, 4095, 1 << 16 };
+static const uint32_t OUTLETS[] = { 1 << 16, 300, 4095, 1, 1000, 0 };
 
 /* ---- the trace, read once */
 
@@ -211,7 +211,7 @@ static struct kalyubos_slot slot_of(size_t guest, uint64_t start)
     const struct guest *it = &trace.guests[guest];
     return (struct kalyubos_slot){
         .base = it->base, .len = it->len, .start = start, .count = it->count, .cols = it->cols, .rows = it->rows,
-        .outlet = OUTLETS[(seed + guest) % (sizeof OUTLETS / sizeof *OUTLETS)], .read_only = it->read_only,
+        .outlet = OUTLETS[(seed / MOST_GUESTS + guest) % (sizeof OUTLETS / sizeof *OUTLETS)], .read_only = it->read_only,
     };
 }
 

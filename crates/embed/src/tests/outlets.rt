@@ -259,6 +259,61 @@ fn a_full_outlet_is_its_own_guests(rt: HostRuntime) -> Result<(), Fail> {
     Ok(())
 }
 
+/// Guest 0's outlet has room for 256 chains of 64 KiB, and guest 1's for a byte.
+fn two_outlets() -> [GuestSpec; 2] {
+    [
+        GuestSpec {
+            slot: slot(0),
+            outlet: 0x100_0000,
+        },
+        GuestSpec {
+            slot: slot(4),
+            outlet: 1,
+        },
+    ]
+}
+
+/// Guest 0 offers 256 chains, each of all its memory, and then as many again, of which it notifies thrice; and guest 1
+/// writes two bytes.
+const FOUR_TRANSMITS: [Row; 10] = [
+    (
+        0,
+        Act::Store(BASE + 0x1000, &[0, 0, 0, 0x80, 0, 0, 0, 0, 0, 0, 1]),
+        Ok(0),
+    ),
+    (0, Act::Store(BASE + 0x2002, &[0, 1]), Ok(0)),
+    (0, Act::Set(CONSOLE, 0x050, 1), Ok(0)),
+    (0, Act::Store(BASE + 0x2002, &[0, 2]), Ok(0)),
+    (0, Act::Set(CONSOLE, 0x050, 1), Err(Refusal::NoRoom)),
+    (0, Act::Set(CONSOLE, 0x050, 1), Err(Refusal::NoRoom)),
+    (0, Act::Set(CONSOLE, 0x050, 1), Err(Refusal::NoRoom)),
+    (0, Act::Set(CONSOLE, 0x108, 0x41), Err(Refusal::NoRoom)),
+    (1, Act::Set(CONSOLE, 0x108, 0x68), Ok(0)),
+    (1, Act::Set(CONSOLE, 0x108, 0x69), Err(Refusal::NoRoom)),
+];
+
+/// Over a heap of 64 MiB more than the session takes.
+#[test]
+fn four_transmits_leave_the_other_its_byte(rt: HostRuntime) -> Result<(), Fail> {
+    let heap = LocalHeap::new(rt.alloc(), 0x640_0000)?;
+    let image = eight_sectors(rt.alloc())?;
+    let mut session = Session::new(&heap, &two_outlets(), &image, 8)?;
+    let used = heap.used();
+    assert!(rt; heap.free() >= 0x400_0000);
+    check_as_slot_0(&rt, &mut session, &TRANSMIT[..9]);
+    check_row(
+        &rt,
+        &mut session,
+        &(0, Act::Set(CONSOLE, 0x038, 256), Ok(0)),
+    );
+    check_as_slot_0(&rt, &mut session, &TRANSMIT[10..15]);
+    check_rows(&rt, &mut session, &FOUR_TRANSMITS);
+    let mut text = *b"..";
+    assert!(rt; session.take_output(1, &mut text) == Some(1) && text == *b"h.");
+    assert!(rt; heap.used() == used);
+    Ok(())
+}
+
 /// All memory is given back with the session, and with the image that it leaves.
 #[test]
 fn what_a_session_took_is_given_back(rt: HostRuntime) -> Result<(), Fail> {
