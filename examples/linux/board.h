@@ -1,4 +1,4 @@
-/* The board behind the machines: the library's calls, one board for the process. Whoever is refused is told and ends. */
+/* The board behind the machines: the library's calls, one board for the process. A refusal ends the process. */
 #ifndef BOARD_H
 #define BOARD_H
 

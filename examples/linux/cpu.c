@@ -275,7 +275,8 @@ static uint64_t immediate_b(uint32_t word)
 
 static uint64_t immediate_j(uint32_t word)
 {
-    return extended((word >> 31) << 20 | (word >> 12 & 255) << 12 | (word >> 20 & 1) << 11 | (word >> 21 & 1023) << 1, 21);
+    uint32_t high = (word >> 31) << 20 | (word >> 12 & 255) << 12;
+    return extended(high | (word >> 20 & 1) << 11 | (word >> 21 & 1023) << 1, 21);
 }
 
 static void illegal(struct cpu *cpu, uint32_t word)

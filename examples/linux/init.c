@@ -1,7 +1,7 @@
 /*
- * The guest's only program, without a C library (the kernel's nolibc). It writes and reads files and the raw disk behind
- * the file system, says what it found, then answers lines from the console until it is told to go off. Each line that
- * begins with "good" or "bad" is a check.
+ * The guest's only program, without a C library (the kernel's nolibc). It writes and reads files and the raw disk
+ * behind the file system, says what it found, then answers lines from the console until it is told to go off. Each
+ * line that begins with "good" or "bad" is a check.
  */
 #include <linux/fs.h>
 #include <stdbool.h>

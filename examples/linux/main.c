@@ -251,7 +251,8 @@ static bool report_guest(size_t index)
 {
     struct machine *machine = &guests[index].machine;
     FILE *report = create(index, "report");
-    fprintf(report, "%s after %llu cycles\n", machine->off ? "off" : "still on", (unsigned long long)machine->cpu.cycles);
+    fprintf(report, "%s after %llu cycles\n", machine->off ? "off" : "still on",
+            (unsigned long long)machine->cpu.cycles);
     report_window(report, "block", &machine->counts[0]);
     report_window(report, "console", &machine->counts[1]);
     fprintf(report, "memory: %016llx\n", (unsigned long long)sum_of(board_memory(index), MEMORY_LEN));

@@ -29,7 +29,7 @@ struct seen {
 static FILE *trace, *records;
 static struct seen seen[SLOTS];
 
-/* Whether a call is one to write down: an event may name a slot that isn't there, and this file writes none of those. */
+/* Whether a call is one to write down: those that name a slot that isn't there are none. */
 static bool writes(uint8_t slot)
 {
     return trace != NULL && slot < SLOTS && seen[slot].left != NULL;
