@@ -112,13 +112,22 @@ static void take(struct seat *seat, size_t room)
     taken_in_all += taken;
 }
 
+static void tell_pending(struct told *told, const struct kalyubos_pending *pending)
+{
+    tell_number(told, pending->block);
+    tell_number(told, pending->console);
+    tell_number(told, pending->output);
+}
+
 static void write_register(struct seat *seat, const struct event *event)
 {
+    struct kalyubos_pending pending = { 0 };
     uint32_t answer;
     do {
         answer = kalyubos_write(seat->board, seat->slot, (uint8_t)event->window, (uint16_t)event->offset,
-                                (uint8_t)event->width, event->value);
+                                (uint8_t)event->width, event->value, &pending);
         tell_number(&seat->told, answer);
+        tell_pending(&seat->told, &pending);
         refused += answer == KALYUBOS_NO_ROOM;
         if (answer == KALYUBOS_NO_ROOM)
             take(seat, chance(seat, chance(seat, 2) ? 100 : TAKEN_AT_ONCE));
@@ -149,6 +158,7 @@ static void act(struct seat *seat, const struct event *event)
     static const uint8_t none[1];
     const uint8_t *bytes = event->bytes != NULL ? event->bytes : none;
     struct told *told = &seat->told;
+    struct kalyubos_pending pending = { 0 };
     uint32_t value = 0;
     size_t took = 0;
     switch (event->kind) {
@@ -163,10 +173,14 @@ static void act(struct seat *seat, const struct event *event)
         tell_number(told, kalyubos_write_memory(seat->board, seat->slot, event->address, bytes, event->len));
         break;
     case INPUT:
-        tell_number(told, kalyubos_input(seat->board, seat->slot, bytes, event->len, &took));
+        tell_number(told, kalyubos_input(seat->board, seat->slot, bytes, event->len, &took, &pending));
         tell_number(told, took);
+        tell_pending(told, &pending);
         break;
-    case RESIZE: tell_number(told, kalyubos_resize(seat->board, seat->slot, event->cols, event->rows)); break;
+    case RESIZE:
+        tell_number(told, kalyubos_resize(seat->board, seat->slot, event->cols, event->rows, &pending));
+        tell_pending(told, &pending);
+        break;
     }
     look(seat);
     if (chance(seat, 8) == 0)
@@ -284,8 +298,9 @@ static void print_features(void)
     struct kalyubos_slot slot = { .base = 0, .len = 0x1000, .count = 1 };
     make(&board, &slot, 1, image, SECTOR, 1);
     for (uint32_t i = 0; i < 3; i++) {
+        struct kalyubos_pending pending;
         uint32_t word = 0;
-        kalyubos_write(&board, 0, windows[i], 0x014, 4, i == 2);
+        kalyubos_write(&board, 0, windows[i], 0x014, 4, i == 2, &pending);
         kalyubos_read(&board, 0, windows[i], 0x010, 4, &word);
         printf("v:%08" PRIx32 "\n", word);
     }

@@ -11,7 +11,8 @@ static uint8_t image[512];
 
 static uint32_t set(struct kalyubos *board, uint16_t offset, uint32_t value)
 {
-    return kalyubos_write(board, 0, KALYUBOS_CONSOLE, offset, 4, value);
+    struct kalyubos_pending pending;
+    return kalyubos_write(board, 0, KALYUBOS_CONSOLE, offset, 4, value, &pending);
 }
 
 static void store(struct kalyubos *board, uint64_t addr, const void *from, size_t len)
