@@ -88,7 +88,8 @@ class Probes:
         """The queue is stopped, can't be made ready with a wrong part, and can with the right one."""
         guest, low = self.guest, queue.at % (1 << 32)
         offset, area = self.dice.choice([(0x080, queue.at), (0x090, queue.driver_area), (0x0A0, queue.device_area)])
-        for register, wrong, right in [(0x038, 0x101, 4), (offset, low + 1, area), (offset + 4, (area >> 32) + 1, area >> 32)]:
+        parts = [(0x038, 0x101, 4), (offset, low + 1, area), (offset + 4, (area >> 32) + 1, area >> 32)]
+        for register, wrong, right in parts:
             guest.write("b", QUEUE_READY, 0)
             guest.read("b", QUEUE_READY, found=0)
             for value, is_ready in [(wrong, 0), (right, 1)]:

@@ -43,8 +43,17 @@ fn words_of(heap: Global, words: &[&str]) -> Result<Vec<String>, AllocError> {
 
 /// An image of eight sectors, in which each byte of sector k is hex 10 + k.
 fn numbered_image(heap: Global) -> Result<Vec<u8>, AllocError> {
+    sectors_below(heap, 0x18)
+}
+
+/// The same of twelve sectors, more than an image of zeros has.
+fn wide_image(heap: Global) -> Result<Vec<u8>, AllocError> {
+    sectors_below(heap, 0x1c)
+}
+
+fn sectors_below(heap: Global, end: u8) -> Result<Vec<u8>, AllocError> {
     let mut bytes = Vec::new(heap);
-    for sector in 0x10..0x18 {
+    for sector in 0x10..end {
         bytes.extend_from_slice(&[sector; 512])?;
     }
     Ok(bytes)

@@ -4,7 +4,7 @@ use super::disk::{Disk, Held};
 use super::machine::Machine;
 use super::{TRACE, numbered_image, same, words_of};
 use crate::program::program_in;
-use std::alloc::Allocator;
+use std::alloc::{AllocError, Allocator, Global};
 use std::process::Abort;
 use std::test::Fail;
 
@@ -30,6 +30,15 @@ pub enum Image {
     Numbered,
     /// 513 zeros.
     Ragged,
+}
+
+impl Image {
+    fn bytes(self, heap: Global) -> Result<Vec<u8>, AllocError> {
+        match self {
+            Image::Numbered => numbered_image(heap),
+            Image::Ragged => vec![in heap; 0; 513],
+        }
+    }
 }
 
 /// A replay over files that saves, of which nothing fails.
@@ -59,10 +68,7 @@ pub fn made<A: Allocator + Copy>(
     heap: A,
     call: Call<'_>,
 ) -> Result<Done, Fail> {
-    let image = match call.image {
-        Image::Numbered => numbered_image(rt.alloc())?,
-        Image::Ragged => vec![in rt.alloc(); 0; 513]?,
-    };
+    let image = call.image.bytes(rt.alloc())?;
     let disk = Disk::new(rt.alloc(), call.trace, &image, call.fails_from, call.most)?;
     let machine = Machine::new(rt.alloc(), call.input, call.room, call.is_silent, &disk);
     let words = words_of(rt.alloc(), call.words)?;
@@ -79,7 +85,7 @@ pub fn made<A: Allocator + Copy>(
 /// The end of a call that saves nothing: its output, its status, and how many calls of the files there were.
 pub type End<'a> = (&'a [u8], u8, u32);
 
-/// The call ends so, and `saved` is as it was.
+/// The call ends so, and `saved` and the image are as they were.
 pub fn expect_end(
     rt: &(impl Abort + AllocGlobal),
     call: Call<'_>,
@@ -88,11 +94,13 @@ pub fn expect_end(
     let done = made(rt, rt.alloc(), call)?;
     let found = (done.output.as_slice(), done.status, done.held.calls);
     same(rt, &call.words, &found, &end);
+    let image = call.image.bytes(rt.alloc())?;
+    let held = (done.held.saved.as_slice(), done.held.image.as_slice());
     same(
         rt,
         &call.words,
-        &done.held.saved.as_slice(),
-        &b"kept".as_slice(),
+        &held,
+        &(b"kept".as_slice(), image.as_slice()),
     );
     Ok(())
 }

@@ -107,11 +107,11 @@ fn expect_told(rt: &(impl Abort + AllocGlobal), row: &Told) -> Result<(), Fail> 
     Ok(())
 }
 
-/// A driver that sets a split queue of four up, reads the last sector into its memory, puts four other bytes in
-/// front of what it read, and writes that back.
+/// A driver of the last eight of twelve sectors that sets a split queue of four up, reads the last one into its memory,
+/// puts four other bytes in front of what it read, and writes that back.
 pub(super) const LAST_SECTOR: &[u8] = b"vreplay 1\n\
 cache 8\n\
-slot 80000000 10000 0 8 rw 50 19\n\
+slot 80000000 10000 4 8 rw 50 19\n\
 w 0 b 070 4 00000003\n\
 w 0 b 024 4 00000001\n\
 w 0 b 020 4 00000001\n\
@@ -159,7 +159,7 @@ pub(super) const LAST_RECORDS: &[u8] = b"0 done - 0 0\n\
 0 done - 0 0\n\
 0 done - 0 0\n\
 0 done - 1 0\n\
-0 b:1717171700 - 1 0\n\
+0 b:1b1b1b1b00 - 1 0\n\
 0 b:00 - 1 0\n\
 0 done - 1 0\n\
 0 done - 1 0\n\

@@ -2,13 +2,14 @@
 
 use super::in_place::{LAST_RECORDS, LAST_SECTOR};
 use super::written::{Left, WRITING, WRITTEN, expect_bytes};
-use super::{RECORDS, TRACE, UNSAVED, numbered_image, same};
+use super::{RECORDS, TRACE, UNSAVED, numbered_image, same, wide_image};
 use crate::fault::Fault;
 use crate::files::replay_files;
 use crate::last_line::end;
 use crate::words::{Call, Keeping};
 use sector_cache::BackingFile;
 use std::fs;
+use std::fs::OpenOptions;
 use std::process::Abort;
 use std::rt::{Env, Files};
 use std::test::Fail;
@@ -48,6 +49,7 @@ fn put(
 fn make_files(rt: &(impl AllocGlobal + Files), folder: &str, trace: &[u8]) -> Result<(), Fail> {
     put(rt, folder, "trace", trace)?;
     put(rt, folder, "image", &numbered_image(rt.alloc())?)?;
+    put(rt, folder, "wide", &wide_image(rt.alloc())?)?;
     put(rt, folder, "no_text", b"vreplay 1\ncache 1\n\xff\xfe\n")?;
     put(rt, folder, "ragged", &[0; 513])?;
     put(rt, folder, "short", &[0; 511])?;
@@ -117,8 +119,9 @@ const INPUT: &[u8] = b"fault input\n";
 type End = (Names<'static>, &'static [u8], u8);
 
 /// `.` is the folder, and no file is called `missing`.
-static ENDS: [End; 19] = [
+static ENDS: [End; 20] = [
     (("trace", "image", PLAIN), RECORDS, 0),
+    (("trace", "empty", SAVED), b"fault board ExtentOutside\n", 1),
     (("trace", "empty", PLAIN), b"fault board ExtentOutside\n", 1),
     (("trace", "ragged", SAVED), INPUT, 3),
     (("trace", "missing", SAVED), INPUT, 3),
@@ -180,7 +183,7 @@ type Row = (
     Left,
 );
 
-static LEFT: [Row; 6] = [
+static LEFT: [Row; 7] = [
     // a file is made, one that was longer is made anew, and the image's own is
     (
         TRACE,
@@ -212,6 +215,15 @@ static LEFT: [Row; 6] = [
     // what a guest wrote stands in the file that is saved to, and in the image's own only where that is the one
     (
         WRITING,
+        ("trace", "image", PLAIN),
+        WRITTEN,
+        0,
+        "saved",
+        Left::Kept,
+        Left::Numbered,
+    ),
+    (
+        WRITING,
         ("trace", "image", Keeping::Saved("made")),
         WRITTEN,
         0,
@@ -228,15 +240,15 @@ static LEFT: [Row; 6] = [
         Left::Kept,
         Left::Written,
     ),
-    // the last sector of a file is read and written in place, and no other byte of it changes
+    // the last of twelve sectors of a file is read and written in place, and no other byte of it changes
     (
         LAST_SECTOR,
-        ("trace", "image", IN_PLACE),
+        ("trace", "wide", IN_PLACE),
         LAST_RECORDS,
         0,
-        "saved",
-        Left::Kept,
+        "wide",
         Left::LastWritten,
+        Left::Numbered,
     ),
 ];
 
@@ -245,6 +257,17 @@ fn what_is_left(rt: HostRuntime) -> Result<(), Fail> {
     for row in &LEFT {
         expect_row(&rt, row)?;
     }
+    Ok(())
+}
+
+/// A sync asks the system, which has none for what isn't a file.
+#[test]
+fn a_sync_of_what_has_none(rt: HostRuntime) -> Result<(), Fail> {
+    let mut file = OpenOptions::new()
+        .read(true)
+        .write(true)
+        .open(&rt, "/dev/null")?;
+    same(&rt, &"/dev/null", &file.sync().is_err(), &true);
     Ok(())
 }
 

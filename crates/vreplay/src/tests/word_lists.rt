@@ -174,7 +174,7 @@ fn words_that_name_no_call(rt: HostRuntime) -> Result<(), Fail> {
 type Line = (&'static [&'static str], usize, &'static [u8], u8);
 
 /// The last line is the program's own.
-static LINES: [Line; 15] = [
+static LINES: [Line; 16] = [
     (&["--help"], 1000, b"fault usage\n", 2),
     (&["--help"], 11, b"", 3),
     (&["--help"], 0, b"", 3),
@@ -184,6 +184,12 @@ static LINES: [Line; 15] = [
     (&["trace"], 1000, b"fault usage\n", 2),
     (&["trace"], 11, b"", 3),
     (&["trace"], 0, b"", 3),
+    (
+        &["trace", "image", "--in-place", "--in-place"],
+        1000,
+        b"fault usage\n",
+        2,
+    ),
     (&["trace", "image", "--save"], 1000, b"fault usage\n", 2),
     (&["trace", "image", "--save"], 11, b"", 3),
     (&["trace", "image", "--save"], 0, b"", 3),

@@ -1,7 +1,7 @@
 //! A guest writes a sector, and what is saved.
 
 use super::calls::{Call, SAVING, made};
-use super::{numbered_image, same};
+use super::{numbered_image, same, wide_image};
 use std::alloc::{AllocError, Global};
 use std::process::Abort;
 use std::test::Fail;
@@ -87,12 +87,12 @@ pub(super) fn written_image(heap: Global) -> Result<Vec<u8>, AllocError> {
     Ok(bytes)
 }
 
-/// The numbered image with four other bytes in front of its last sector.
+/// The wide image with four other bytes in front of its last sector.
 fn last_written_image(heap: Global) -> Result<Vec<u8>, AllocError> {
-    let mut bytes = numbered_image(heap)?;
-    bytes.truncate(7 * 512);
+    let mut bytes = wide_image(heap)?;
+    bytes.truncate(11 * 512);
     bytes.extend_from_slice(b"ABCD")?;
-    bytes.extend_from_slice(&[0x17; 508])?;
+    bytes.extend_from_slice(&[0x1b; 508])?;
     Ok(bytes)
 }
 
@@ -170,7 +170,7 @@ pub(super) enum Left {
     Numbered,
     /// The same with the sector of `WRITING`.
     Written,
-    /// The same with the front of the last sector that a guest writes in place.
+    /// The wide image with the front of the last sector that a guest writes in place.
     LastWritten,
 }
 
@@ -196,9 +196,24 @@ type Row = (
 
 const SAVED: &[&str] = &["trace", "image", "--save", "saved"];
 
-static ROWS: [Row; 3] = [
+static ROWS: [Row; 5] = [
+    // what a guest writes is saved nowhere where that isn't asked
+    (
+        &["trace", "image"],
+        WRITING,
+        WRITTEN,
+        Left::Kept,
+        Left::Numbered,
+    ),
     // FILE holds the image as the guest left it, and IMAGE what it held before
     (SAVED, WRITING, WRITTEN, Left::Written, Left::Numbered),
+    (
+        &["--save=saved", "trace", "image"],
+        WRITING,
+        WRITTEN,
+        Left::Written,
+        Left::Numbered,
+    ),
     // FILE may be IMAGE
     (
         &["trace", "image", "--save", "image"],
