@@ -1,6 +1,6 @@
 # The two commands of the README, the library and its installing, the measurements, tries from outside, the hosts of the
-# library, and the suite.
-.PHONY: run test library install uninstall bench fuzz broken trouble embed linux linux-test stress doors peer mutants
+# library, and the suite. The first sentence above a target is its line in make help.
+.PHONY: run test help library install uninstall bench fuzz broken trouble embed linux linux-test stress doors peer mutants
 
 TRACE ?= examples/two-guests.trace
 IMAGE ?=
@@ -24,6 +24,11 @@ run:
 # The gate: every proof from nothing, the must-fail edits, the tests and the programs.
 test:
 	@rt ci
+
+# Lists what there is to make.
+help:
+	@awk '/^#/ { text = text substr($$0, 2); next } /^[a-z-]+:/ && text { sub(/:.*/, ""); sub(/\. .*|\.$$/, "", text); \
+		printf "make %-11s%s\n", $$0, text } { text = "" }' $(firstword $(MAKEFILE_LIST))
 
 # Proves and builds the library for C.
 library:

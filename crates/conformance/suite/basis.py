@@ -7,7 +7,6 @@ import re
 from .scenarios import CRATE, Broken
 
 PAGE = os.path.join(CRATE, "STANDARD.md")
-DOCS = os.path.join(os.path.dirname(os.path.dirname(CRATE)), "docs")
 SECTION = re.compile(r"(?<![\d.])\d+(?:\.\d+)+(?![\d.]*\d)|(?<![\w.])6(?=[,)]|$)")
 NOTE = re.compile(r"\(([^()]*)\)")
 NAME = re.compile(r"`([^`]*)`")
@@ -73,11 +72,9 @@ def judged(suite):
 def of_rules(rules):
     """The basis of each rule, in their order, and what is wrong with the page."""
     headings = dict(rows("Rules"))
-    lines = {document: lines_of(document) for document in {rule.document for rule in rules}}
     found = []
     for rule in rules:
-        basis = noted(rule.sentence) or noted(next((line for heading, line in lines[rule.document]
-                                                    if heading == rule.heading and rule.sentence in line), ""))
+        basis = noted(rule.sentence.text) or noted(rule.sentence.line)
         basis = basis or headings.get(f"{rule.document}, {rule.heading}")
         found.append(Basis(basis) if basis else None)
     wrong = [f"RULES.md:{rule.line}: no basis: {rule.heading} has no row in STANDARD.md"
@@ -94,14 +91,3 @@ def noted(text):
     if not sections:
         return "ours" if ours else None
     return ", ".join(dict.fromkeys(sections)) + (", and ours in part" if ours else "")
-
-
-def lines_of(document):
-    """Each line of a document with its heading."""
-    heading, found = "", []
-    with open(os.path.join(DOCS, document), encoding="utf-8") as page:
-        for line in page:
-            if line.startswith("#"):
-                heading = line.lstrip("#").strip()
-            found.append((heading, line))
-    return found
