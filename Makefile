@@ -1,6 +1,6 @@
 # The two commands of the README, the library and its installing, the measurements, tries from outside, the hosts of the
 # library, and the suite. The first sentence above a target is its line in make help.
-.PHONY: run test help library install uninstall bench fuzz broken trouble embed linux linux-test stress doors peer mutants
+.PHONY: run test help library install uninstall bench fuzz broken trouble embed linux linux-test linux-picture stress doors peer mutants
 
 TRACE ?= examples/two-guests.trace
 IMAGE ?=
@@ -71,13 +71,17 @@ embed:
 	@examples/embed/run
 
 # Boots Linux on the board: two guests, their consoles side by side. GUEST=0 shows one of them, INTERACTIVE=1 gives a
-# person the console of guest 0, and RECORD=FILE writes what the guests did as a trace.
+# person the console of guest 0, RECORD=FILE writes what the guests did as a trace, and DISK=FILE keeps guest 0's disk.
 linux:
 	@examples/linux/run
 
 # Boots it in many ways, and prints a line for each check.
 linux-test:
 	@examples/linux/test
+
+# Boots it once more, and draws both consoles as examples/linux/boot.svg.
+linux-picture:
+	@examples/linux/picture
 
 # Calls the library ten million times at random from C, under a heap that refuses, and beside vreplay; and from four
 # threads.

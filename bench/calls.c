@@ -9,12 +9,13 @@
 #include "kalyubos.h"
 
 enum {
-    ROUNDS = 40, READS = 1000000, REQUESTS = 20000, COPIES = 20000, LEN = 4096, OUTLET = 0x8000, SECTORS = 65536,
+    MOST = 64, ROUNDS = 40, READS = 1000000, REQUESTS = 20000, COPIES = 20000, LEN = 4096, OUTLET = 0x8000, SECTORS = 65536,
 };
 static const uint64_t MEMORY = 0x80000000, TABLE = 0x80001000, AVAIL = 0x80002000, HEADER = 0x80004000,
                       ZEROES = 0x80005000, DATA = 0x80010000;
 
 static struct kalyubos board;
+static uint8_t guest; /* whose calls are timed: the board's last */
 static uint8_t image[SECTORS * 512], buffer[LEN], other[LEN], *memory;
 static uint16_t idx;
 
@@ -29,7 +30,7 @@ static void must(uint32_t answer)
 static void set_of(uint8_t window, uint16_t offset, uint32_t value)
 {
     struct kalyubos_pending pending;
-    must(kalyubos_write(&board, 0, window, offset, 4, value, &pending));
+    must(kalyubos_write(&board, guest, window, offset, 4, value, &pending));
 }
 
 static void set(uint16_t offset, uint32_t value)
@@ -40,7 +41,7 @@ static void set(uint16_t offset, uint32_t value)
 static void descriptor(int place, uint64_t addr, uint32_t len, uint16_t flags, uint16_t next)
 {
     struct { uint64_t addr; uint32_t len; uint16_t flags, next; } it = { addr, len, flags, next };
-    must(kalyubos_write_memory(&board, 0, TABLE + 16 * (uint64_t)place, (const uint8_t *)&it, sizeof it));
+    must(kalyubos_write_memory(&board, guest, TABLE + 16 * (uint64_t)place, (const uint8_t *)&it, sizeof it));
 }
 
 /* A driver with a queue of four, whose every chain is one IN of the first 4 KiB. */
@@ -65,7 +66,7 @@ static void bring_up_console(void)
     for (size_t i = 0; i < sizeof steps / sizeof *steps; i++)
         set_of(KALYUBOS_CONSOLE, (uint16_t)steps[i][0], steps[i][1]);
     struct { uint64_t addr; uint32_t len; uint16_t flags, next; } it = { DATA, LEN, 0, 0 };
-    must(kalyubos_write_memory(&board, 0, 0x80005000, (const uint8_t *)&it, sizeof it));
+    must(kalyubos_write_memory(&board, guest, 0x80005000, (const uint8_t *)&it, sizeof it));
 }
 
 /* Puts the chain on offer, notifies, and takes what the console put out. */
@@ -74,9 +75,9 @@ static void transmit(void)
     static uint16_t sent;
     size_t taken;
     sent++;
-    must(kalyubos_write_memory(&board, 0, 0x80006002, (const uint8_t *)&sent, 2));
+    must(kalyubos_write_memory(&board, guest, 0x80006002, (const uint8_t *)&sent, 2));
     set_of(KALYUBOS_CONSOLE, 0x50, 1);
-    must(kalyubos_take_output(&board, 0, buffer, LEN, &taken));
+    must(kalyubos_take_output(&board, guest, buffer, LEN, &taken));
     if (taken != LEN)
         must(KALYUBOS_BAD_SLOT);
 }
@@ -84,7 +85,7 @@ static void transmit(void)
 static void read_register(void)
 {
     uint32_t value;
-    must(kalyubos_read(&board, 0, KALYUBOS_BLOCK, 0x004, 4, &value));
+    must(kalyubos_read(&board, guest, KALYUBOS_BLOCK, 0x004, 4, &value));
 }
 
 /* Offers the chain, notifies, reads the request's status and the window's word, and acknowledges. */
@@ -93,10 +94,10 @@ static void request(void)
     uint8_t status;
     uint32_t word;
     idx++;
-    must(kalyubos_write_memory(&board, 0, AVAIL + 2, (const uint8_t *)&idx, 2));
+    must(kalyubos_write_memory(&board, guest, AVAIL + 2, (const uint8_t *)&idx, 2));
     set(0x50, 0);
-    must(kalyubos_read_memory(&board, 0, HEADER + 16, &status, 1));
-    must(kalyubos_read(&board, 0, KALYUBOS_BLOCK, 0x60, 4, &word));
+    must(kalyubos_read_memory(&board, guest, HEADER + 16, &status, 1));
+    must(kalyubos_read(&board, guest, KALYUBOS_BLOCK, 0x60, 4, &word));
     set(0x64, word);
     if (status != 0 || word != 1)
         must(KALYUBOS_BAD_SLOT);
@@ -108,14 +109,14 @@ static void notify_in_place(void)
     struct kalyubos_pending pending;
     idx++;
     memcpy(memory + (AVAIL - MEMORY) + 2, &idx, 2);
-    must(kalyubos_write(&board, 0, KALYUBOS_BLOCK, 0x50, 4, 0, &pending));
+    must(kalyubos_write(&board, guest, KALYUBOS_BLOCK, 0x50, 4, 0, &pending));
     if (memory[HEADER - MEMORY + 16] != 0 || pending.block != 1)
         must(KALYUBOS_BAD_SLOT);
 }
 
 static void copy_out(void)
 {
-    must(kalyubos_read_memory(&board, 0, DATA, buffer, LEN));
+    must(kalyubos_read_memory(&board, guest, DATA, buffer, LEN));
 }
 
 /* The like of it without a board. The compiler can't see what the copy is for. */
@@ -132,8 +133,8 @@ static void turn_to_zeroes(void)
     const uint8_t header_and_segment[32] = { [0] = 13, [26] = SECTORS >> 16 };
     const uint16_t heads[4] = { 3, 3, 3, 3 };
     descriptor(3, ZEROES, sizeof header_and_segment, 1, 2);
-    must(kalyubos_write_memory(&board, 0, ZEROES, header_and_segment, sizeof header_and_segment));
-    must(kalyubos_write_memory(&board, 0, AVAIL + 4, (const uint8_t *)heads, sizeof heads));
+    must(kalyubos_write_memory(&board, guest, ZEROES, header_and_segment, sizeof header_and_segment));
+    must(kalyubos_write_memory(&board, guest, AVAIL + 4, (const uint8_t *)heads, sizeof heads));
 }
 
 /* The like of it without a board. */
@@ -164,14 +165,25 @@ static void time_of(const char *what, void (*work)(void), int count)
     printf("%-52s %8.1f ns\n", what, best);
 }
 
+/* So many guests, of which the last has all sectors. */
+static void open_board(uint8_t guests)
+{
+    struct kalyubos_slot slots[MOST];
+    size_t memory_len;
+    for (uint8_t i = 0; i < guests; i++)
+        slots[i] = (struct kalyubos_slot){
+            .size = sizeof *slots, .base = MEMORY, .len = 0x100000, .count = i + 1 == guests ? SECTORS : 0,
+            .cols = 80, .rows = 25, .outlet = OUTLET,
+        };
+    must(kalyubos_create(&board, slots, guests, image, sizeof image, 8));
+    guest = guests - 1;
+    idx = 0;
+    must(kalyubos_memory(&board, guest, &memory, &memory_len));
+}
+
 int main(void)
 {
-    struct kalyubos_slot slot = {
-        .base = MEMORY, .len = 0x100000, .start = 0, .count = SECTORS, .cols = 80, .rows = 25, .outlet = OUTLET,
-    };
-    must(kalyubos_create(&board, &slot, 1, image, sizeof image, 8));
-    size_t memory_len;
-    must(kalyubos_memory(&board, 0, &memory, &memory_len));
+    open_board(1);
     bring_up();
     bring_up_console();
     time_of("a register read", read_register, READS);
@@ -183,6 +195,11 @@ int main(void)
     turn_to_zeroes();
     time_of("a WRITE_ZEROES of 65536 sectors", request, 1);
     time_of("a memset of as many bytes", fill_alone, 1);
+    must(kalyubos_destroy(&board));
+    open_board(MOST);
+    bring_up();
+    time_of("a register read, of the last of 64 guests", read_register, READS);
+    time_of("a notify with one IN of 4 KiB, memory in place, of it", notify_in_place, REQUESTS);
     must(kalyubos_destroy(&board));
     return 0;
 }

@@ -10,7 +10,7 @@ from collections import namedtuple
 from probes import Probes
 from queues import PackedQueue, SplitQueue
 
-Slot = namedtuple("Slot", "base length start count read_only columns rows")
+Slot = namedtuple("Slot", "base length start count read_only columns rows identity")
 
 # What a board offers its drivers: the low word of each window's features, and the high word of both.
 Offered = namedtuple("Offered", "block console high")
@@ -24,6 +24,7 @@ INDIRECT_DESC, EVENT_IDX, CONSOLE_SIZE, WRITE_ZEROES = 1 << 28, 1 << 29, 1 << 0,
 VERSION_1, RING_PACKED, NOTIFICATION_DATA = 1 << 0, 1 << 2, 1 << 6
 READ, WRITE, FLUSH, IDENTITY, ZERO = 0, 1, 4, 8, 13
 OK, IOERR, UNSUPPORTED = 0, 1, 2
+# The identity of each slot of a trace of version 1.
 IDENTITY_TEXT = b"vreplay-block".ljust(20, b"\0")
 PENDING_LIMIT = 4096
 
@@ -149,7 +150,7 @@ class BlockDriver(Driver):
         guest.put(status, b"\xff")
         written = self.write_sectors(data, sector, is_refused) if what == WRITE else b""
         if what in (READ, IDENTITY) and not is_refused:
-            found = IDENTITY_TEXT if what == IDENTITY else bytes(self.disk[SECTOR * sector:SECTOR * sector + length])
+            found = guest.slot.identity if what == IDENTITY else bytes(self.disk[SECTOR * sector:SECTOR * sector + length])
             self.rely_on(data, found)
         self.asked.append((len(self.checks), what, is_refused, [(sector, written)]))
         self.rely_on([(status, 1)], bytes([IOERR if is_refused else OK]))

@@ -19,18 +19,22 @@ LINES = {
     "sz": [8, 16, 16],
 }
 
+# What stands behind them in version 2.
+ADDED = {"slot": ["identity"]}
+
 CHOICES = {"win": ["b", "c"], "wid": ["1", "2", "4"], "mode": ["rw", "ro"]}
 
 
 def fault_of(text):
     """The first line with a fault and its kind, as (line, kind), or none where `text` (bytes) is a trace."""
     rest, line, had_event = text.decode("latin-1"), 0, False
+    version = 1 if rest.startswith("vreplay 1\n") else 2
     while rest or line < 2:
         line += 1
         cut = rest.find("\n")
         if cut < 0:
             return line, "Cut"
-        kind = fault_in(rest[:cut], line, had_event)
+        kind = fault_in(rest[:cut], line, had_event, version)
         if kind:
             return line, kind
         had_event = had_event or line > 2 and not rest.startswith("slot ")
@@ -38,19 +42,20 @@ def fault_of(text):
     return None
 
 
-def fault_in(text, line, had_event):
+def fault_in(text, line, had_event, version):
     """The kind of fault of one line, or none."""
     if line == 1:
-        return None if text == "vreplay 1" else "Header"
+        return None if text in ("vreplay 1", "vreplay 2") else "Header"
     word, *fields = text.split(" ")
     if word not in LINES or (word == "cache") != (line == 2):
         return "Word"
     if word == "slot" and had_event:
         return "Order"
-    if len(fields) != len(LINES[word]):
+    kinds = LINES[word] + (ADDED.get(word, []) if version == 2 else [])
+    if len(fields) != len(kinds):
         return "Fields"
-    spelled = dict(zip(LINES[word], fields))
-    faults = {fault_of_field(field, kind, spelled.get("wid")) for field, kind in zip(fields, LINES[word])}
+    spelled = dict(zip(kinds, fields))
+    faults = {fault_of_field(field, kind, spelled.get("wid")) for field, kind in zip(fields, kinds)}
     return min(faults - {None}, key=KINDS.index, default=None)
 
 
@@ -60,6 +65,8 @@ def fault_of_field(text, kind, width):
         return None if text in CHOICES[kind] else "Choice"
     if kind == "bytes":
         return None if text == "-" or re.fullmatch("([0-9a-f]{2})+", text) else "Bytes"
+    if kind == "identity":
+        return None if re.fullmatch("[0-9a-f]{40}", text) else "Bytes"
     if kind == "off":
         digits = 3
     elif kind == "val":

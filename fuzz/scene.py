@@ -1,7 +1,7 @@
 """A board with its guests and the order of their events, from a seed."""
 import random
 
-from guests import MEMORIES, SECTOR, Guest, Slot, live
+from guests import IDENTITY_TEXT, MEMORIES, SECTOR, Guest, Slot, live
 
 BASES = [0x80000000, 0x80000000, 0, 0x40000000, (1 << 64) - 0x10000]
 CACHES = [1, 2, 3, 8, 65536]
@@ -17,12 +17,15 @@ class Scene:
 
     def __init__(self, seed, offered):
         self.seed, dice = seed, random.Random(seed)
+        names = random.Random(f"identities {seed}")
+        self.version = names.choice([1, 2])
         self.cache = dice.choice(CACHES)
         self.guests, start = [], dice.randrange(3)
         for _ in range(dice.randrange(*self.GUESTS)):
             length, count = dice.choice(MEMORIES), dice.choice(DISKS)
             base = min(dice.choice(BASES), (1 << 64) - length)
-            slot = Slot(base, length, start, count, dice.random() < 0.2, dice.randrange(200), dice.randrange(100))
+            identity = IDENTITY_TEXT if self.version == 1 else names.randbytes(20)
+            slot = Slot(base, length, start, count, dice.random() < 0.2, dice.randrange(200), dice.randrange(100), identity)
             self.guests.append(Guest(dice, slot, dice.choice(WILDNESS)))
             start += count + dice.choice([0, 0, 1, 2])
         self.image = dice.randbytes(SECTOR * (start + dice.randrange(2)))
@@ -46,19 +49,19 @@ class Scene:
             if dice.random() < 0.01:
                 yield None, dice.choice(STRANGERS).format(f"{dice.randrange(len(done), 256):x}")
 
-    def trace(self, cache=None):
+    def trace(self, cache=None, version=None):
         """The whole trace."""
-        return self.text(cache or self.cache, range(len(self.guests)), [
+        return self.text(version or self.version, cache or self.cache, range(len(self.guests)), [
             what if guest is None else self.event(guest, what, guest) for guest, what in self.lines])
 
     def trace_alone(self, guest):
         """The trace of a board with this guest alone, as its slot 0."""
         count = len(self.guests[guest].events)
-        return self.text(self.cache, [guest], [self.event(guest, number, 0) for number in range(count)])
+        return self.text(self.version, self.cache, [guest], [self.event(guest, number, 0) for number in range(count)])
 
-    def text(self, cache, guests, events):
-        slots = [slot_line(self.guests[guest].slot) for guest in guests]
-        return "\n".join(["vreplay 1", f"cache {cache:x}"] + slots + events) + "\n"
+    def text(self, version, cache, guests, events):
+        slots = [slot_line(self.guests[guest].slot, version) for guest in guests]
+        return "\n".join([f"vreplay {version}", f"cache {cache:x}"] + slots + events) + "\n"
 
     def event(self, guest, number, slot):
         word, fields = self.guests[guest].events[number]
@@ -71,6 +74,7 @@ class Scene:
         return [image[SECTOR * first:SECTOR * last] for first, last in gaps]
 
 
-def slot_line(slot):
+def slot_line(slot, version):
     mode = "ro" if slot.read_only else "rw"
-    return f"slot {slot.base:x} {slot.length:x} {slot.start:x} {slot.count:x} {mode} {slot.columns:x} {slot.rows:x}"
+    identity = f" {slot.identity.hex()}" if version == 2 else ""
+    return f"slot {slot.base:x} {slot.length:x} {slot.start:x} {slot.count:x} {mode} {slot.columns:x} {slot.rows:x}{identity}"

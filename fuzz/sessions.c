@@ -224,8 +224,10 @@ static struct kalyubos_slot slot_of(size_t guest, uint64_t start)
 {
     const struct guest *it = &trace.guests[guest];
     return (struct kalyubos_slot){
-        .base = it->base, .len = it->len, .start = start, .count = it->count, .cols = it->cols, .rows = it->rows,
+        .size = sizeof(struct kalyubos_slot), .base = it->base, .len = it->len, .start = start, .count = it->count,
+        .cols = it->cols, .rows = it->rows,
         .outlet = OUTLETS[(seed / MOST_GUESTS + guest) % (sizeof OUTLETS / sizeof *OUTLETS)], .read_only = it->read_only,
+        .identity = { 'g', (uint8_t)guest },
     };
 }
 
@@ -295,7 +297,7 @@ static void print_features(void)
     static const uint8_t windows[] = { KALYUBOS_BLOCK, KALYUBOS_CONSOLE, KALYUBOS_BLOCK };
     static uint8_t image[SECTOR];
     struct kalyubos board = { NULL };
-    struct kalyubos_slot slot = { .base = 0, .len = 0x1000, .count = 1 };
+    struct kalyubos_slot slot = { .size = sizeof slot, .base = 0, .len = 0x1000, .count = 1 };
     make(&board, &slot, 1, image, SECTOR, 1);
     for (uint32_t i = 0; i < 3; i++) {
         struct kalyubos_pending pending;

@@ -1,5 +1,5 @@
 /*
- * kalyubos.h: up to sixteen guests, each with a block device and a console over virtio-mmio, behind a CPU loop of
+ * kalyubos.h: up to sixty-four guests, each with a block device and a console over virtio-mmio, behind a CPU loop of
  * your own. docs/model.md says what the devices do, and docs/EMBEDDING.md how an exit of a guest becomes a call.
  *
  * `make install` installs it, and `pkg-config --cflags --libs kalyubos` says how to link it. Its heap is malloc's,
@@ -25,6 +25,14 @@
  * Nothing of the caller's is kept: a call copies what it needs. Each answers a number, and after any but
  * KALYUBOS_DONE its out parameters are as they were, but that `pending` is told after KALYUBOS_NO_ROOM as well.
  * The numbers of the answers are fixed for good; a later version only adds some.
+ *
+ * A struct that the host fills begins with its `size`, its sizeof in the header that the host was built with. This
+ * version takes its own size alone, and answers KALYUBOS_BAD_SIZE for any other before it looks at another field. A
+ * later version that this header fits (kalyubos_version) also takes this version's size: a field that was added later
+ * then says what this version does without it. Added fields stand behind all others and make the struct larger. The
+ * structs of an array lie `size` bytes apart, so all have one size. struct kalyubos_pending, which the library fills,
+ * has no size and never changes: a later version tells more by further calls. Nor do the handle and struct
+ * kalyubos_block change.
  *
  * kalyubos_create takes all memory that a board needs, and kalyubos_destroy gives it back. No other call takes or
  * gives any, so no guest can be refused memory for what another did: what a guest sees is decided by its own slot's
@@ -61,14 +69,15 @@ enum {
     KALYUBOS_BAD_WINDOW = 6,        /* no window has this number; nothing changed */
     KALYUBOS_BAD_IMAGE = 7,         /* the image isn't whole sectors of 512 bytes */
     KALYUBOS_NO_SLOTS = 8,          /* a board needs a slot */
-    KALYUBOS_TOO_MANY_SLOTS = 9,    /* a board has sixteen slots at most */
+    KALYUBOS_TOO_MANY_SLOTS = 9,    /* a board has sixty-four slots at most */
     KALYUBOS_BAD_MEMORY_SIZE = 10,  /* a memory's size is no multiple of 4096 from 4096 to 2^28 */
     KALYUBOS_BAD_MEMORY_BASE = 11,  /* a memory's base is no multiple of 4096, or the memory passes 2^64 */
     KALYUBOS_EXTENT_OUTSIDE = 12,   /* an extent passes the image's end */
     KALYUBOS_EXTENTS_OVERLAP = 13,  /* two extents share a sector */
     KALYUBOS_BAD_CACHE = 14,        /* a cache keeps 1 to 65536 sectors */
     KALYUBOS_NO_ROOM = 15,          /* the console's next output doesn't fit behind what waits; see kalyubos_write */
-    KALYUBOS_BAD_OUTLET = 16        /* an outlet keeps 2^24 bytes at most */
+    KALYUBOS_BAD_OUTLET = 16,       /* an outlet keeps 2^24 bytes at most */
+    KALYUBOS_BAD_SIZE = 17          /* a struct has another size than this version's */
 };
 
 /* A slot's windows, each of 4096 bytes. */
@@ -91,19 +100,22 @@ struct kalyubos_pending {
 
 /* One guest. */
 struct kalyubos_slot {
-    uint64_t base;   /* the first address of its memory */
-    uint64_t len;    /* the size of its memory, in bytes */
-    uint64_t start;  /* the first sector of the image that its disk shows */
-    uint64_t count;  /* how many sectors it shows */
-    uint16_t cols;   /* the columns of its console */
-    uint16_t rows;   /* and its rows */
-    uint32_t outlet; /* how many bytes of what it puts out may wait to be taken */
-    bool read_only;  /* whether its disk refuses writes */
+    size_t size;          /* sizeof(struct kalyubos_slot) */
+    uint64_t base;        /* the first address of its memory */
+    uint64_t len;         /* the size of its memory, in bytes */
+    uint64_t start;       /* the first sector of the image that its disk shows */
+    uint64_t count;       /* how many sectors it shows */
+    uint16_t cols;        /* the columns of its console */
+    uint16_t rows;        /* and its rows */
+    uint32_t outlet;      /* how many bytes of what it puts out may wait to be taken */
+    bool read_only;       /* whether its disk refuses writes */
+    uint8_t identity[20]; /* what its disk answers to GET_ID, a shorter text with NULs behind it; Linux's `serial` */
 };
 
 /*
  * Makes a board of `slots_len` slots over a copy of the image, with a cache of at most `cache` sectors before it,
- * and puts it into an empty handle. A refusal leaves the handle as it was and keeps no memory. It is BAD_IMAGE where
+ * and puts it into an empty handle. A refusal leaves the handle as it was and keeps no memory. It is BAD_SIZE where a
+ * slot's `size` isn't sizeof(struct kalyubos_slot), and nothing behind the first such size is read; else BAD_IMAGE where
  * that holds, else BAD_OUTLET, else the first of the numbers from NO_SLOTS to BAD_CACHE that holds, those of a slot
  * looked for slot by slot; NO_MEMORY may come in the place of the latter.
  *

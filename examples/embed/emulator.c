@@ -118,8 +118,8 @@ int main(void)
     strcpy((char *)image, "the first half of the image\n");
     strcpy((char *)image + 2 * 512, "the second half\n");
     struct kalyubos_slot slots[GUESTS] = {
-        { MEMORY, MEMORY_LEN, 0, 2, 80, 25, OUTLET, false },
-        { MEMORY, MEMORY_LEN, 2, 2, 80, 25, OUTLET, false },
+        { sizeof *slots, MEMORY, MEMORY_LEN, 0, 2, 80, 25, OUTLET, false, "first half" },
+        { sizeof *slots, MEMORY, MEMORY_LEN, 2, 2, 80, 25, OUTLET, false, "second half" },
     };
     must(kalyubos_create(&board, slots, GUESTS, image, sizeof image, 8), "create");
 

@@ -174,8 +174,10 @@ int main(void)
     strcpy((char *)image, "the first half of the image\n");
     strcpy((char *)image + 2 * 512, "the second half\n");
     struct kalyubos_slot slots[GUESTS] = {
-        { .len = MEMORY_LEN, .start = 0, .count = 2, .cols = 80, .rows = 25, .outlet = OUTLET },
-        { .len = MEMORY_LEN, .start = 2, .count = 2, .cols = 80, .rows = 25, .outlet = OUTLET },
+        { .size = sizeof *slots, .len = MEMORY_LEN, .start = 0, .count = 2, .cols = 80, .rows = 25, .outlet = OUTLET,
+          .identity = "first half" },
+        { .size = sizeof *slots, .len = MEMORY_LEN, .start = 2, .count = 2, .cols = 80, .rows = 25, .outlet = OUTLET,
+          .identity = "second half" },
     };
     must_do(kalyubos_create(&board, slots, GUESTS, image, sizeof image, 8), "create");
 

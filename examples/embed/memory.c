@@ -121,8 +121,8 @@ int main(void)
 {
     static uint8_t image[GUESTS * SECTORS * SECTOR_LEN];
     struct kalyubos_slot slots[GUESTS] = {
-        { .base = MEMORY, .len = MEMORY_LEN, .start = 0, .count = SECTORS, .outlet = 8 },
-        { .base = MEMORY, .len = MEMORY_LEN, .start = SECTORS, .count = SECTORS, .outlet = 8 },
+        { .size = sizeof *slots, .base = MEMORY, .len = MEMORY_LEN, .start = 0, .count = SECTORS, .outlet = 8 },
+        { .size = sizeof *slots, .base = MEMORY, .len = MEMORY_LEN, .start = SECTORS, .count = SECTORS, .outlet = 8 },
     };
     need(kalyubos_version() == KALYUBOS_VERSION, "the library is of another version than the header");
     need(kalyubos_create(&board, slots, GUESTS, image, sizeof image, 4) == KALYUBOS_DONE, "create");

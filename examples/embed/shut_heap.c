@@ -37,12 +37,19 @@ void rattle_dealloc(void *at)
     free(at);
 }
 
+uint32_t create(struct kalyubos *board, const struct kalyubos_slot *slots, size_t count, const uint8_t *image,
+                size_t image_len, uint32_t cache)
+{
+    is_open = true;
+    uint32_t answer = kalyubos_create(board, slots, count, image, image_len, cache);
+    is_open = false;
+    return answer;
+}
+
 void make(struct kalyubos *board, const struct kalyubos_slot *slots, size_t count, const uint8_t *image,
           size_t image_len, uint32_t cache)
 {
-    is_open = true;
-    need(kalyubos_create(board, slots, count, image, image_len, cache) == KALYUBOS_DONE, "create", count);
-    is_open = false;
+    need(create(board, slots, count, image, image_len, cache) == KALYUBOS_DONE, "create", count);
 }
 
 void end(struct kalyubos *board)

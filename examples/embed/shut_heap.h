@@ -7,7 +7,11 @@
 /* Ends the program with these words where it doesn't hold. */
 void need(bool holds, const char *what, uint64_t number);
 
-/* Makes a board over a copy of the image, with a cache of so many sectors; or ends the program. */
+/* Makes a board over a copy of the image, with a cache of so many sectors, and answers as kalyubos_create does. */
+uint32_t create(struct kalyubos *board, const struct kalyubos_slot *slots, size_t count, const uint8_t *image,
+                size_t image_len, uint32_t cache);
+
+/* Makes one, or ends the program. */
 void make(struct kalyubos *board, const struct kalyubos_slot *slots, size_t count, const uint8_t *image,
           size_t image_len, uint32_t cache);
 

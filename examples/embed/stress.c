@@ -13,7 +13,8 @@
 
 #include "kalyubos.h"
 
-enum { BOARDS = 4, SLOTS = 16, MEMORY_LEN = 0x8000, SECTORS = 64, BUFFER = 2048, MOST_OUTPUT = 1 << 20 };
+enum { BOARDS = 4, SLOTS = 16, MOST = 65 /* one more than a board has */ };
+enum { MEMORY_LEN = 0x8000, SECTORS = 64, BUFFER = 2048, MOST_OUTPUT = 1 << 20 };
 static const uint64_t MEMORY = 0x80000000;
 static const uint32_t OUTLETS[] = { 0, 1, 4095, 1 << 16 };
 
@@ -75,7 +76,7 @@ void rattle_dealloc(void *at)
 
 static struct kalyubos boards[BOARDS];
 static uint8_t image[SECTORS * 512];
-static struct kalyubos_slot slots[SLOTS];
+static struct kalyubos_slot slots[MOST]; /* those behind the first SLOTS have no sectors */
 static FILE *trace, *records;
 static uint64_t waiting; /* how many bytes of output the last call said to wait, of those that are told */
 
@@ -285,9 +286,14 @@ static void make(struct kalyubos *board)
 {
     bool had = board->at != NULL;
     heap_is_open = true;
-    uint32_t answer = kalyubos_create(board, slots, chance(50) ? SLOTS : chance(SLOTS + 2), image, sizeof image,
-                                      chance(50) ? 8 : 0);
+    size_t count = chance(50) ? SLOTS : chance(MOST + 1), which = chance(MOST);
+    bool other_size = chance(50) == 0;
+    slots[which].size += other_size;
+    uint32_t answer = kalyubos_create(board, slots, count, image, sizeof image, chance(50) ? 8 : 0);
+    slots[which].size -= other_size;
     heap_is_open = false;
+    if ((answer == KALYUBOS_BAD_SIZE) != (!had && other_size && which < count))
+        fail("create's sizes", answer);
     if ((answer == KALYUBOS_HAS_BOARD) != had || (answer == KALYUBOS_DONE || had) != (board->at != NULL))
         fail("create", answer);
 }
@@ -336,19 +342,23 @@ static void open_files(const char *trace_path, const char *records_path)
         fail("files", 0);
     for (int i = 0; i < SLOTS; i++)
         slots[i].outlet = MOST_OUTPUT;
-    fprintf(trace, "vreplay 1\ncache 8\n");
-    for (int i = 0; i < SLOTS; i++)
-        fprintf(trace, "slot %" PRIx64 " %x %" PRIx64 " %" PRIx64 " %s %x %x\n", slots[i].base, MEMORY_LEN,
+    fprintf(trace, "vreplay 2\ncache 8\n");
+    for (int i = 0; i < SLOTS; i++) {
+        fprintf(trace, "slot %" PRIx64 " %x %" PRIx64 " %" PRIx64 " %s %x %x ", slots[i].base, MEMORY_LEN,
                 slots[i].start, slots[i].count, slots[i].read_only ? "ro" : "rw", slots[i].cols, slots[i].rows);
+        put_bytes(trace, slots[i].identity, sizeof slots[i].identity);
+        fputc('\n', trace);
+    }
 }
 
 int main(int argc, char **argv)
 {
     uint64_t calls = argc > 1 ? strtoull(argv[1], NULL, 10) : 1000;
     state = 0x9e3779b97f4a7c15 + (argc > 2 ? strtoull(argv[2], NULL, 10) : 0);
-    for (int i = 0; i < SLOTS; i++)
-        slots[i] = (struct kalyubos_slot){ MEMORY, MEMORY_LEN, 4 * (uint64_t)i, 4, 80, 25, OUTLETS[i % 4],
-                                           i % 5 == 4 };
+    for (int i = 0; i < MOST; i++)
+        slots[i] = (struct kalyubos_slot){ sizeof *slots, MEMORY, MEMORY_LEN, i < SLOTS ? 4 * (uint64_t)i : 0,
+                                           i < SLOTS ? 4 : 0, 80, 25, OUTLETS[i % 4], i % 5 == 4,
+                                           { 's', (uint8_t)i, 0xff, [19] = '!' } };
     if (argc > 4)
         open_files(argv[3], argv[4]);
     heap_is_open = true;

@@ -11,7 +11,8 @@
 enum { THREADS = 4, TURNS = 500, MAGIC = 0x74726976, CONSOLE_EMERGENCY = 0x108 };
 
 static const struct kalyubos_slot SLOT = {
-    .base = 0x80000000, .len = 0x10000, .start = 0, .count = 2, .cols = 80, .rows = 25, .outlet = 1,
+    .size = sizeof(struct kalyubos_slot), .base = 0x80000000, .len = 0x10000, .start = 0, .count = 2, .cols = 80,
+    .rows = 25, .outlet = 1, .identity = "disk",
 };
 
 static struct kalyubos shared, own[THREADS];

@@ -3,8 +3,10 @@
 
 #include <stdio.h>
 #include <stdlib.h>
+#include <string.h>
 
 #include "record.h"
+#include "watch.h"
 
 enum { GUESTS = 16, COLUMNS = 80, ROWS = 25 };
 
@@ -35,14 +37,23 @@ static uint8_t *memory_of(uint8_t slot)
     return bytes;
 }
 
+/* The serial of a guest's disk: the name of its file, as far as it fits. */
+static void name_disk(struct kalyubos_slot *slot, const char *path)
+{
+    const char *slash = strrchr(path, '/');
+    const char *name = slash != NULL ? slash + 1 : path;
+    memcpy(slot->identity, name, strnlen(name, sizeof slot->identity));
+}
+
 void board_open(const struct board_settings *wanted)
 {
     struct kalyubos_slot slots[GUESTS];
     uint64_t start = 0;
     settings = *wanted;
     for (size_t i = 0; i < settings.guests; i++) {
-        slots[i] = (struct kalyubos_slot){ MEMORY_BASE, MEMORY_LEN, start, settings.sectors[i], COLUMNS, ROWS,
-                                           settings.outlet, false };
+        slots[i] = (struct kalyubos_slot){ sizeof *slots, MEMORY_BASE, MEMORY_LEN, start, settings.sectors[i], COLUMNS,
+                                           ROWS, settings.outlet, false, { 0 } };
+        name_disk(&slots[i], settings.names[i]);
         start += settings.sectors[i];
     }
     if (settings.record != NULL && !record_to(settings.record))
@@ -66,6 +77,18 @@ uint8_t *board_memory(uint8_t slot)
     return memories[slot];
 }
 
+/* A memory that calls copy isn't the board's while a call runs. */
+void board_watch(uint8_t slot, FILE *told)
+{
+    if (!settings.copies)
+        watch_guest(slot, &(struct queue_memory){ MEMORY_BASE, memories[slot], MEMORY_LEN }, told);
+}
+
+size_t board_mistakes(uint8_t slot)
+{
+    return watch_count(slot);
+}
+
 /* ---- the calls */
 
 /* Where memories are copied: what stands round each call that may look at a memory. */
@@ -85,13 +108,17 @@ uint32_t board_read(uint8_t slot, uint8_t window, uint16_t offset, uint8_t width
 {
     uint32_t value;
     must(record_read(&board, slot, window, offset, width, &value), "read");
+    watch_after(&board, &(struct watch_call){ WATCH_READ, slot, window, offset, width, 0 }, record_line());
     return value;
 }
 
 bool board_write(uint8_t slot, uint8_t window, uint16_t offset, uint8_t width, uint32_t value)
 {
+    struct watch_call call = { WATCH_WRITE, slot, window, offset, width, value };
     before(slot);
+    watch_before(&call);
     uint32_t answer = record_write(&board, slot, window, offset, width, value, &waits[slot]);
+    watch_after(&board, &call, record_line());
     after(slot);
     if (answer != KALYUBOS_NO_ROOM)
         must(answer, "write");
@@ -100,9 +127,12 @@ bool board_write(uint8_t slot, uint8_t window, uint16_t offset, uint8_t width, u
 
 size_t board_type(uint8_t slot, const uint8_t *bytes, size_t len)
 {
+    struct watch_call call = { .kind = WATCH_INPUT, .slot = slot, .window = KALYUBOS_CONSOLE };
     size_t took;
     before(slot);
+    watch_before(&call);
     must(record_input(&board, slot, bytes, len, &took, &waits[slot]), "input");
+    watch_after(&board, &call, record_line());
     after(slot);
     return took;
 }

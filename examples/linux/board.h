@@ -5,6 +5,7 @@
 #include <stdbool.h>
 #include <stddef.h>
 #include <stdint.h>
+#include <stdio.h>
 
 #include "kalyubos.h"
 
@@ -15,6 +16,7 @@ static const uint64_t MEMORY_BASE = 0x80000000;
 struct board_settings {
     size_t guests;
     const uint64_t *sectors; /* of each guest's disk; the disks stand in the image one after the other */
+    char *const *names; /* of its file, which is the disk's serial */
     const uint8_t *image;
     uint32_t cache;  /* how many sectors the board keeps */
     uint32_t outlet; /* how many bytes of a console's output may wait */
@@ -27,6 +29,10 @@ void board_close(void);
 
 /* A guest's memory, which its CPU may change between calls. */
 uint8_t *board_memory(uint8_t slot);
+
+/* Tells what the guest's drivers do wrong, a line each (watch.h), unless memories are copied; and how often they did. */
+void board_watch(uint8_t slot, FILE *told);
+size_t board_mistakes(uint8_t slot);
 
 uint32_t board_read(uint8_t slot, uint8_t window, uint16_t offset, uint8_t width);
 

@@ -23,6 +23,7 @@ struct machine {
     struct machine_counts counts[2];
     uint64_t refused;     /* writes that were made again, since there was no room for the output */
     FILE *early;          /* what the kernel says before it has a console, where it is told to */
+    FILE *mistakes;       /* what its drivers do wrong */
     struct cpu cpu;
     struct plic plic;
     struct terminal terminal;

@@ -13,6 +13,9 @@
  *   --without FEATURE a feature that no driver is shown, as RING_PACKED
  *   --cycles COUNT    leaves a guest that isn't off by then
  *   --record FILE     writes what the guests did as a trace, and the answers to FILE.records
+ *   --keep GUEST      writes that guest's disk back to its file at the end
+ *
+ * What a guest's drivers do wrong is told in guest-0.mistakes, and at the end on the screen.
  */
 #include <poll.h>
 #include <stdlib.h>
@@ -22,11 +25,13 @@
 #include <unistd.h>
 
 #include "board.h"
+#include "files.h"
 #include "machine.h"
 #include "noise.h"
+#include "report.h"
 #include "words.h"
 
-enum { GUESTS = 16, SECTOR = 512, TURN = 1000000, ACTS = 5000, NOISE_SECTORS = 64, PATH = 4096 };
+enum { GUESTS = 16, SECTOR = 512, TURN = 1000000, ACTS = 5000, NOISE_SECTORS = 64 };
 
 struct guest {
     bool is_noise;
@@ -37,37 +42,6 @@ struct guest {
 
 static struct words words;
 static struct guest guests[GUESTS];
-
-/* ---- files */
-
-static FILE *open_file(const char *path, const char *mode)
-{
-    FILE *file = fopen(path, mode);
-    if (file == NULL)
-        fail(path);
-    return file;
-}
-
-/* A guest's file in the folder that was asked for. */
-static FILE *create(size_t guest, const char *what)
-{
-    char path[PATH];
-    snprintf(path, sizeof path, "%s/guest-%zu.%s", words.to, guest, what);
-    return open_file(path, "wb");
-}
-
-static struct machine_file read_file(const char *path)
-{
-    FILE *file = open_file(path, "rb");
-    fseek(file, 0, SEEK_END);
-    size_t len = ftell(file);
-    uint8_t *bytes = malloc(len + 1);
-    rewind(file);
-    if (bytes == NULL || fread(bytes, 1, len, file) != len)
-        fail(path);
-    fclose(file);
-    return (struct machine_file){ bytes, len };
-}
 
 /* ---- the guests */
 
@@ -95,14 +69,16 @@ static void power_on(size_t index, struct machine_file kernel, struct machine_fi
     struct winsize size = size_of_terminal();
     machine->late = words.late;
     machine->hidden = words.hidden;
-    machine->early = create(index, "early");
+    machine->early = create_file(words.to, index, "early");
+    machine->mistakes = create_file(words.to, index, "mistakes");
     machine->terminal.number = index;
     machine->terminal.cols = size.ws_col;
     machine->terminal.rows = size.ws_row;
     machine->terminal.screen = screen_of(index);
-    machine->terminal.log = create(index, "console");
+    machine->terminal.log = create_file(words.to, index, "console");
     machine->terminal.script = words.script;
     machine_start(machine, index, kernel, tree);
+    board_watch(index, machine->mistakes);
 }
 
 /* The disks' bytes, one disk after the other. */
@@ -136,8 +112,8 @@ static void open_guests(void)
     struct machine_file kernel = read_file(words.kernel), tree = read_file(words.tree);
     for (size_t i = 0; i < words.count; i++)
         sectors[i] = guests[i].sectors;
-    board_open(&(struct board_settings){ words.count, sectors, image, words.cache, words.outlet, words.record,
-                                         words.copies });
+    board_open(&(struct board_settings){ words.count, sectors, words.guests, image, words.cache, words.outlet,
+                                         words.record, words.copies });
     free(image);
     for (size_t i = 0; i < words.count; i++)
         if (guests[i].is_noise)
@@ -219,63 +195,19 @@ static void listen(struct machine *machine)
 
 /* ---- the end */
 
-/* FNV-1a of 64 bits. */
-static uint64_t sum_of(const uint8_t *bytes, size_t len)
-{
-    uint64_t sum = 0xcbf29ce484222325;
-    for (size_t i = 0; i < len; i++)
-        sum = (sum ^ bytes[i]) * 0x100000001b3;
-    return sum;
-}
-
-static void save_disk(size_t index, size_t start, size_t len)
-{
-    uint8_t *bytes = malloc(len);
-    FILE *file = create(index, "disk");
-    if (bytes == NULL)
-        fail("the disk's bytes");
-    board_image(start, bytes, len);
-    if (fwrite(bytes, 1, len, file) != len || fclose(file) != 0)
-        fail("the disk's file");
-    free(bytes);
-}
-
-static void report_window(FILE *report, const char *name, const struct machine_counts *counts)
-{
-    fprintf(report, "%s: %llu reads, %llu writes, %llu interrupts\n", name, (unsigned long long)counts->reads,
-            (unsigned long long)counts->writes, (unsigned long long)counts->rises);
-}
-
-/* What a guest did, in a file by which two runs are compared; whether it went off. */
-static bool report_guest(size_t index)
-{
-    struct machine *machine = &guests[index].machine;
-    FILE *report = create(index, "report");
-    fprintf(report, "%s after %llu cycles\n", machine->off ? "off" : "still on",
-            (unsigned long long)machine->cpu.cycles);
-    report_window(report, "block", &machine->counts[0]);
-    report_window(report, "console", &machine->counts[1]);
-    fprintf(report, "memory: %016llx\n", (unsigned long long)sum_of(board_memory(index), MEMORY_LEN));
-    fclose(report);
-    fclose(machine->terminal.log);
-    fclose(machine->early);
-    if (machine->refused > 0)
-        printf("guest %zu: %llu writes were made again\n", index, (unsigned long long)machine->refused);
-    return machine->off;
-}
-
 /* Whether all went off. */
 static bool report_guests(void)
 {
     bool good = true;
     size_t start = 0;
     for (size_t i = 0; i < words.count; i++) {
-        save_disk(i, start, guests[i].sectors * SECTOR);
+        const char *kept = words.kept == (int)i && !guests[i].is_noise ? words.guests[i] : NULL;
+        report_disk(i, start, guests[i].sectors * SECTOR, words.to, kept);
         start += guests[i].sectors * SECTOR;
         if (guests[i].is_noise)
             printf("guest %zu: noise, %llu writes\n", i, (unsigned long long)guests[i].noise.writes);
         else
-            good = report_guest(i) && good;
+            good = report_machine(&guests[i].machine, words.to) && good;
     }
     return good;
 }

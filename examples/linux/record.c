@@ -21,12 +21,14 @@ struct seen {
     size_t len;
     uint8_t *now;  /* its memory in place */
     uint8_t *left; /* as its last call left it */
+    bool refused;  /* whether that was a write that is to be made again */
     struct kalyubos_pending waits;
     struct text output; /* what the host hasn't taken yet */
     struct text untold; /* what no record has yet */
 };
 
 static FILE *trace, *records;
+static size_t lines, called; /* the lines of the trace so far, and the number of the last call's */
 static struct seen seen[SLOTS];
 
 /* Whether a call is one to write down: those that name a slot that isn't there are none. */
@@ -47,22 +49,50 @@ static void put_bytes(FILE *file, const uint8_t *bytes, size_t len)
     }
 }
 
-/* A record: the reply, the output that no record has yet, and the interrupt words as they stand. */
-static void put_record(uint8_t slot, const char *reply)
+static void end_line(void)
+{
+    fputc('\n', trace);
+    lines++;
+}
+
+static void end_call(void)
+{
+    end_line();
+    called = lines;
+}
+
+/* The end of a record: the output that no record has yet, and the interrupt words as they stand. */
+static void end_record(uint8_t slot)
 {
     struct seen *of = &seen[slot];
-    fprintf(records, "%x %s ", slot, reply);
+    fputc(' ', records);
     put_bytes(records, of->untold.bytes, of->untold.len);
     fprintf(records, " %x %x\n", (unsigned)of->waits.block, (unsigned)of->waits.console);
     of->untold.len = 0;
 }
 
-static void put_memory(uint8_t slot, size_t start, size_t end)
+static void put_record(uint8_t slot, const char *reply)
+{
+    fprintf(records, "%x %s", slot, reply);
+    end_record(slot);
+}
+
+/* Bytes of memory as a line that writes them, and as one that finds them. */
+static void put_write(uint8_t slot, size_t start, size_t end)
 {
     fprintf(trace, "mw %x %llx ", slot, (unsigned long long)(seen[slot].base + start));
     put_bytes(trace, seen[slot].now + start, end - start);
-    fputc('\n', trace);
+    end_line();
     put_record(slot, "done");
+}
+
+static void put_read(uint8_t slot, size_t start, size_t end)
+{
+    fprintf(trace, "mr %x %llx %zx", slot, (unsigned long long)(seen[slot].base + start), end - start);
+    end_line();
+    fprintf(records, "%x b:", slot);
+    put_bytes(records, seen[slot].now + start, end - start);
+    end_record(slot);
 }
 
 /* ---- what changed */
@@ -88,13 +118,14 @@ static size_t end_of(const struct seen *of, size_t start)
     return end;
 }
 
-/* Writes down what the guest's memory has that its last call didn't leave there. */
-static void put_changes(uint8_t slot)
+/* Writes down each part of the guest's memory that isn't as it was known, and knows it then. */
+static void put_changes(uint8_t slot, void (*put)(uint8_t slot, size_t start, size_t end))
 {
     struct seen *of = &seen[slot];
     for (size_t at = difference(of, 0); at < of->len; at = difference(of, at)) {
         size_t end = end_of(of, at);
-        put_memory(slot, at, end);
+        put(slot, at, end);
+        memcpy(of->left + at, of->now + at, end - at);
         at = end;
     }
 }
@@ -129,11 +160,6 @@ static void keep(struct kalyubos *board, uint8_t slot, struct kalyubos_pending *
     if (pending->output > 0)
         keep_output(board, slot);
     pending->output = of->output.len;
-    for (size_t at = difference(of, 0); at < of->len; at = difference(of, at)) {
-        size_t end = end_of(of, at);
-        memcpy(of->left + at, of->now + at, end - at);
-        at = end;
-    }
 }
 
 /* ---- the files */
@@ -145,6 +171,11 @@ bool record_to(const char *file)
     trace = fopen(file, "w");
     records = fopen(name, "w");
     return trace != NULL && records != NULL;
+}
+
+size_t record_line(void)
+{
+    return trace != NULL ? called : 0;
 }
 
 bool record_end(void)
@@ -166,9 +197,11 @@ static void put_slot(struct kalyubos *board, uint8_t index, const struct kalyubo
 {
     struct seen *of = &seen[index];
     *of = (struct seen){ .base = slot->base };
-    fprintf(trace, "slot %llx %llx %llx %llx %s %x %x\n", (unsigned long long)slot->base,
+    fprintf(trace, "slot %llx %llx %llx %llx %s %x %x ", (unsigned long long)slot->base,
             (unsigned long long)slot->len, (unsigned long long)slot->start, (unsigned long long)slot->count,
             slot->read_only ? "ro" : "rw", slot->cols, slot->rows);
+    put_bytes(trace, slot->identity, sizeof slot->identity);
+    fputc('\n', trace);
     kalyubos_memory(board, index, &of->now, &of->len);
     of->left = calloc(of->len, 1);
     if (of->left == NULL)
@@ -181,9 +214,10 @@ uint32_t record_create(struct kalyubos *board, const struct kalyubos_slot *slots
     uint32_t answer = kalyubos_create(board, slots, slots_len, image, image_len, cache);
     if (trace == NULL || answer != KALYUBOS_DONE)
         return answer;
-    fprintf(trace, "vreplay 1\ncache %x\n", (unsigned)cache);
+    fprintf(trace, "vreplay 2\ncache %x\n", (unsigned)cache);
     for (size_t i = 0; i < slots_len; i++)
         put_slot(board, i, &slots[i]);
+    lines = called = 2 + slots_len;
     return answer;
 }
 
@@ -196,26 +230,31 @@ uint32_t record_read(struct kalyubos *board, uint8_t slot, uint8_t window, uint1
     uint32_t answer = kalyubos_read(board, slot, window, offset, width, value);
     if (!writes(slot) || answer != KALYUBOS_DONE)
         return answer;
-    fprintf(trace, "r %x %c %03x %x\n", slot, WINDOWS[window], offset, width);
+    fprintf(trace, "r %x %c %03x %x", slot, WINDOWS[window], offset, width);
+    end_call();
     snprintf(reply, sizeof reply, "v:%08x", (unsigned)*value);
     put_record(slot, reply);
     return answer;
 }
 
-/* A write that is refused for want of room isn't written down before it is made again and done. */
+/* A write that is refused for want of room is written down once it is made again and done, and what it changed then. */
 uint32_t record_write(struct kalyubos *board, uint8_t slot, uint8_t window, uint16_t offset, uint8_t width,
                       uint32_t value, struct kalyubos_pending *pending)
 {
     if (!writes(slot))
         return kalyubos_write(board, slot, window, offset, width, value, pending);
-    put_changes(slot);
+    if (!seen[slot].refused)
+        put_changes(slot, put_write);
     uint32_t answer = kalyubos_write(board, slot, window, offset, width, value, pending);
     keep(board, slot, pending);
+    seen[slot].refused = answer == KALYUBOS_NO_ROOM;
     if (answer != KALYUBOS_DONE)
         return answer;
     uint32_t within = width < 4 ? value & (((uint32_t)1 << 8 * width) - 1) : value;
-    fprintf(trace, "w %x %c %03x %x %0*x\n", slot, WINDOWS[window], offset, width, 2 * width, (unsigned)within);
+    fprintf(trace, "w %x %c %03x %x %0*x", slot, WINDOWS[window], offset, width, 2 * width, (unsigned)within);
+    end_call();
     put_record(slot, "done");
+    put_changes(slot, put_read);
     return answer;
 }
 
@@ -225,14 +264,15 @@ uint32_t record_input(struct kalyubos *board, uint8_t slot, const uint8_t *bytes
     char reply[32];
     if (!writes(slot))
         return kalyubos_input(board, slot, bytes, bytes_len, took, pending);
-    put_changes(slot);
+    put_changes(slot, put_write);
     uint32_t answer = kalyubos_input(board, slot, bytes, bytes_len, took, pending);
     keep(board, slot, pending);
     fprintf(trace, "in %x ", slot);
     put_bytes(trace, bytes, bytes_len);
-    fputc('\n', trace);
+    end_call();
     snprintf(reply, sizeof reply, "took:%zx", *took);
     put_record(slot, reply);
+    put_changes(slot, put_read);
     return answer;
 }
 
@@ -243,7 +283,8 @@ uint32_t record_resize(struct kalyubos *board, uint8_t slot, uint16_t cols, uint
     if (!writes(slot))
         return answer;
     keep(board, slot, pending);
-    fprintf(trace, "sz %x %x %x\n", slot, cols, rows);
+    fprintf(trace, "sz %x %x %x", slot, cols, rows);
+    end_call();
     put_record(slot, "done");
     return answer;
 }

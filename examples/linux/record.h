@@ -1,7 +1,8 @@
 /*
  * The library's calls, which also write what guests did as a trace for vreplay (docs/formats.md), and beside it, in
  * FILE.records, what they were answered. A host calls record_read where it would call kalyubos_read, and so on. What
- * changed in a guest's memory between two of its calls, by the CPU or by the host, becomes `mw` lines.
+ * changed in a guest's memory between two of its calls, by the CPU or by the host, becomes `mw` lines, and what a device
+ * changed in it during a call `mr` lines with the bytes that stand there then.
  *
  * One board for the process. Where record_to wasn't called nothing is written, and each call is the library's.
  */
@@ -12,6 +13,9 @@
 
 /* Writes to FILE from now on; false where it can't be written. Call it before record_create. */
 bool record_to(const char *file);
+
+/* The number of the trace's line that has the last call; 0 where none is written. */
+size_t record_line(void);
 
 /* Ends the files; false where not all was written. */
 bool record_end(void);

@@ -50,12 +50,14 @@ static const struct option OPTIONS[] = {
     { "record", required_argument, NULL, 'r' },  { "script", required_argument, NULL, 's' },
     { "show", required_argument, NULL, 'g' },    { "to", required_argument, NULL, 'd' },
     { "tree", required_argument, NULL, 't' },    { "without", required_argument, NULL, 'w' },
+    { "keep", required_argument, NULL, 'b' },
     { NULL, 0, NULL, 0 },
 };
 
 static void take(struct words *words, int option)
 {
     switch (option) {
+    case 'b': words->kept = number(optarg); break;
     case 'c': words->cache = number(optarg); break;
     case 'd': words->to = optarg; break;
     case 'g': words->shown = number(optarg); break;
@@ -77,7 +79,7 @@ static void take(struct words *words, int option)
 struct words words_of(int argc, char **argv)
 {
     struct words words = {
-        .to = ".", .script = "", .cache = 1024, .outlet = 0x8000, .cycles = 4000000000, .shown = -1,
+        .to = ".", .script = "", .cache = 1024, .outlet = 0x8000, .cycles = 4000000000, .shown = -1, .kept = -1,
     };
     int option;
     while ((option = getopt_long(argc, argv, "", OPTIONS, NULL)) != -1)

@@ -16,6 +16,7 @@ struct words {
     uint64_t cycles; /* a guest that isn't off after so many is left */
     bool late, copies, interactive, quiet;
     int shown; /* the one guest on the screen, or -1 for all */
+    int kept;  /* the guest whose disk goes back to its file, or -1 */
     char *const *guests;
     size_t count;
 };

@@ -49,7 +49,7 @@ impl Pending {
     }
 }
 
-/// A board of up to sixteen guests. It is ended, and its memory freed, where it is dropped.
+/// A board of up to sixty-four guests. It is ended, and its memory freed, where it is dropped.
 ///
 /// A board is `Send` and not `Sync`: one thread at a time calls it. Threads that share it put it into a `Mutex`, and
 /// what each guest sees is the same in whichever order they take the lock.

@@ -27,7 +27,7 @@ pub enum CreateError {
     BadImage,
     /// There is no slot.
     NoSlots,
-    /// There are more than sixteen slots.
+    /// There are more than sixty-four slots.
     TooManySlots,
     /// A memory's length is no multiple of 4096 from 4096 to 2^28.
     BadMemorySize,
@@ -41,6 +41,8 @@ pub enum CreateError {
     BadCache,
     /// An outlet is asked to keep more than 2^24 bytes.
     BadOutlet,
+    /// The library that is linked has a slot of another size than the crate.
+    BadSize,
     /// The library that is linked is of another version, this one, than the crate.
     WrongLibrary(u32),
     /// A number that this crate doesn't know, of a newer library.
@@ -76,6 +78,7 @@ impl CreateError {
             13 => ExtentsOverlap,
             14 => BadCache,
             16 => BadOutlet,
+            17 => BadSize,
             number => Other(number),
         })
     }
@@ -101,13 +104,14 @@ impl fmt::Display for CreateError {
             NoMemory => "out of memory",
             BadImage => "the image is not whole sectors of 512 bytes",
             NoSlots => "a board needs a slot",
-            TooManySlots => "a board has sixteen slots at most",
+            TooManySlots => "a board has sixty-four slots at most",
             BadMemorySize => "a memory's length is a multiple of 4096, from 4096 to 2^28",
             BadMemoryBase => "a memory begins at a multiple of 4096 and ends at 2^64 or before",
             ExtentOutside => "a slot's sectors pass the image's end",
             ExtentsOverlap => "two slots share a sector",
             BadCache => "a cache keeps 1 to 65536 sectors",
             BadOutlet => "an outlet keeps 2^24 bytes at most",
+            BadSize => "the library's slot has another size than the crate's",
             WrongLibrary(version) => {
                 return write!(
                     f,

@@ -20,6 +20,7 @@ impl Handle {
 /// One guest.
 #[repr(C)]
 pub struct Slot {
+    pub size: usize,
     pub base: u64,
     pub len: u64,
     pub start: u64,
@@ -28,6 +29,7 @@ pub struct Slot {
     pub rows: u16,
     pub outlet: u32,
     pub read_only: bool,
+    pub identity: [u8; 20],
 }
 
 /// What waits once a call is answered.

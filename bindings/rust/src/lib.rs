@@ -4,8 +4,10 @@
 mod board;
 mod error;
 mod ffi;
+mod identity;
 mod slot;
 
 pub use board::{Board, Interrupts, Pending, Window};
 pub use error::{CreateError, Error};
+pub use identity::{Identity, IdentityTooLong};
 pub use slot::Slot;

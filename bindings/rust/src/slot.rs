@@ -1,6 +1,8 @@
 //! A guest, as a board is made of them.
 
 use crate::ffi;
+use crate::identity::Identity;
+use std::mem;
 use std::ops::Range;
 
 /// One guest: its memory, the sectors of the image that its disk shows, and its console.
@@ -13,11 +15,12 @@ pub struct Slot {
     rows: u16,
     outlet: u32,
     read_only: bool,
+    identity: Identity,
 }
 
 impl Slot {
     /// A guest with `len` bytes of memory from `base` on, whose disk shows some sectors of the image: one that may be
-    /// written, with a console of 80 by 25 and an outlet of 32 KiB.
+    /// written and whose identity is 20 NULs, with a console of 80 by 25 and an outlet of 32 KiB.
     ///
     /// ```
     /// use kalyubos::Slot;
@@ -33,6 +36,7 @@ impl Slot {
             rows: 25,
             outlet: 0x8000,
             read_only: false,
+            identity: Identity::default(),
         }
     }
 
@@ -55,9 +59,16 @@ impl Slot {
         self
     }
 
+    /// What its disk answers to GET_ID.
+    pub fn identity(mut self, identity: Identity) -> Slot {
+        self.identity = identity;
+        self
+    }
+
     /// The slot as C has it. A range that ends before it begins shows no sector.
     pub(crate) fn in_c(&self) -> ffi::Slot {
         ffi::Slot {
+            size: mem::size_of::<ffi::Slot>(),
             base: self.base,
             len: self.len,
             start: self.sectors.start,
@@ -66,6 +77,7 @@ impl Slot {
             rows: self.rows,
             outlet: self.outlet,
             read_only: self.read_only,
+            identity: *self.identity.bytes(),
         }
     }
 }

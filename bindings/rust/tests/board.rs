@@ -1,6 +1,8 @@
 //! Each call at its edges: what it answers, and that the next call goes on.
 
-use kalyubos::{Board, CreateError, Error, Interrupts, Pending, Slot, Window};
+use kalyubos::{
+    Board, CreateError, Error, Identity, IdentityTooLong, Interrupts, Pending, Slot, Window,
+};
 use std::sync::Mutex;
 use std::thread;
 
@@ -23,7 +25,7 @@ fn each_refusal_of_create_is_told() {
 
     assert_eq!(refused(&[], &[0; 512], 1), CreateError::NoSlots);
     assert_eq!(
-        refused(&vec![good.clone(); 17], &[0; 512], 1),
+        refused(&vec![good.clone(); 65], &[0; 512], 1),
         CreateError::TooManySlots
     );
     assert_eq!(
@@ -196,6 +198,80 @@ fn threads_share_a_board_in_a_lock() {
             });
         }
     });
+}
+
+/// What the slot's driver reads by GET_ID, where the device has been brought up with a queue of one split request.
+fn get_id(board: &mut Board, slot: u8) -> [u8; 20] {
+    let mut set = |offset, value| board.write(slot, Window::Block, offset, 4, value).unwrap();
+    for (offset, value) in [
+        (STATUS, 0),
+        (STATUS, 3),
+        (0x024, 1), // the high word of the driver's features: VERSION_1
+        (0x020, 1),
+        (STATUS, 11),
+        (0x038, 4), // a queue of 4
+        (0x080, 0x8000_1000),
+        (0x090, 0x8000_2000),
+        (0x0a0, 0x8000_3000),
+        (0x044, 1),
+        (STATUS, 15),
+    ] {
+        set(offset, value);
+    }
+    let memory = board.memory(slot).unwrap();
+    let mut put = |at: usize, bytes: &[u8]| memory[at..at + bytes.len()].copy_from_slice(bytes);
+    // descriptors: 16 bytes of header, 20 of data, the status
+    put(
+        0x1000,
+        &[0, 0x40, 0, 0x80, 0, 0, 0, 0, 16, 0, 0, 0, 1, 0, 1, 0],
+    );
+    put(
+        0x1010,
+        &[0, 0x50, 0, 0x80, 0, 0, 0, 0, 20, 0, 0, 0, 3, 0, 2, 0],
+    );
+    put(
+        0x1020,
+        &[0, 0x60, 0, 0x80, 0, 0, 0, 0, 1, 0, 0, 0, 2, 0, 0, 0],
+    );
+    put(0x4000, &[8]);
+    put(0x2002, &[1, 0]);
+    board.write(slot, Window::Block, 0x050, 4, 0).unwrap();
+    let mut told = [0; 20];
+    board.read_memory(slot, MEMORY + 0x5000, &mut told).unwrap();
+    told
+}
+
+#[test]
+fn each_of_64_disks_tells_its_own_identity() {
+    let slots: Vec<Slot> = (0..64)
+        .map(|number| Slot::new(MEMORY, LEN, 0..0).identity(Identity::from([number + 1; 20])))
+        .collect();
+    let mut board = Board::new(&slots, &[0; 512], 1).unwrap();
+    for number in 0..64 {
+        assert_eq!(get_id(&mut board, number), [number + 1; 20]);
+    }
+    assert_eq!(board.read(64, Window::Block, 0, 4), Err(Error::BadSlot));
+}
+
+#[test]
+fn an_identity_is_a_text_of_20_bytes_at_most() {
+    let slot = |identity| Slot::new(MEMORY, LEN, 0..1).identity(identity);
+    let told = |identity| get_id(&mut Board::new(&[slot(identity)], &[0; 512], 1).unwrap(), 0);
+    assert_eq!(
+        told("disk-0".parse().unwrap()),
+        *b"disk-0\0\0\0\0\0\0\0\0\0\0\0\0\0\0"
+    );
+    assert_eq!(told("".parse().unwrap()), [0; 20]);
+    assert_eq!(
+        told("a disk of 20 letters".parse().unwrap()),
+        *b"a disk of 20 letters"
+    );
+    let long = "a disk of 21 letters!".parse::<Identity>();
+    assert_eq!(long, Err(IdentityTooLong { len: 21 }));
+    assert_eq!(
+        long.unwrap_err().to_string(),
+        "an identity has 20 bytes at most, and this text has 21"
+    );
 }
 
 #[test]

@@ -19,7 +19,7 @@ use Rattle.block_device.specs.declared.request.Request.{Request}
 use Rattle.block_device.specs.declared.request.Request.TheVariants.{Rejected, Write, Flush, GetId, WriteZeroes}
 use Rattle.block_device.specs.Extent.{extent_disk}
 use Rattle.block_device.specs.Request.{request_of, payload_of, code_of}
-use Rattle.block_device.specs.Outcome.{Ends, identity}
+use Rattle.block_device.specs.Outcome.{Ends}
 use Rattle.block_device.specs.Device.{block_device, GivesBy}
 use Rattle.block_device.specs.Progress.{IsServable, IsDone}
 
@@ -45,8 +45,8 @@ zeroes_fit m buffers capacity request segments room good is servable =
     omega (arith, here.0, readable_few m buffers good, length-drop 16 (readable_of m buffers))
 
 -- nothing is done
-pub done_rejected : (request : Request) (buffers : List Buffer) (m : Memory) (disk : Disk) (status : RequestStatus) → request ≡ Rejected status
-    → IsDone request buffers m m disk disk 0 status
+pub done_rejected : {identity : List ℕ} (request : Request) (buffers : List Buffer) (m : Memory) (disk : Disk) (status : RequestStatus) → request ≡ Rejected status
+    → IsDone identity request buffers m m disk disk 0 status
 done_rejected request buffers m disk status is =
     rw is (record {
       found = [];
@@ -55,8 +55,8 @@ done_rejected request buffers m disk status is =
       memory = sym (scattered-nil m (writable_of buffers));
     })
 
-pub done_flushed : (extent : Extent) (request : Request) (buffers : List Buffer) (m : Memory) (disk disk' : Disk) → request ≡ Flush → disk' ≡ flushed disk
-    → IsDone request buffers m m (extent_disk extent disk) (extent_disk extent disk') 0 Success
+pub done_flushed : {identity : List ℕ} (extent : Extent) (request : Request) (buffers : List Buffer) (m : Memory) (disk disk' : Disk) → request ≡ Flush → disk' ≡ flushed disk
+    → IsDone identity request buffers m m (extent_disk extent disk) (extent_disk extent disk') 0 Success
 done_flushed extent request buffers m disk disk' is flushes =
     rw (is, flushes) (record {
       found = [];
@@ -65,8 +65,8 @@ done_flushed extent request buffers m disk disk' is flushes =
       memory = sym (scattered-nil m (writable_of buffers));
     })
 
-pub done_unflushed : (extent : Extent) (request : Request) (buffers : List Buffer) (m : Memory) (disk disk' : Disk) → request ≡ Flush → disk' ≡ failed disk
-    → IsDone request buffers m m (extent_disk extent disk) (extent_disk extent disk') 0 IoError
+pub done_unflushed : {identity : List ℕ} (extent : Extent) (request : Request) (buffers : List Buffer) (m : Memory) (disk disk' : Disk) → request ≡ Flush → disk' ≡ failed disk
+    → IsDone identity request buffers m m (extent_disk extent disk) (extent_disk extent disk') 0 IoError
 done_unflushed extent request buffers m disk disk' is fails =
     rw (is, fails) (record {
       found = [];
@@ -76,13 +76,13 @@ done_unflushed extent request buffers m disk disk' is fails =
     })
 
 -- the identity is written
-pub done_identity : (request : Request) (buffers : List Buffer) (m new : Memory) (disk : Disk) → request ≡ GetId → new ≡ scatter m (drop 0 (writable_of buffers)) identity
-    → IsDone request buffers m new disk disk 20 Success
-done_identity request buffers m new disk is put =
+pub done_identity : (identity : List ℕ) (request : Request) (buffers : List Buffer) (m new : Memory) (disk : Disk) → length identity ≡ 20 → request ≡ GetId → new ≡ scatter m (drop 0 (writable_of buffers)) identity
+    → IsDone identity request buffers m new disk disk 20 Success
+done_identity identity request buffers m new disk size is put =
     rw is (record {
       found = identity;
       ends = inl (record { found = identity; finds = refl; is = refl });
-      len_is = refl;
+      len_is = sym size;
       memory = put ∙ sym (scattered-run m (writable_of buffers) identity);
     })
 
@@ -121,7 +121,7 @@ pub nothing_does : (device : BlockDevice) (m : Memory) (buffers : List Buffer) (
     → Does (block_device device) m m buffers disk disk 0 false
 nothing_does device m buffers disk none = record {
   written = [];
-  gives = subst (λ w. GivesBy Ends device disk (readable_of m buffers) w (record { state = disk; written = [] })) (sym none) refl;
+  gives = subst (λ w. GivesBy (Ends device.identity) device disk (readable_of m buffers) w (record { state = disk; written = [] })) (sym none) refl;
   each = sym none;
   memory = sym (scattered-nil m (writable_of buffers));
   len_is = refl;
@@ -131,7 +131,7 @@ nothing_does device m buffers disk none = record {
 -- A request that is done is answered once its status is written in the last place.
 pub answer_does : (device : BlockDevice) (m done new : Memory) (buffers : List Buffer) (disk disk' : Disk) (request : Request) (room len used : ℕ) (status : RequestStatus)
     → length (writable_of buffers) ≡ room + 1 → request ≡ request_of device (readable_of m buffers) room
-    → IsDone request buffers m done disk disk' len status → len ≤ room
+    → IsDone device.identity request buffers m done disk disk' len status → len ≤ room
     → new ≡ scatter done (drop room (writable_of buffers)) (code_of status ∷ [])
     → (len ≡ room → used ≡ room + 1) → (len < room → used ≡ len)
     → Does (block_device device) m new buffers disk disk' used true
@@ -140,14 +140,14 @@ answer_does device m done new buffers disk disk' request room len used status al
     let front : List (Option ℕ) = map Some d.found ++ replicate (room - length d.found) None in
     let given : Given Disk = record { state = disk'; written = front ++ Some (code_of status) ∷ [] } in
     let size : length (map Some d.found) ≡ length d.found = length-map d.found Some in
-    let here : Ends (request_of device (readable_of m buffers) room) (payload_of (readable_of m buffers)) disk (record { disk = disk'; found = d.found; status = status }) =
-    subst (λ r. Ends r (payload_of (readable_of m buffers)) disk (record { disk = disk'; found = d.found; status = status })) is d.ends in
-    let gives : GivesBy Ends device disk (readable_of m buffers) (suc room) given =
+    let here : Ends device.identity (request_of device (readable_of m buffers) room) (payload_of (readable_of m buffers)) disk (record { disk = disk'; found = d.found; status = status }) =
+    subst (λ r. Ends device.identity r (payload_of (readable_of m buffers)) disk (record { disk = disk'; found = d.found; status = status })) is d.ends in
+    let gives : GivesBy (Ends device.identity) device disk (readable_of m buffers) (suc room) given =
     record { outcome = record { disk = disk'; found = d.found; status = status }; is = here; given_is = refl } in
     let front_size : length front ≡ room = length-append (map Some d.found) (replicate (room - length d.found) None) ∙ (let e = length-replicate {A = Option ℕ} (room - length d.found) None in omega (arith, e, size, d.len_is)) in
     record {
       written = front ++ Some (code_of status) ∷ [];
-      gives = subst (λ w. GivesBy Ends device disk (readable_of m buffers) w given) (let e : suc room ≡ w = omega (arith, all) in e) gives;
+      gives = subst (λ w. GivesBy (Ends device.identity) device disk (readable_of m buffers) w given) (let e : suc room ≡ w = omega (arith, all) in e) gives;
       each = length-append front (Some (code_of status) ∷ []) ∙ (omega (arith, front_size, all));
       memory =
           put ∙ ap (λ m. scatter m (drop room (writable_of buffers)) (code_of status ∷ [])) d.memory

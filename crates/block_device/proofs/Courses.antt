@@ -5,17 +5,20 @@ use Rattle.std.proofs.lemmas.Bool.Decides.{nat_tests}
 use Rattle.guest_memory.specs.Memory.{Memory, SameRange}
 use Rattle.chain.specs.declared.segment.Buffer.{Buffer}
 use Rattle.chain.specs.declared.fault.Fault.{Fault}
-use Rattle.chain.specs.Service.{Entry, Does, Course, Runs}
+use Rattle.chain.specs.declared.budget.Budget.{Budget}
+use Rattle.chain.specs.Budget.{IsSpent, less_chain}
+use Rattle.chain.specs.Service.{Entry, Does}
 use Rattle.guest_memory.proofs.Ranges.{same_trans}
-use Rattle.chain.proofs.Servicing.{course_begins, course_goes_on, runs_into, runs_out}
+use Rattle.chain.proofs.Budgets.{IsInPiece, piece_begins, piece_goes_on, piece_pauses, piece_runs_into, piece_runs_out}
 use Rattle.sector_cache.specs.Disk.{Disk}
 use Rattle.mmio_window.specs.declared.queue.Queue.{Queue}
 use Rattle.mmio_window.specs.Queue.{LiesIn, made_as, queue_kind}
-use Rattle.mmio_window.specs.Serving.{ending_of}
 use Rattle.block_device.specs.declared.device.BlockDevice.{BlockDevice}
 use Rattle.block_device.specs.declared.extent.Extent.{Extent}
 use Rattle.block_device.specs.Device.{block_device}
 use Rattle.block_device.specs.Extent.{IsWithin, extent_disk, ToldOutside, KeepsOutside}
+use Rattle.block_device.specs.declared.queue.Stop.TheVariants.{Pause, End}
+use Rattle.block_device.specs.Serving.{Stops, site_of}
 use Rattle.block_device.proofs.Extents.{KeepsOutside-same}
 
 told_trans : (extent : Extent) (a b c : Option (List ℕ)) → ToldOutside extent a b → ToldOutside extent b c → ToldOutside extent a c
@@ -34,11 +37,9 @@ outside_trans extent a b c p q = record { sectors = q.sectors ∙ p.sectors; tol
 pub lies_still : (extent : Extent) (a b : Disk) → KeepsOutside extent a b → IsWithin a.sector_count extent → IsWithin b.sector_count extent
 lies_still extent a b keeps lies = omega (arith, keeps.sectors, lies)
 
--- these chains were served since the service was opened
-pub record IsInCourse (device : BlockDevice) (start now : Memory) (first queue : Queue) (disk disk' : Disk) (failed : Bool) : Type 0 where
-  pub course : Course queue_kind (block_device device)
-      (record { memory = start; ring = first; state = extent_disk device.extent disk })
-      (record { memory = now; ring = queue; state = extent_disk device.extent disk' })
+-- chains were served within the budget since the piece began, and this is left of it
+pub record IsInCourse (device : BlockDevice) (budget left : Budget) (start now : Memory) (first queue : Queue) (disk disk' : Disk) (failed : Bool) : Type 0 where
+  pub piece : IsInPiece queue_kind (block_device device) budget left (site_of device start first disk) (site_of device now queue disk')
   pub outside : KeepsOutside device.extent disk disk'
   pub range : SameRange start now
   pub lies : LiesIn now queue
@@ -49,9 +50,9 @@ pub record IsInCourse (device : BlockDevice) (start now : Memory) (first queue :
 not_less : (n : ℕ) → false ≡ nat_lt n n
 not_less n = grind (arith, nat_tests)
 
-pub course_start : (device : BlockDevice) (m : Memory) (queue : Queue) (disk : Disk) → LiesIn m queue → IsInCourse device m m queue queue disk disk false
-course_start device m queue disk lies = record {
-  course = course_begins queue_kind (block_device device) (record { memory = m; ring = queue; state = extent_disk device.extent disk });
+pub course_start : (device : BlockDevice) (budget : Budget) (m : Memory) (queue : Queue) (disk : Disk) → LiesIn m queue → IsInCourse device budget budget m m queue queue disk disk false
+course_start device budget m queue disk lies = record {
+  piece = piece_begins queue_kind (block_device device) budget (site_of device m queue disk);
   outside = KeepsOutside-same device.extent disk disk refl refl;
   range = record { base = refl; size = refl };
   lies = lies;
@@ -81,20 +82,20 @@ rises_on true a b c h n = omega (arith, n)
 rises_on false a b c h n = omega (arith, n)
 
 -- one more chain is taken, answered and given back
-pub course_more : (device : BlockDevice) (start m answered m' : Memory) (first queue taken queue' : Queue) (disk d d' : Disk) (failed more both : Bool) (buffers : List Buffer) (entry : Entry) (len : ℕ) (any : Bool)
-    → IsInCourse device start m first queue disk d failed
+pub course_more : (device : BlockDevice) (budget left left' : Budget) (start m answered m' : Memory) (first queue taken queue' : Queue) (disk d d' : Disk) (failed more both : Bool) (buffers : List Buffer) (entry : Entry) (len : ℕ) (any : Bool)
+    → IsInCourse device budget left start m first queue disk d failed → ¬ IsSpent left → left' ≡ less_chain left buffers
     → queue_kind.offers m queue ≡ true → queue_kind.Offers m queue buffers entry → taken ≡ queue
     → Does (block_device device) m answered buffers (extent_disk device.extent d) (extent_disk device.extent d') len any
     → m' ≡ queue_kind.used answered taken entry len any → queue' ≡ queue_kind.past taken entry
     → d'.failures ≡ d.failures + (if more then 1 else 0) → KeepsOutside device.extent d d'
     → SameRange m answered → SameRange answered m' → LiesIn m' queue' → made_as queue' ≡ made_as taken
     → both ≡ (failed || more)
-    → IsInCourse device start m' first queue' disk d' both
-course_more device start m answered m' first queue taken queue' disk d d' failed more both buffers entry len any h offers offered same does used past counts outside range range' lies made flag =
+    → IsInCourse device budget left' start m' first queue' disk d' both
+course_more device budget left left' start m answered m' first queue taken queue' disk d d' failed more both buffers entry len any h some spends offers offered same does used past counts outside range range' lies made flag =
     record {
-      course = course_goes_on queue_kind (block_device device) (record { memory = start; ring = first; state = extent_disk device.extent disk })
+      piece = piece_goes_on queue_kind (block_device device) budget left left' (site_of device start first disk)
           m answered m' queue queue' (extent_disk device.extent d) (extent_disk device.extent d') buffers entry len any
-          h.course refl offers offered does
+          h.piece some spends refl offers offered does
           (used ∙ ap (λ q. queue_kind.used answered q entry len any) same) (past ∙ ap (λ q. queue_kind.past q entry) same);
       outside = outside_trans device.extent disk d d' h.outside outside;
       range = same_trans start m m' h.range (same_trans m answered m' range range');
@@ -105,24 +106,25 @@ course_more device start m answered m' first queue taken queue' disk d d' failed
     }
 
 -- none is on offer
-pub runs_until_spent : (device : BlockDevice) (start m : Memory) (first queue last : Queue) (disk d : Disk) (failed : Bool)
-    → IsInCourse device start m first queue disk d failed → queue_kind.offers m queue ≡ false → last ≡ queue
-    → Runs queue_kind (block_device device)
-    (record { memory = start; ring = first; state = extent_disk device.extent disk }) (ending_of None)
-    (record { memory = m; ring = last; state = extent_disk device.extent d })
-runs_until_spent device start m first queue last disk d failed h none same =
-    runs_out queue_kind (block_device device) (record { memory = start; ring = first; state = extent_disk device.extent disk })
-    m queue last (extent_disk device.extent d) h.course none same
+pub stops_spent : (device : BlockDevice) (budget left : Budget) (start m : Memory) (first queue last : Queue) (disk d : Disk) (failed : Bool)
+    → IsInCourse device budget left start m first queue disk d failed → queue_kind.offers m queue ≡ false → last ≡ queue
+    → Stops device budget (site_of device start first disk) (site_of device m last d) (End None)
+stops_spent device budget left start m first queue last disk d failed h none same =
+    piece_runs_out queue_kind (block_device device) budget left (site_of device start first disk) m queue last (extent_disk device.extent d) h.piece none same
 
 -- the chain on offer has a fault
-pub runs_until_fault : (device : BlockDevice) (start m : Memory) (first queue last : Queue) (disk d : Disk) (failed : Bool) (fault : Fault)
-    → IsInCourse device start m first queue disk d failed → queue_kind.offers m queue ≡ true → queue_kind.HasFault m queue fault → last ≡ queue_kind.stopped queue
-    → Runs queue_kind (block_device device)
-    (record { memory = start; ring = first; state = extent_disk device.extent disk }) (ending_of (Some fault))
-    (record { memory = m; ring = last; state = extent_disk device.extent d })
-runs_until_fault device start m first queue last disk d failed fault h offers has same =
-    runs_into queue_kind (block_device device) (record { memory = start; ring = first; state = extent_disk device.extent disk })
-    m queue last (extent_disk device.extent d) fault h.course offers has same
+pub stops_by_fault : (device : BlockDevice) (budget left : Budget) (start m : Memory) (first queue last : Queue) (disk d : Disk) (failed : Bool) (fault : Fault)
+    → IsInCourse device budget left start m first queue disk d failed → queue_kind.offers m queue ≡ true → queue_kind.HasFault m queue fault → last ≡ queue_kind.stopped queue
+    → Stops device budget (site_of device start first disk) (site_of device m last d) (End (Some fault))
+stops_by_fault device budget left start m first queue last disk d failed fault h offers has same =
+    piece_runs_into queue_kind (block_device device) budget left (site_of device start first disk) m queue last (extent_disk device.extent d) fault h.piece offers has same
+
+-- nothing is left of the budget
+pub stops_paused : (device : BlockDevice) (budget left : Budget) (start m : Memory) (first queue last : Queue) (disk d : Disk) (failed : Bool) (buffers : List Buffer) (entry : Entry)
+    → IsInCourse device budget left start m first queue disk d failed → IsSpent left → queue_kind.offers m queue ≡ true → queue_kind.Offers m queue buffers entry → last ≡ queue
+    → Stops device budget (site_of device start first disk) (site_of device m last d) Pause
+stops_paused device budget left start m first queue last disk d failed buffers entry h spent offers offered same =
+    piece_pauses queue_kind (block_device device) budget left (site_of device start first disk) m queue last (extent_disk device.extent d) buffers entry h.piece spent offers offered same
 
 -- a test by cases on its first part
 pub or_with_true : (a b : Bool) → a ≡ true → a ≡ (a || b)

@@ -15,13 +15,14 @@ use Rattle.block_device.specs.declared.device.BlockDevice.{BlockDevice}
 use Rattle.block_device.specs.declared.request.Request.{Request}
 use Rattle.block_device.specs.declared.request.Request.TheVariants.{Rejected, Read, Write, Flush, GetId, WriteZeroes}
 use Rattle.block_device.specs.Request.{request_of, payload_of}
+use Rattle.block_device.specs.Extent.{SameSectors}
 use Rattle.block_device.specs.Outcome.{Outcome, Finds, with_sectors, completed, Completes, Ends}
 use Rattle.block_device.specs.Zeroes.{all_sectors, segments_in, zeroed_sectors}
 use Rattle.block_device.specs.Device.{given_of, GivesBy, block_device, device_by, exact_device}
 
 -- the device as one whose sectors are all that there are
 abbrev pub guest_device : BlockDevice → BlockDevice
-guest_device device = record { extent = record { start = 0; count = device.extent.count }; read_only = device.read_only }
+guest_device device = record device { extent = record { start = 0; count = device.extent.count } }
 
 -- ---- where the extent lies is never seen
 
@@ -54,30 +55,25 @@ notified_anywhere Way device queue old new before after s t h =
     }
 
 pub block_for_guest : (device : BlockDevice) (queue : Option Queue) (old new : Memory) (before after : WindowState) (s t : Disk) → IsNotified (block_device device) 0 queue old new before after s t → IsNotified (block_device (guest_device device)) 0 queue old new before after s t
-block_for_guest device = notified_anywhere Ends device
+block_for_guest device = notified_anywhere (Ends device.identity) device
 
 pub exact_for_guest : (device : BlockDevice) (queue : Option Queue) (old new : Memory) (before after : WindowState) (s t : Disk) → IsNotified (exact_device device) 0 queue old new before after s t → IsNotified (exact_device (guest_device device)) 0 queue old new before after s t
-exact_for_guest device = notified_anywhere Completes device
+exact_for_guest device = notified_anywhere (Completes device.identity) device
 
 -- ---- how the image fares is never seen
 
--- the same sectors, whatever failed and whatever is to be flushed
-pub record SameSectors (s t : Disk) : Type 0 where
-  pub told : t.told ≡ s.told
-  pub sectors : t.sector_count ≡ s.sector_count
-
-finds_same : (request : Request) (s t : Disk) (found : List ℕ) → SameSectors s t → Finds request s found → Finds request t found
-finds_same (Rejected status) s t found same h = h
-finds_same (Read sector count) s t found same h = record {
+pub finds_same : (identity : List ℕ) (request : Request) (s t : Disk) (found : List ℕ) → SameSectors s t → Finds identity request s found → Finds identity request t found
+finds_same identity (Rejected status) s t found same h = h
+finds_same identity (Read sector count) s t found same h = record {
   size = h.size;
   told = subst (λ (o : Option (List ℕ)). IfSome o (λ bytes. found ≡ extent_of bytes sector count)) (sym same.told) h.told;
 }
-finds_same (Write sector count) s t found same h = h
-finds_same Flush s t found same h = h
-finds_same GetId s t found same h = h
-finds_same (WriteZeroes segments) s t found same h = h
+finds_same identity (Write sector count) s t found same h = h
+finds_same identity Flush s t found same h = h
+finds_same identity GetId s t found same h = h
+finds_same identity (WriteZeroes segments) s t found same h = h
 
-zeroed_same : (sectors : List ℕ) (s t : Disk) → SameSectors s t → SameSectors (zeroed_sectors sectors s) (zeroed_sectors sectors t)
+pub zeroed_same : (sectors : List ℕ) (s t : Disk) → SameSectors s t → SameSectors (zeroed_sectors sectors s) (zeroed_sectors sectors t)
 zeroed_same [] s t same = same
 zeroed_same (sector ∷ sectors) s t same =
     let zeros : List ℕ = replicate 512 0 in
@@ -85,10 +81,10 @@ zeroed_same (sector ∷ sectors) s t same =
     (record { told = ap (option_map (λ bytes. with_sector bytes sector zeros)) same.told; sectors = same.sectors })
 
 -- what is told to the driver is the same, and so are the sectors afterwards
-record SameOutcome (one other : Outcome) : Type 0 where
-  disk : SameSectors one.disk other.disk
-  found : other.found ≡ one.found
-  status : other.status ≡ one.status
+pub record SameOutcome (one other : Outcome) : Type 0 where
+  pub disk : SameSectors one.disk other.disk
+  pub found : other.found ≡ one.found
+  pub status : other.status ≡ one.status
 
 completed_same : (request : Request) (payload found : List ℕ) (s t : Disk) → SameSectors s t → SameOutcome (completed request payload found s) (completed request payload found t)
 completed_same (Rejected status) payload found s t same = record { disk = same; found = refl; status = refl }
@@ -104,14 +100,14 @@ completed_same (WriteZeroes segments) payload found s t same =
     let after = zeroed_same (all_sectors (segments_in payload)) s t same in
     record { disk = record { told = after.told; sectors = after.sectors }; found = refl; status = refl }
 
-same_written : (room : ℕ) (one other : Outcome) → SameOutcome one other → (given_of room one).written ≡ (given_of room other).written
+pub same_written : (room : ℕ) (one other : Outcome) → SameOutcome one other → (given_of room one).written ≡ (given_of room other).written
 same_written room one other same = rw (same.found, same.status) refl
 
 -- what was written, with another state
-abbrev given_with : Disk → List (Option ℕ) → Given Disk
+abbrev pub given_with : Disk → List (Option ℕ) → Given Disk
 given_with disk written = record { state = disk; written = written }
 
-gives_same : (device : BlockDevice) (s t : Disk) (readable : List ℕ) (w : ℕ) (given : Given Disk) → SameSectors s t → GivesBy Completes device s readable w given → Matches (exact_device device) SameSectors t readable w given
+pub gives_same : (device : BlockDevice) (s t : Disk) (readable : List ℕ) (w : ℕ) (given : Given Disk) → SameSectors s t → GivesBy (Completes device.identity) device s readable w given → Matches (exact_device device) SameSectors t readable w given
 gives_same device s t readable zero given same h = record {
   state = t;
   alike = subst (λ (d : Disk). SameSectors d t) (sym (ap (λ (g : Given Disk). g.state) h)) same;
@@ -127,7 +123,7 @@ gives_same device s t readable (suc room) given same h =
       alike = subst (λ (d : Disk). SameSectors d other.disk) (sym (ap (λ (g : Given Disk). g.state) h.given_is)) outcomes.disk;
       gives = record {
         outcome = other;
-        is = record { found = h.is.found; finds = finds_same request s t h.is.found same h.is.finds; is = refl };
+        is = record { found = h.is.found; finds = finds_same device.identity request s t h.is.found same h.is.finds; is = refl };
         given_is = ap (given_with other.disk) (ap (λ (g : Given Disk). g.written) h.given_is ∙ same_written room h.outcome other outcomes);
       };
     }

@@ -2,9 +2,11 @@ pub mod Answering
 pub mod Courses
 pub mod Exact
 pub mod Extents
+pub mod Failing
 pub mod Guests
 pub mod Judging
 pub mod OneService
+pub mod Pieces
 pub mod Requests
 pub mod SomeAnswer
 pub mod Transfers

@@ -27,7 +27,7 @@ pub record IsTold (disk : Disk) : Type 0 where
 -- a chain is served exactly, and the disk tells its bytes
 record GivesTold (device : BlockDevice) (disk : Disk) (readable : List ℕ) (w : ℕ) (given : Given Disk) : Type 0 where
   told : IsTold disk
-  gives : GivesBy Completes device disk readable w given
+  gives : GivesBy (Completes device.identity) device disk readable w given
 
 abbrev told_device : BlockDevice → Device Disk
 told_device device = record {
@@ -60,7 +60,7 @@ completed_told (WriteZeroes segments) payload found disk t =
     let after = zeroed_told (all_sectors (segments_in payload)) disk t in
     record { bytes = after.bytes; is = after.is }
 
-gives_told : (device : BlockDevice) (disk : Disk) (readable : List ℕ) (w : ℕ) (given : Given Disk) → GivesBy Completes device disk readable w given → IsTold disk → IsTold given.state
+gives_told : (device : BlockDevice) (disk : Disk) (readable : List ℕ) (w : ℕ) (given : Given Disk) → GivesBy (Completes device.identity) device disk readable w given → IsTold disk → IsTold given.state
 gives_told device disk readable zero given h t = record { bytes = t.bytes; is = ap (λ (g : Given Disk). g.state.told) h ∙ t.is }
 gives_told device disk readable (suc room) given h t =
     let after = completed_told (request_of device readable room) (payload_of readable) h.is.found disk t in
@@ -75,7 +75,7 @@ does_as_told : (device : BlockDevice) → DoesAs (exact_device device) (told_dev
 does_as_told device = record {
   takes = λ s t alike. refl;
   gives = λ s t readable w given alike h.
-      let here : GivesBy Completes device t readable w given = subst (λ (d : Disk). GivesBy Completes device d readable w given) alike.same h in
+      let here : GivesBy (Completes device.identity) device t readable w given = subst (λ (d : Disk). GivesBy (Completes device.identity) device d readable w given) alike.same h in
       record {
         state = given.state;
         alike = record { same = refl; told = gives_told device t readable w given here alike.told };

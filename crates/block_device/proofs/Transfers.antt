@@ -65,9 +65,9 @@ reading_more buffers old m new disk d d' sector done place chunk r whole told sa
     }
 
 -- all are read
-pub reading_done : (extent : Extent) (buffers : List Buffer) (old new : Memory) (disk disk' : Disk) (sector count done len : ℕ)
+pub reading_done : {identity : List ℕ} (extent : Extent) (buffers : List Buffer) (old new : Memory) (disk disk' : Disk) (sector count done len : ℕ)
     → IsReading buffers old new disk disk' (extent.start + sector) done → done ≡ count → len ≡ 512 * count → sector + count ≤ extent.count
-    → IsDone (Read sector count) buffers old new (extent_disk extent disk) (extent_disk extent disk') len Success
+    → IsDone identity (Read sector count) buffers old new (extent_disk extent disk) (extent_disk extent disk') len Success
 reading_done extent buffers old new disk disk' sector count done len r all size within =
     let finds : AreAsTold (extent_disk extent disk) sector count r.found = AreAsTold-extent extent disk sector count r.found within (rw all at r.finds) in
     record {
@@ -78,9 +78,9 @@ reading_done extent buffers old new disk disk' sector count done len r all size 
     }
 
 -- the image fails
-pub reading_fails : (extent : Extent) (buffers : List Buffer) (old new : Memory) (disk d disk' : Disk) (sector count done len : ℕ)
+pub reading_fails : {identity : List ℕ} (extent : Extent) (buffers : List Buffer) (old new : Memory) (disk d disk' : Disk) (sector count done len : ℕ)
     → IsReading buffers old new disk d (extent.start + sector) done → done < count → len ≡ 512 * done → sector + count ≤ extent.count → disk' ≡ failed d
-    → IsDone (Read sector count) buffers old new (extent_disk extent disk) (extent_disk extent disk') len IoError
+    → IsDone identity (Read sector count) buffers old new (extent_disk extent disk) (extent_disk extent disk') len IoError
 reading_fails extent buffers old new disk d disk' sector count done len r sooner size within fails =
     let finds : AreAsTold (extent_disk extent disk) sector done r.found = AreAsTold-extent extent disk sector done r.found (omega arith) r.finds in
     record {
@@ -129,10 +129,10 @@ writing_more disk d d' sector count done readable chunk is_whole w sooner size i
     }
 
 -- the image fails at a sector
-pub writing_fails : (extent : Extent) (buffers : List Buffer) (m : Memory) (disk d disk' : Disk) (sector count done : ℕ) → IsWhole disk → IsWithin disk.sector_count extent
+pub writing_fails : {identity : List ℕ} (extent : Extent) (buffers : List Buffer) (m : Memory) (disk d disk' : Disk) (sector count done : ℕ) → IsWhole disk → IsWithin disk.sector_count extent
     → IsWriting disk d (extent.start + sector) (payload_of (readable_of m buffers)) done → done < count → sector + count ≤ extent.count
     → length (payload_of (readable_of m buffers)) ≡ 512 * count → IsTorn (extent.start + sector + done) d disk'
-    → IsDone (Write sector count) buffers m m (extent_disk extent disk) (extent_disk extent disk') 0 IoError × KeepsOutside extent disk disk'
+    → IsDone identity (Write sector count) buffers m m (extent_disk extent disk) (extent_disk extent disk') 0 IoError × KeepsOutside extent disk disk'
 writing_fails extent buffers m disk d disk' sector count done is_whole lies w sooner within size t =
     let payload = payload_of (readable_of m buffers) in
     let front = take (512 * done) payload in
@@ -160,10 +160,10 @@ written_all extent buffers m disk d sector count done w all size =
     w.is ∙ ap (λ bytes. filled (extent.start + sector) bytes disk) (take_all (512 * done) (payload_of (readable_of m buffers)) (omega (arith, size, all)))
 
 -- and flushed
-pub writing_done : (extent : Extent) (buffers : List Buffer) (m : Memory) (disk d disk' : Disk) (sector count done : ℕ) → IsWhole disk → IsWithin disk.sector_count extent
+pub writing_done : {identity : List ℕ} (extent : Extent) (buffers : List Buffer) (m : Memory) (disk d disk' : Disk) (sector count done : ℕ) → IsWhole disk → IsWithin disk.sector_count extent
     → IsWriting disk d (extent.start + sector) (payload_of (readable_of m buffers)) done → done ≡ count → sector + count ≤ extent.count
     → length (payload_of (readable_of m buffers)) ≡ 512 * count → disk' ≡ flushed d
-    → IsDone (Write sector count) buffers m m (extent_disk extent disk) (extent_disk extent disk') 0 Success × KeepsOutside extent disk disk'
+    → IsDone identity (Write sector count) buffers m m (extent_disk extent disk) (extent_disk extent disk') 0 Success × KeepsOutside extent disk disk'
 writing_done extent buffers m disk d disk' sector count done is_whole lies w all within size flushes =
     let payload = payload_of (readable_of m buffers) in
     let so_far = written_all extent buffers m disk d sector count done w all size in
@@ -181,10 +181,10 @@ writing_done extent buffers m disk d disk' sector count done is_whole lies w all
     )
 
 -- or the flush fails
-pub writing_unflushed : (extent : Extent) (buffers : List Buffer) (m : Memory) (disk d disk' : Disk) (sector count done : ℕ) → IsWhole disk → IsWithin disk.sector_count extent
+pub writing_unflushed : {identity : List ℕ} (extent : Extent) (buffers : List Buffer) (m : Memory) (disk d disk' : Disk) (sector count done : ℕ) → IsWhole disk → IsWithin disk.sector_count extent
     → IsWriting disk d (extent.start + sector) (payload_of (readable_of m buffers)) done → done ≡ count → sector + count ≤ extent.count
     → length (payload_of (readable_of m buffers)) ≡ 512 * count → disk' ≡ failed d
-    → IsDone (Write sector count) buffers m m (extent_disk extent disk) (extent_disk extent disk') 0 IoError × KeepsOutside extent disk disk'
+    → IsDone identity (Write sector count) buffers m m (extent_disk extent disk) (extent_disk extent disk') 0 IoError × KeepsOutside extent disk disk'
 writing_unflushed extent buffers m disk d disk' sector count done is_whole lies w all within size fails =
     let payload = payload_of (readable_of m buffers) in
     let so_far = written_all extent buffers m disk d sector count done w all size in

@@ -230,9 +230,9 @@ segment_stops extent old d d' payload n segment z is below s =
 
 -- ---- the request
 
-pub zeroes_stopped : (extent : Extent) (buffers : List Buffer) (m : Memory) (disk disk' : Disk) (segments : ℕ)
+pub zeroes_stopped : {identity : List ℕ} (extent : Extent) (buffers : List Buffer) (m : Memory) (disk disk' : Disk) (segments : ℕ)
     → IsStopped (all_sectors (segments_in (payload_of (readable_of m buffers)))) (extent_disk extent disk) (extent_disk extent disk')
-    → IsDone (WriteZeroes segments) buffers m m (extent_disk extent disk) (extent_disk extent disk') 0 IoError
+    → IsDone identity (WriteZeroes segments) buffers m m (extent_disk extent disk) (extent_disk extent disk') 0 IoError
 zeroes_stopped extent buffers m disk disk' segments s = record {
   found = [];
   ends = inr (inl (record { left = extent_disk extent disk'; stopped = s; is = refl }));
@@ -248,9 +248,9 @@ all_zeroed extent disk d payload segments n z size all =
     z.seen ∙ ap (λ k. zeroed_sectors (all_sectors (first_segments payload k)) (extent_disk extent disk)) whole
 
 -- and flushed
-pub zeroes_done : (extent : Extent) (buffers : List Buffer) (m : Memory) (disk d disk' : Disk) (segments n : ℕ) → IsZeroing extent disk d (all_sectors (first_segments (payload_of (readable_of m buffers)) n))
+pub zeroes_done : {identity : List ℕ} (extent : Extent) (buffers : List Buffer) (m : Memory) (disk d disk' : Disk) (segments n : ℕ) → IsZeroing extent disk d (all_sectors (first_segments (payload_of (readable_of m buffers)) n))
     → length (payload_of (readable_of m buffers)) ≡ 16 * segments → n ≡ segments → disk' ≡ flushed d
-    → IsDone (WriteZeroes segments) buffers m m (extent_disk extent disk) (extent_disk extent disk') 0 Success
+    → IsDone identity (WriteZeroes segments) buffers m m (extent_disk extent disk) (extent_disk extent disk') 0 Success
 zeroes_done extent buffers m disk d disk' segments n z size all flushes =
     let seen : extent_disk extent disk' ≡ flushed (zeroed_sectors (all_sectors (segments_in (payload_of (readable_of m buffers)))) (extent_disk extent disk)) =
     ap (extent_disk extent) flushes ∙ ap flushed (all_zeroed extent disk d (payload_of (readable_of m buffers)) segments n z size all) in
@@ -262,9 +262,9 @@ zeroes_done extent buffers m disk d disk' segments n z size all flushes =
     }
 
 -- or the flush fails
-pub zeroes_unflushed : (extent : Extent) (buffers : List Buffer) (m : Memory) (disk d disk' : Disk) (segments n : ℕ) → IsZeroing extent disk d (all_sectors (first_segments (payload_of (readable_of m buffers)) n))
+pub zeroes_unflushed : {identity : List ℕ} (extent : Extent) (buffers : List Buffer) (m : Memory) (disk d disk' : Disk) (segments n : ℕ) → IsZeroing extent disk d (all_sectors (first_segments (payload_of (readable_of m buffers)) n))
     → length (payload_of (readable_of m buffers)) ≡ 16 * segments → n ≡ segments → disk' ≡ failed d
-    → IsDone (WriteZeroes segments) buffers m m (extent_disk extent disk) (extent_disk extent disk') 0 IoError
+    → IsDone identity (WriteZeroes segments) buffers m m (extent_disk extent disk) (extent_disk extent disk') 0 IoError
 zeroes_unflushed extent buffers m disk d disk' segments n z size all fails =
     let seen : extent_disk extent disk' ≡ failed (zeroed_sectors (all_sectors (segments_in (payload_of (readable_of m buffers)))) (extent_disk extent disk)) =
     ap (extent_disk extent) fails ∙ ap failed (all_zeroed extent disk d (payload_of (readable_of m buffers)) segments n z size all) in

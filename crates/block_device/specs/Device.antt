@@ -38,14 +38,14 @@ device_by Way device = record {
 
 -- the device, whether or not the image fails
 abbrev pub block_device : BlockDevice → Device Disk
-block_device device = device_by Ends device
+block_device device = device_by (Ends device.identity) device
 
 -- the same device over an image that never fails
 abbrev pub exact_device : BlockDevice → Device Disk
-exact_device device = device_by Completes device
+exact_device device = device_by (Completes device.identity) device
 
 -- The exact device has an answer to this chain, which says of each writable place what is written there.
 pub record HasAnswer (device : BlockDevice) (disk : Disk) (readable : List ℕ) (w : ℕ) : Type 0 where
   pub given : Given Disk
-  pub gives : GivesBy Completes device disk readable w given
+  pub gives : GivesBy (Completes device.identity) device disk readable w given
   pub each : length given.written ≡ w

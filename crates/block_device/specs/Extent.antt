@@ -38,3 +38,8 @@ ToldOutside extent (Some old) (Some new) = SameOutside extent old new
 pub record KeepsOutside (extent : Extent) (old new : Disk) : Type 0 where
   pub sectors : new.sector_count ≡ old.sector_count
   pub told : ToldOutside extent old.told new.told
+
+-- the same sectors, whatever failed and whatever is to be flushed: their driver can't tell the two
+pub record SameSectors (s t : Disk) : Type 0 where
+  pub told : t.told ≡ s.told
+  pub sectors : t.sector_count ≡ s.sector_count

@@ -4,4 +4,5 @@ pub mod Extent
 pub mod Outcome
 pub mod Progress
 pub mod Request
+pub mod Serving
 pub mod Zeroes

@@ -1,6 +1,6 @@
 -- What becomes of a request (5.2.6), on the disk that its device shows: where no image call fails a
 -- function of what the image answers, and else the ways in which a request fails.
-use Rattle.std.specs.Prelude.{◌≡◌, ℕ, ◌+◌, ◌*◌, ◌<◌, Bool, true, List, [], ◌∷◌, ◌++◌, length, take, drop, replicate, IfSome, codes, ◌⊎◌}
+use Rattle.std.specs.Prelude.{◌≡◌, ℕ, ◌+◌, ◌*◌, ◌<◌, Bool, true, List, [], ◌∷◌, ◌++◌, length, take, drop, IfSome, ◌⊎◌}
 use Rattle.std.specs.Option.{option_map}
 use Rattle.sector_cache.specs.Sector.{extent_of}
 use Rattle.sector_cache.specs.Disk.{Disk, failed, flushed}
@@ -38,18 +38,15 @@ pub record AreAsTold (disk : Disk) (sector count : ℕ) (found : List ℕ) : Typ
   pub size : length found ≡ sector_len * count
   pub told : IfSome disk.told (λ bytes. found ≡ extent_of bytes sector count)
 
--- the 20 bytes that GET_ID gives: a text, and zeros behind it
-abbrev pub identity : List ℕ
-identity = codes "vreplay-block" ++ replicate 7 0
-
--- what a request puts in the first writable places: an IN what it reads, GET_ID the identity, others nothing
-abbrev pub Finds : Request → Disk → List ℕ → Type 0
-Finds (Rejected status) disk found = found ≡ []
-Finds (Read sector count) disk found = AreAsTold disk sector count found
-Finds (Write sector count) disk found = found ≡ []
-Finds Flush disk found = found ≡ []
-Finds GetId disk found = found ≡ identity
-Finds (WriteZeroes segments) disk found = found ≡ []
+-- What a request puts in the first writable places: an IN what it reads, GET_ID the identity of the device
+-- (5.2.6), others nothing.
+abbrev pub Finds : List ℕ → Request → Disk → List ℕ → Type 0
+Finds identity (Rejected status) disk found = found ≡ []
+Finds identity (Read sector count) disk found = AreAsTold disk sector count found
+Finds identity (Write sector count) disk found = found ≡ []
+Finds identity Flush disk found = found ≡ []
+Finds identity GetId disk found = found ≡ identity
+Finds identity (WriteZeroes segments) disk found = found ≡ []
 
 -- the disk and the status after it: OUT and WRITE_ZEROES end by a flush, also without a sector
 abbrev pub completed : Request → List ℕ → List ℕ → Disk → Outcome
@@ -60,10 +57,10 @@ completed Flush payload found disk = record { disk = flushed disk; found = found
 completed GetId payload found disk = record { disk = disk; found = found; status = Success }
 completed (WriteZeroes segments) payload found disk = record { disk = flushed (zeroed_sectors (all_sectors (segments_in payload)) disk); found = found; status = Success }
 
--- The request ends so, and no image call fails.
-pub record Completes (request : Request) (payload : List ℕ) (disk : Disk) (outcome : Outcome) : Type 0 where
+-- A device of this identity ends the request so, and no image call fails.
+pub record Completes (identity : List ℕ) (request : Request) (payload : List ℕ) (disk : Disk) (outcome : Outcome) : Type 0 where
   pub found : List ℕ
-  pub finds : Finds request disk found
+  pub finds : Finds identity request disk found
   pub is : outcome ≡ completed request payload found disk
 
 -- IN fails at a sector: those before it were read, and nothing of that one is given
@@ -109,5 +106,5 @@ Fails GetId payload disk outcome = ⊥
 Fails (WriteZeroes segments) payload disk outcome =
     ZeroingFails (all_sectors (segments_in payload)) disk outcome ⊎ ZeroedUnflushed (all_sectors (segments_in payload)) disk outcome
 
-abbrev pub Ends : Request → List ℕ → Disk → Outcome → Type 0
-Ends request payload disk outcome = Completes request payload disk outcome ⊎ Fails request payload disk outcome
+abbrev pub Ends : List ℕ → Request → List ℕ → Disk → Outcome → Type 0
+Ends identity request payload disk outcome = Completes identity request payload disk outcome ⊎ Fails request payload disk outcome

@@ -26,8 +26,8 @@ IsServable capacity (WriteZeroes segments) payload room =
 
 -- The request has ended but for its status, which is known and not yet written: the first len places of
 -- the writable list are.
-pub record IsDone (request : Request) (buffers : List Buffer) (old new : Memory) (disk disk' : Disk) (len : ℕ) (status : RequestStatus) : Type 0 where
+pub record IsDone (identity : List ℕ) (request : Request) (buffers : List Buffer) (old new : Memory) (disk disk' : Disk) (len : ℕ) (status : RequestStatus) : Type 0 where
   pub found : List ℕ
-  pub ends : Ends request (payload_of (readable_of old buffers)) disk (record { disk = disk'; found = found; status = status })
+  pub ends : Ends identity request (payload_of (readable_of old buffers)) disk (record { disk = disk'; found = found; status = status })
   pub len_is : len ≡ length found
   pub memory : new ≡ scattered old (writable_of buffers) (map Some found)

@@ -18,9 +18,6 @@ use guest_memory::GuestMemory;
 use sector_cache::{Image, SectorCache};
 use std::alloc::Allocator;
 
-/// What GET_ID gives: a text, and zeros behind it.
-const IDENTITY: [u8; 20] = *b"vreplay-block\0\0\0\0\0\0\0";
-
 /// What the used entry of a chain says.
 #[derive(Clone, Copy, Debug, PartialEq, Eq)]
 pub(crate) struct Answer {
@@ -97,7 +94,7 @@ impl BlockDevice {
         requires servable { IsServable self.now.extent.count request
             (payload_of (readable_of mem.old chain.now)) room }
         requires room { room + 1 ≡ length (writable_of chain.now) }
-        ensures done { IsDone request chain.now mem.old mem.new
+        ensures done { IsDone self.now.identity request chain.now mem.old mem.new
             (extent_disk self.now.extent (I.disk cache.old))
             (extent_disk self.now.extent (I.disk cache.new)) result.len result.status }
         ensures room { result.len ≤ room }
@@ -120,7 +117,7 @@ impl BlockDevice {
                 Err(_) => Done::FAILED,
             },
             Request::GetId => {
-                chain.write_at(mem, 0, &IDENTITY);
+                chain.write_at(mem, 0, &self.identity);
                 Done {
                     len: ID_LEN,
                     ..Done::SUCCEEDED

@@ -1,4 +1,4 @@
-//! The device: which sectors it shows, whether they may be written, and its configuration space (5.2.4).
+//! The device: which sectors it shows, whether they may be written, its identity, and its configuration space (5.2.4).
 
 ghost use Rattle.std.specs.Prelude.{◌≡◌};
 ghost use Rattle.block_device.specs.Config.{config_of};
@@ -21,15 +21,22 @@ pub struct BlockDevice {
     pub extent: Extent,
     /// Whether it refuses to write (VIRTIO_BLK_F_RO, 5.2.3).
     pub read_only: bool,
+    /// What GET_ID gives (5.2.6). A text that is shorter has NULs behind it.
+    pub identity: [u8; 20],
 }
 
 impl BlockDevice {
     /// A device that shows these sectors.
-    pub fn new(extent: Extent, read_only: bool) -> BlockDevice
+    pub fn new(extent: Extent, read_only: bool, identity: [u8; 20]) -> BlockDevice
         ensures extent { result.extent ≡ extent }
         ensures read_only { result.read_only ≡ read_only }
+        ensures identity { result.identity ≡ identity }
     {
-        BlockDevice { extent, read_only }
+        BlockDevice {
+            extent,
+            read_only,
+            identity,
+        }
     }
 
     /// The configuration space (5.2.4), little-endian: capacity at 0, seg_max at 12, blk_size at 20,

@@ -1,32 +1,35 @@
 //! Laws of the definitions. The bodies are empty: each contract is a theorem.
 
-ghost use Rattle.std.specs.Prelude.{◌≡◌, ◌≢◌, ◌⊎◌, ℕ, ◌+◌, ◌≤◌, Bool, List, Some};
-ghost use Rattle.chain.specs.Service.{Ending, Given, IsService, Refused, Site};
+ghost use Rattle.std.specs.Prelude.{◌≡◌, ◌≢◌, ◌⊎◌, ℕ, ◌+◌, ◌≤◌, Bool, List, None, Some, length};
+ghost use Rattle.chain.specs.Pieces.{GoesInPieces, IsOneService, Pause};
+ghost use Rattle.chain.specs.Service.{Ending, Given, IsService, Refused, Site, open_site};
 ghost use Rattle.sector_cache.specs.Disk.{Disk, IsWhole};
 ghost use Rattle.mmio_window.specs.declared.queue.Queue.{Queue};
 ghost use Rattle.mmio_window.specs.Queue.{queue_kind};
 ghost use Rattle.block_device.specs.declared.device.BlockDevice.{BlockDevice};
 ghost use Rattle.block_device.specs.Device.{GivesBy, HasAnswer, block_device, exact_device};
+ghost use Rattle.block_device.specs.Extent.{SameSectors};
 ghost use Rattle.block_device.specs.Outcome.{Completes, Ends};
 
 /// A chain is served exactly as over an image that never fails, or one failure more is counted.
 pub fn one_failure_at_most()
     ensures counted { (device : BlockDevice) (disk : Disk) (readable : List ℕ) (w : ℕ) (given : Given Disk)
-        → GivesBy Ends device disk readable w given
+        → GivesBy (Ends device.identity) device disk readable w given
         → (given.state.failures ≡ disk.failures) ⊎ (given.state.failures ≡ disk.failures + 1) }
     ensures exact { (device : BlockDevice) (disk : Disk) (readable : List ℕ) (w : ℕ) (given : Given Disk)
-        → GivesBy Ends device disk readable w given → given.state.failures ≡ disk.failures
-        → GivesBy Completes device disk readable w given }
+        → GivesBy (Ends device.identity) device disk readable w given → given.state.failures ≡ disk.failures
+        → GivesBy (Completes device.identity) device disk readable w given }
 {}
 
 /// Over an image that tells all of its bytes and doesn't fail there is one answer to a chain.
 pub fn one_answer()
     ensures at_most_one { (device : BlockDevice) (disk : Disk) (bytes readable : List ℕ) (w : ℕ) (one other : Given Disk)
         → disk.told ≡ Some bytes
-        → GivesBy Completes device disk readable w one → GivesBy Completes device disk readable w other
+        → GivesBy (Completes device.identity) device disk readable w one → GivesBy (Completes device.identity) device disk readable w other
         → one ≡ other }
     ensures some { (device : BlockDevice) (disk : Disk) (bytes readable : List ℕ) (w : ℕ)
         → disk.told ≡ Some bytes → IsWhole disk → device.extent.count ≤ disk.sector_count
+        → length device.identity ≡ 20
         → HasAnswer device disk readable w }
 {}
 
@@ -51,4 +54,13 @@ pub fn at_most_one_exact_service()
         → IsService queue_kind (exact_device device) old one ending wanted
         → IsService queue_kind (exact_device device) old other end wants
         → (one ≡ other) × (ending ≡ end) × (wanted ≡ wants) }
+{}
+
+/// The pieces of a service, joined, are one service, however the image fares in the pauses: what the driver finds in
+/// its memory, its queue and its sectors is the same, and so are the ending and the notification.
+pub fn pieces_are_one_service()
+    ensures { (device : BlockDevice) (old new : Site Queue Disk) (pauses : List (Pause Queue Disk))
+        (ending : Ending) (wanted : Bool) → queue_kind.opening_fault old.memory old.ring ≡ None
+        → GoesInPieces queue_kind (block_device device) SameSectors (open_site queue_kind (block_device device) old) pauses new ending wanted
+        → IsOneService queue_kind (block_device device) SameSectors old new ending wanted }
 {}

@@ -10,6 +10,7 @@ mod answer;
 mod device;
 mod extent;
 mod laws;
+mod queue;
 mod request;
 mod serve;
 #[cfg(test)]
@@ -21,6 +22,7 @@ pub use device::BlockDevice;
 pub use extent::Extent;
 pub use laws::{
     a_service_without_failure_is_exact, at_most_one_exact_service, no_service_is_refused,
-    one_answer, one_failure_at_most,
+    one_answer, one_failure_at_most, pieces_are_one_service,
 };
 pub use request::{Request, RequestStatus};
+pub use serve::Piece;

@@ -4,6 +4,8 @@
 ghost use Rattle.std.specs.Prelude.{IfOk};
 ghost use Rattle.chain.specs.Buffers.{Good};
 
+mod pieces;
+
 use crate::answer::Answer;
 use crate::{BlockDevice, Extent};
 use chain::{Buffer, Chain, Fault, Segment};
@@ -23,16 +25,21 @@ const DATA: u64 = BASE + 0x5000;
 
 const STATUS: u64 = BASE + 0x6000;
 
+/// What the devices answer to GET_ID.
+const IDENTITY: [u8; 20] = *b"disk-of-the-tests-01";
+
 /// A device over all of the image.
 const WHOLE: BlockDevice = BlockDevice {
     extent: Extent { start: 0, count: 8 },
     read_only: false,
+    identity: IDENTITY,
 };
 
 /// One that only reads.
 const READER: BlockDevice = BlockDevice {
     extent: Extent { start: 0, count: 8 },
     read_only: true,
+    identity: IDENTITY,
 };
 
 const fn readable(addr: u64, len: u32) -> Buffer {
@@ -131,7 +138,7 @@ impl Guest {
             start: 0,
             count: capacity,
         };
-        let device = BlockDevice::new(extent, false);
+        let device = BlockDevice::new(extent, false, IDENTITY);
         let request = device.request(&self.mem, &chain, 0);
         Ok(request == crate::Request::WriteZeroes { segments: 1 })
     }
@@ -202,6 +209,47 @@ fn check_request(rt: &impl Abort, guest: &mut Guest, request: &Request) {
         request,
         &found,
         &(Ok(answer_of(len, false)), Some(status)),
+    );
+}
+
+/// Identities that differ from one another in every byte: with NULs inside, without any, and of NULs alone.
+const IDENTITIES: [[u8; 20]; 3] = [
+    [
+        0xff, 0, 1, 2, 3, 4, 5, 6, 7, 8, 9, 0x80, 11, 12, 13, 14, 15, 16, 17, 18,
+    ],
+    *b"a-disk-of-20-letters",
+    [0; 20],
+];
+
+#[test]
+fn get_id_gives_the_identity_and_no_byte_more(rt: HostRuntime) -> Result<(), Fail> {
+    let mut guest = Guest::new(rt.alloc(), &[])?;
+    guest.put_request(8, 0);
+    for identity in &IDENTITIES {
+        check_identity(&rt, &mut guest, identity);
+    }
+    Ok(())
+}
+
+fn check_identity(rt: &impl Abort, guest: &mut Guest, identity: &[u8; 20]) {
+    let _ = guest.mem.put_u64(DATA + 20, 0xee);
+    let device = BlockDevice {
+        identity: *identity,
+        ..WHOLE
+    };
+    let buffers = [
+        readable(HEADER, 16),
+        writable(DATA, 21),
+        writable(STATUS, 1),
+    ];
+    let served = guest.serve(rt, device, &buffers).is_ok();
+    let found = guest.mem.part(DATA, 20) == Some(identity.as_slice());
+    let behind = guest.mem.part(DATA + 20, 1).map(|bytes| bytes[0]);
+    same(
+        rt,
+        identity,
+        &(served, found, behind),
+        &(true, true, Some(0xee)),
     );
 }
 
@@ -315,5 +363,5 @@ fn the_configuration_shows_the_capacity(rt: HostRuntime) {
     want[21] = 2;
     want[50] = 1;
     want[52] = 32;
-    assert!(rt; BlockDevice::new(extent, false).config() == want);
+    assert!(rt; BlockDevice::new(extent, false, IDENTITY).config() == want);
 }

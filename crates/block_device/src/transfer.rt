@@ -59,7 +59,7 @@ impl BlockDevice {
         requires sectors { sector + count ≤ self.now.extent.count }
         requires room { sector_len * count ≤ length (writable_of chain.now) }
         requires fits { sector_len * count < 2 ^ 64 }
-        ensures done { IsDone (Read sector count) chain.now mem.old mem.new
+        ensures done { IsDone self.now.identity (Read sector count) chain.now mem.old mem.new
             (extent_disk self.now.extent (I.disk cache.old))
             (extent_disk self.now.extent (I.disk cache.new)) result.len result.status }
         ensures len { result.len ≤ sector_len * count }
@@ -101,7 +101,7 @@ impl BlockDevice {
         requires sectors { sector + count ≤ self.now.extent.count }
         requires payload { length (payload_of (readable_of mem.now chain.now)) ≡ sector_len * count }
         requires fits { sector_len * count + 16 < 2 ^ 64 }
-        ensures done { IsDone (Write sector count) chain.now mem.now mem.now
+        ensures done { IsDone self.now.identity (Write sector count) chain.now mem.now mem.now
             (extent_disk self.now.extent (I.disk cache.old))
             (extent_disk self.now.extent (I.disk cache.new)) result.len result.status }
         ensures len { result.len ≡ 0 }

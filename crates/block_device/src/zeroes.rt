@@ -139,7 +139,7 @@ impl BlockDevice {
         requires sectors { list_all (has_sectors_within self.now.extent.count)
             (segments_in (payload_of (readable_of mem.now chain.now))) ≡ true }
         requires fits { segment_len * segments < 2 ^ 64 }
-        ensures done { IsDone (WriteZeroes segments) chain.now mem.now mem.now
+        ensures done { IsDone self.now.identity (WriteZeroes segments) chain.now mem.now mem.now
             (extent_disk self.now.extent (I.disk cache.old))
             (extent_disk self.now.extent (I.disk cache.new)) result.len result.status }
         ensures len { result.len ≡ 0 }

@@ -56,10 +56,10 @@ seen_disk extent disk tells whole lies =
 
 -- the slot's device, as its guest knows it
 abbrev slot_device : BoardSlot → BlockDevice
-slot_device slot = record { extent = slot.extent; read_only = slot.read_only }
+slot_device slot = record { extent = slot.extent; read_only = slot.read_only; identity = slot.identity }
 
-abbrev counted_device : Bool → ℕ → BlockDevice
-counted_device read_only count = record { extent = record { start = 0; count = count }; read_only = read_only }
+abbrev counted_device : BoardSlot → ℕ → BlockDevice
+counted_device slot count = record (slot_device slot) { extent = record { start = 0; count = count } }
 
 -- ---- a service
 
@@ -99,7 +99,7 @@ notified_service Way slot offset width value memory block old new tells tells' w
     let before = mid offset width value slot in
     let count : slot.extent.count ≡ sectors_of start.extent = sym (count_of slot.extent old tells whole lies) in
     let guest = notified_anywhere Way (slot_device slot) (queue_at 0 before) slot.memory memory before block (extent_disk slot.extent old) (extent_disk slot.extent new) h in
-    let own = subst (λ c. IsNotified (device_by Way (counted_device slot.read_only c)) 0 (queue_at 0 before) slot.memory memory before block (extent_disk slot.extent old) (extent_disk slot.extent new)) count guest in
+    let own = subst (λ c. IsNotified (device_by Way (counted_device slot c)) 0 (queue_at 0 before) slot.memory memory before block (extent_disk slot.extent old) (extent_disk slot.extent new)) count guest in
     let seen = seen_service (device_by Way (device_of start)) slot (block_served slot memory block) before old new tells tells' whole whole' lies lies' own in
     record { notified = seen.notified; is = refl }
 
@@ -138,9 +138,9 @@ notified_given {A} slot offset width value memory block old new tells tells' who
 
     either : (new.failures ≡ old.failures) ⊎ (new.failures ≢ old.failures)
         → (Finishes ServeBlock start (health_of old) (health_of new) came × ((came.reply ≢ NoMemory) × (new.failures ≡ old.failures))) ⊎ IsCutShort ServeBlock start (health_of old) (health_of new) came
-    either (inl stood) = inl (notified_service Completes slot offset width value memory block old new tells tells' whole whole' lies lies' (exact stood), (λ none. cc, stood))
+    either (inl stood) = inl (notified_service (Completes slot.identity) slot offset width value memory block old new tells tells' whole whole' lies lies' (exact stood), (λ none. cc, stood))
     either (inr rose) = inr (record {
-      service = notified_service Ends slot offset width value memory block old new tells tells' whole whole' lies lies' served;
+      service = notified_service (Ends slot.identity) slot offset width value memory block old new tells tells' whole whole' lies lies' served;
       failures = grind (arith, nat_tests, rises, rose);
     })
 

@@ -98,7 +98,7 @@ first_not_good sectors slots f first good =
 -- where a refusal comes from
 data Why (sectors : ℕ) (slots : List SlotSpec) (cache : ℕ) (fault : BoardFault) : Type 0 where
   none : fault ≡ NoSlots → length slots ≡ 0 → Why sectors slots cache fault
-  many : fault ≡ TooManySlots → 16 < length slots → Why sectors slots cache fault
+  many : fault ≡ TooManySlots → 64 < length slots → Why sectors slots cache fault
   first : HasFirstFault sectors slots fault → Why sectors slots cache fault
   capacity : fault ≡ Cache BadCapacity → AreGood sectors slots → ¬ IsCapacity cache → Why sectors slots cache fault
   memory : fault ≡ NoMemory → AreGood sectors slots → IsCapacity cache → Why sectors slots cache fault

@@ -8,7 +8,8 @@ use Rattle.mmio_window.specs.Window.{WindowState}
 use Rattle.mmio_window.proofs.Services.{NotifiedAs, notified_as}
 use Rattle.block_device.specs.declared.device.BlockDevice.{BlockDevice}
 use Rattle.block_device.specs.Device.{exact_device}
-use Rattle.block_device.proofs.Guests.{SameSectors, exact_same}
+use Rattle.block_device.specs.Extent.{SameSectors}
+use Rattle.block_device.proofs.Guests.{exact_same}
 use Rattle.board.specs.Image.{Health, health_of, sectors_of, disk_with}
 use Rattle.board.specs.Machine.{at_rest}
 

@@ -160,12 +160,12 @@ failed_many n capacity (WriteZeroes segments) payload disk outcome room small fi
     (zeroed_many n capacity (all_sectors (segments_in payload)) disk small (all-below capacity (segments_in payload) fits.1) many)
     (ap (λ (o : Outcome). o.disk.told) h)
 
-ends_many : (n : ℕ) (capacity : ℕ) (request : Request) (payload : List ℕ) (disk : Disk) (outcome : Outcome) (room : ℕ) → 512 * capacity ≤ n → IsServable capacity request payload room → TellsMany n disk → Ends request payload disk outcome → TellsMany n outcome.disk
+ends_many : {identity : List ℕ} (n : ℕ) (capacity : ℕ) (request : Request) (payload : List ℕ) (disk : Disk) (outcome : Outcome) (room : ℕ) → 512 * capacity ≤ n → IsServable capacity request payload room → TellsMany n disk → Ends identity request payload disk outcome → TellsMany n outcome.disk
 ends_many n capacity request payload disk outcome room small fits many (inl h) =
     subst (λ (o : Outcome). TellsMany n o.disk) (sym h.is) (completed_many n capacity request payload h.found disk room small fits many)
 ends_many n capacity request payload disk outcome room small fits many (inr h) = failed_many n capacity request payload disk outcome room small fits many h
 
-gives_many : (n : ℕ) (device : BlockDevice) (disk : Disk) (readable : List ℕ) (w : ℕ) (given : Given Disk) → 512 * device.extent.count ≤ n → TellsMany n disk → GivesBy Ends device disk readable w given → TellsMany n given.state
+gives_many : (n : ℕ) (device : BlockDevice) (disk : Disk) (readable : List ℕ) (w : ℕ) (given : Given Disk) → 512 * device.extent.count ≤ n → TellsMany n disk → GivesBy (Ends device.identity) device disk readable w given → TellsMany n given.state
 gives_many n device disk readable zero given small many h = subst (λ (d : Disk). TellsMany n d) (sym (ap (λ (g : Given Disk). g.state) h)) many
 gives_many n device disk readable (suc room) given small many h =
     subst (λ (d : Disk). TellsMany n d) (sym (ap (λ (g : Given Disk). g.state) h.given_is))
@@ -243,6 +243,7 @@ service_beside {A} old before after outcome h =
       cols = ap (λ (o : Came A). o.state.cols) h.service.is;
       rows = ap (λ (o : Came A). o.state.rows) h.service.is;
       read_only = ap (λ (o : Came A). o.state.read_only) h.service.is;
+      identity = ap (λ (o : Came A). o.state.identity) h.service.is;
       memory =
           notified_range (block_device (device_of old)) 0 (queue_at 0 old.block) h.service.notified.ending old.memory outcome.state.memory old.block outcome.state.block (disk_with old.extent before) (disk_with outcome.state.extent after) h.service.notified.notified;
       extent = ap (λ (bs : List ℕ). length bs) same ∙ many.size;
@@ -277,7 +278,7 @@ write_beside : {A : Type 0} (state : SlotState) (window : DeviceKind) (offset wi
 write_beside state Block offset width value before after outcome rose h =
     let kept : KeepsBesideDisk (with_write Block offset width value state) outcome.state =
     block_beside (action_at Block offset width value state) (with_write Block offset width value state) before after outcome h in
-    record { console = kept.console; pending = kept.pending; cols = kept.cols; rows = kept.rows; read_only = kept.read_only; memory = kept.memory; extent = kept.extent }
+    record { console = kept.console; pending = kept.pending; cols = kept.cols; rows = kept.rows; read_only = kept.read_only; identity = kept.identity; memory = kept.memory; extent = kept.extent }
 write_beside state Console offset width value before after outcome rose h =
     absurd (console_stood (action_at Console offset width value state) (with_write Console offset width value state) before after outcome rose h)
 
@@ -376,12 +377,13 @@ byte_without_memory {A} old new h width value written step lacks =
 -- ---- what stays of a slot whose event found no memory
 
 same_slot : (state : SlotState) → KeepsBesideTransmit state state
-same_slot state = record { extent = refl; read_only = refl; block = refl; pending = refl; cols = refl; rows = refl; memory = same_range state.memory }
+same_slot state = record { extent = refl; read_only = refl; identity = refl; block = refl; pending = refl; cols = refl; rows = refl; memory = same_range state.memory }
 
 transmit_beside : {A : Type 0} (state : SlotState) (old new : Health) (outcome : Came A) → IsRefusedTransmit state old new outcome → KeepsBesideTransmit state outcome.state
 transmit_beside {A} state old new outcome h = record {
   extent = ap (λ (o : Came A). o.state.extent) h.is;
   read_only = ap (λ (o : Came A). o.state.read_only) h.is;
+  identity = ap (λ (o : Came A). o.state.identity) h.is;
   block = ap (λ (o : Came A). o.state.block) h.is;
   pending = ap (λ (o : Came A). o.state.pending) h.is;
   cols = ap (λ (o : Came A). o.state.cols) h.is;
@@ -397,6 +399,7 @@ console_beside : (offset width value : ℕ) (state after : SlotState) → KeepsB
 console_beside offset width value state after kept = record {
   extent = kept.extent;
   read_only = kept.read_only;
+  identity = kept.identity;
   block = kept.block;
   pending = kept.pending;
   cols = kept.cols;

@@ -14,3 +14,4 @@ pub mod Specs
 pub mod Faults
 pub mod Within
 pub mod OneSeat
+pub mod Identities

@@ -70,6 +70,7 @@ with_extent_bytes slot bytes = record {
   memory = slot.memory;
   extent = bytes;
   read_only = slot.read_only;
+  identity = slot.identity;
   block = slot.block;
   console = slot.console;
   pending = slot.pending;

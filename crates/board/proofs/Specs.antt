@@ -40,7 +40,7 @@ good_more sectors slots n d below good one i spec near there =
     more_at sectors slots n (get_or slots n d) good one (slice_get-get_or slots n d below) i spec near there (cases_lt i n)
 
 -- a slot's fault, where those before it are good, refuses the board
-pub refused_slot : (sectors : ℕ) (slots : List SlotSpec) (n : ℕ) (spec : SlotSpec) (fault : BoardFault) → slice_get slots n ≡ Some spec → 1 ≤ length slots → length slots ≤ 16 → GoodBelow sectors slots n → IsFaultOf sectors (take n slots) spec fault → (cache : ℕ) → Refuses sectors slots cache fault
+pub refused_slot : (sectors : ℕ) (slots : List SlotSpec) (n : ℕ) (spec : SlotSpec) (fault : BoardFault) → slice_get slots n ≡ Some spec → 1 ≤ length slots → length slots ≤ 64 → GoodBelow sectors slots n → IsFaultOf sectors (take n slots) spec fault → (cache : ℕ) → Refuses sectors slots cache fault
 refused_slot sectors slots n spec NoSlots there some few good is cache = absurd is
 refused_slot sectors slots n spec TooManySlots there some few good is cache = absurd is
 refused_slot sectors slots n spec (Memory fault) there some few good is cache = record { some = some; few = few; at_slot = n; spec = spec; there = there; before = good; fault_is = is }
@@ -75,7 +75,7 @@ apart_at sectors slots good i j d before below =
 
 apart_all : (sectors : ℕ) (slots : List SlotSpec) → AreGood sectors slots → AllPairs IsApart (map (λ (spec : SlotSpec). spec.extent) slots)
 apart_all sectors slots good i j d before below =
-    let some : SlotSpec = record { base = 0; len = 0; extent = d; read_only = false; cols = 0; rows = 0 } in
+    let some : SlotSpec = record { base = 0; len = 0; extent = d; read_only = false; cols = 0; rows = 0; identity = [] } in
     let extent : SlotSpec → Extent = λ spec. spec.extent in
     let fits : j < length slots = omega (arith, length-map slots extent) in
     rw (get_or-map extent slots i some d (omega arith), get_or-map extent slots j some d fits) (apart_at sectors slots good i j some before fits)

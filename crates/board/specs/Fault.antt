@@ -29,10 +29,10 @@ GoodBelow sectors slots n =
     (i : ℕ) (spec : SlotSpec) → i < n → slice_get slots i ≡ Some spec →
     IsGoodSlot sectors (take i slots) spec
 
--- all the slots can be had together: one to sixteen, and each is good
+-- all the slots can be had together: one to sixty-four, and each is good
 pub record AreGood (sectors : ℕ) (slots : List SlotSpec) : Type 0 where
   pub some : 1 ≤ length slots
-  pub few : length slots ≤ 16
+  pub few : length slots ≤ 64
   pub each : GoodBelow sectors slots (length slots)
 
 -- an extent that passes the image's end, of a slot whose memory is good
@@ -58,7 +58,7 @@ IsFaultOf sectors earlier spec _ = ⊥
 -- the first slot that isn't good has this fault
 pub record HasFirstFault (sectors : ℕ) (slots : List SlotSpec) (fault : BoardFault) : Type 0 where
   pub some : 1 ≤ length slots
-  pub few : length slots ≤ 16
+  pub few : length slots ≤ 64
   pub at_slot : ℕ
   pub spec : SlotSpec
   pub there : slice_get slots at_slot ≡ Some spec
@@ -69,7 +69,7 @@ pub record HasFirstFault (sectors : ℕ) (slots : List SlotSpec) (fault : BoardF
 -- slot by slot, then the cache's capacity, and last want of memory, whatever it was wanted for.
 abbrev pub Refuses : ℕ → List SlotSpec → ℕ → BoardFault → Type 0
 Refuses sectors slots cache NoSlots = slots ≡ []
-Refuses sectors slots cache TooManySlots = 16 < length slots
+Refuses sectors slots cache TooManySlots = 64 < length slots
 Refuses sectors slots cache (Memory fault) = HasFirstFault sectors slots (Memory fault)
 Refuses sectors slots cache ExtentOutside = HasFirstFault sectors slots ExtentOutside
 Refuses sectors slots cache ExtentsOverlap = HasFirstFault sectors slots ExtentsOverlap

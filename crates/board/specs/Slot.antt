@@ -11,12 +11,13 @@ use Rattle.block_device.specs.declared.extent.Extent.{Extent}
 use Rattle.board.specs.declared.spec.SlotSpec.{SlotSpec}
 
 -- All that one guest can see: its memory, the bytes of its extent of the image, whether its block
--- device refuses writes, the windows of its two devices, and of its console what was typed and is still
--- pending, and the size.
+-- device refuses writes and what its identity is, the windows of its two devices, and of its console what was
+-- typed and is still pending, and the size.
 pub record SlotState : Type 0 where
   pub memory : Memory
   pub extent : List ℕ
   pub read_only : Bool
+  pub identity : List ℕ
   pub block : WindowState
   pub console : WindowState
   pub pending : List ℕ
@@ -29,6 +30,7 @@ pub record BoardSlot : Type 0 where
   pub memory : Memory
   pub extent : Extent
   pub read_only : Bool
+  pub identity : List ℕ
   pub block : WindowState
   pub console : WindowState
   pub pending : List ℕ
@@ -42,6 +44,7 @@ state_of bytes slot = record {
   memory = slot.memory;
   extent = extent_of bytes slot.extent.start slot.extent.count;
   read_only = slot.read_only;
+  identity = slot.identity;
   block = slot.block;
   console = slot.console;
   pending = slot.pending;
@@ -50,21 +53,23 @@ state_of bytes slot = record {
 }
 
 -- All that a block request doesn't reach stays: the console's window, pending input and size, whether the disk may be
--- written, where the memory lies and how large it is, and how many bytes the disk has.
+-- written, its identity, where the memory lies and how large it is, and how many bytes the disk has.
 pub record KeepsBesideDisk (old new : SlotState) : Type 0 where
   pub console : new.console ≡ old.console
   pub pending : new.pending ≡ old.pending
   pub cols : new.cols ≡ old.cols
   pub rows : new.rows ≡ old.rows
   pub read_only : new.read_only ≡ old.read_only
+  pub identity : new.identity ≡ old.identity
   pub memory : SameRange old.memory new.memory
   pub extent : length new.extent ≡ length old.extent
 
--- All that a transmit doesn't reach stays: the disk and whether it may be written, the block device's window, the
--- console's pending input and size, and where the memory lies and how large it is.
+-- All that a transmit doesn't reach stays: the disk, whether it may be written and its identity, the block device's
+-- window, the console's pending input and size, and where the memory lies and how large it is.
 pub record KeepsBesideTransmit (old new : SlotState) : Type 0 where
   pub extent : new.extent ≡ old.extent
   pub read_only : new.read_only ≡ old.read_only
+  pub identity : new.identity ≡ old.identity
   pub block : new.block ≡ old.block
   pub pending : new.pending ≡ old.pending
   pub cols : new.cols ≡ old.cols
@@ -98,6 +103,7 @@ opened spec = record {
   memory = zeroed spec.base spec.len;
   extent = spec.extent;
   read_only = spec.read_only;
+  identity = spec.identity;
   block = fresh_window Block (block_features spec.read_only) 0;
   console = fresh_window Console console_features 0;
   pending = [];

@@ -45,6 +45,7 @@ abbrev pub device_of : SlotState → BlockDevice
 device_of state = record {
   extent = record { start = 0; count = sectors_of state.extent };
   read_only = state.read_only;
+  identity = state.identity;
 }
 
 -- A block device serves its queue (5.2.6), over an image that holds the guest's sectors and nothing

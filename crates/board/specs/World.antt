@@ -45,6 +45,10 @@ extents_of slots = map (λ slot. slot.extent) slots
 abbrev pub disturbed_of : List BoardSlot → List Bool
 disturbed_of slots = map (λ slot. slot.disturbed) slots
 
+-- what each slot's guest is given by GET_ID
+abbrev pub identities_of : List SlotState → List (List ℕ)
+identities_of slots = map (λ slot. slot.identity) slots
+
 -- what can be seen of slots over an image
 abbrev pub seen : List BoardSlot → Disk → World
 seen slots disk = record {

@@ -24,7 +24,7 @@ use sector_cache::{CacheFault, Image, Refused, SectorCache};
 use std::alloc::{AllocError, Allocator, Global};
 use std::marker::Model;
 
-/// Up to sixteen guests over one image.
+/// Up to sixty-four guests over one image.
 #[derive(Drop)]
 pub struct Board<I: Image, A: Allocator = Global> {
     slots: Vec<Slot<A>, A>,

@@ -12,7 +12,7 @@ use block_device::Extent;
 use guest_memory::fault_of;
 
 /// How many slots a board may have.
-const MOST_SLOTS: usize = 16;
+const MOST_SLOTS: usize = 64;
 
 /// Whether the slots can be had together on an image of that many sectors, or the first fault.
 pub(crate) fn slots(slots: &[SlotSpec], sectors: u64) -> Result<(), BoardFault>

@@ -11,8 +11,8 @@ pub enum BoardFault {
     /// There is no slot.
     #[error("a board needs a slot")]
     NoSlots,
-    /// There are more than sixteen slots.
-    #[error("a board has sixteen slots at most")]
+    /// There are more than sixty-four slots.
+    #[error("a board has sixty-four slots at most")]
     TooManySlots,
     /// A slot's memory has a bad size or a bad base.
     #[error("a guest's memory: {0}")]

@@ -18,7 +18,7 @@ ghost use Rattle.board.specs.Machine.{IsNext, RunsOnItsOwn};
 ghost use Rattle.board.specs.Outcome.{Outcome};
 ghost use Rattle.board.specs.Slot.{SlotState, KeepsBesideDisk, KeepsBesideTransmit};
 ghost use Rattle.board.specs.Task.{emergency_write};
-ghost use Rattle.board.specs.World.{World, KeepsBoard, Step};
+ghost use Rattle.board.specs.World.{World, KeepsBoard, Step, identities_of};
 ghost use Rattle.board.specs.Within.{Seat, IsNextWithin};
 
 use std::alloc::Allocator;
@@ -59,6 +59,12 @@ pub fn a_guest_alone_has_one_run<A: Allocator>()
         (records records' : List (Record A)) →
         RunsOnItsOwn g state events records one → RunsOnItsOwn g state events records' other →
         (records ≡ records') × (one ≡ other) }
+{}
+
+/// No event changes what GET_ID gives: each slot keeps the identity that it was made with.
+pub fn identities_stay<A: Allocator>()
+    ensures { (old new : World) (moves : List (Move A)) → IsLine old moves new →
+        identities_of new.slots ≡ identities_of old.slots }
 {}
 
 /// Two runs, the second from where the first ends, are one run over both lists of events.

@@ -1,4 +1,4 @@
-//! The board: up to sixteen guests, each with a memory and two device windows of its own, over one
+//! The board: up to sixty-four guests, each with a memory and two device windows of its own, over one
 //! backing image that they share extent by extent.
 //!
 //! Everything that a guest does to its devices is an event, and the board handles one event at a
@@ -31,8 +31,8 @@ pub use fault::BoardFault;
 pub use guest_memory::{GuestMemory, MemoryFault};
 pub use laws::{
     a_failed_event_keeps_the_rest, a_guest_alone_has_one_run, a_step_is_a_run, each_guest_is_alone,
-    nothing_else_is_seen, one_outcome, one_outcome_within, refusals_are_noted, two_runs_are_one,
-    want_of_memory_changes_nothing, want_of_memory_keeps_the_rest,
+    identities_stay, nothing_else_is_seen, one_outcome, one_outcome_within, refusals_are_noted,
+    two_runs_are_one, want_of_memory_changes_nothing, want_of_memory_keeps_the_rest,
 };
 pub use mmio_window::DeviceKind;
 pub use reply::{Record, Reply, RunStop};

@@ -52,6 +52,7 @@ impl<A: Allocator> Model for Slot<A> {
       memory = s.memory;
       extent = s.block_device.extent;
       read_only = s.block_device.read_only;
+      identity = s.block_device.identity;
       block = s.block;
       console = s.console;
       pending = s.console_device.pending;
@@ -85,7 +86,7 @@ impl<A: Allocator + Copy> Slot<A> {
         };
         Ok(Slot {
             memory,
-            block_device: BlockDevice::new(spec.extent, spec.read_only),
+            block_device: BlockDevice::new(spec.extent, spec.read_only, spec.identity),
             block: Window::new(DeviceKind::Block, features::of_block(spec.read_only)),
             console_device,
             console: Window::new(DeviceKind::Console, features::of_console()),

@@ -17,4 +17,6 @@ pub struct SlotSpec {
     pub cols: u16,
     /// The rows of the console.
     pub rows: u16,
+    /// What the block device answers to GET_ID (5.2.6). A text that is shorter has NULs behind it.
+    pub identity: [u8; 20],
 }

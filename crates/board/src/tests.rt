@@ -5,6 +5,7 @@ ghost use Rattle.std.specs.Prelude.{◌<◌, length, IfErr};
 
 mod disturbed;
 mod driver;
+mod identities;
 mod long_read;
 mod made;
 mod output;
@@ -27,6 +28,9 @@ fn same<R: Debug, T: PartialEq + Debug>(rt: &impl Abort, row: &R, found: &T, wan
     assert_eq!(rt; found, wanted, "{row:?}");
 }
 
+/// What the slots' disks are called.
+const IDENTITY: [u8; 20] = *b"disk-of-the-tests-01";
+
 /// A slot of `len` bytes of memory from `BASE` on, and `count` sectors from sector `start` on.
 fn slot(len: u64, start: u64, count: u64) -> SlotSpec {
     SlotSpec {
@@ -36,6 +40,7 @@ fn slot(len: u64, start: u64, count: u64) -> SlotSpec {
         read_only: false,
         cols: 80,
         rows: 25,
+        identity: IDENTITY,
     }
 }
 

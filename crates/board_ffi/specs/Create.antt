@@ -1,5 +1,5 @@
 -- What comes of making a board.
-use Rattle.std.specs.Prelude.{◌≡◌, ℕ, ◌/◌, List, Some, None, length}
+use Rattle.std.specs.Prelude.{◌≡◌, ℕ, ◌/◌, List, Some, None, length, All}
 use Rattle.board.specs.Fault.{IsAccepted}
 use Rattle.embed.specs.declared.fault.SessionFault.{SessionFault}
 use Rattle.embed.specs.declared.guest.GuestSpec.{GuestSpec}
@@ -19,9 +19,18 @@ guest_of slot = record {
     read_only = slot.read_only;
     cols = slot.cols;
     rows = slot.rows;
+    identity = slot.identity;
   };
   outlet = slot.outlet;
 }
+
+-- how many bytes a slot has that this version describes
+abbrev pub slot_size : ℕ
+slot_size = 72
+
+-- each slot says that it has so many
+abbrev pub AreSized : List Slot → Type 0
+AreSized slots = All (λ slot. slot.size ≡ slot_size) slots
 
 -- there is a new board of these guests over the image
 pub record IsMade (guests : List GuestSpec) (image : List ℕ) (cache : ℕ) (after : Held) : Type 0 where

@@ -39,6 +39,8 @@ pub(crate) const NO_ROOM: u32 = 15;
 
 pub(crate) const BAD_OUTLET: u32 = 16;
 
+pub(crate) const BAD_SIZE: u32 = 17;
+
 /// The number of a call that was refused.
 pub(crate) fn of_refusal(why: Refusal) -> u32
     ensures { result ≡ refusal_code why }

@@ -7,9 +7,9 @@ ghost use Rattle.embed.specs.declared.fault.SessionFault.{SessionFault};
 ghost use Rattle.embed.specs.Refusing.{AreOutlets, IsBoardFault, IsRefusedFor};
 ghost use Rattle.embed.specs.Session.{new_session, slots_of};
 ghost use Rattle.board_ffi.specs.Codes.{board_code};
-ghost use Rattle.board_ffi.specs.Create.{IsMade, IsNotMade, guest_of};
+ghost use Rattle.board_ffi.specs.Create.{AreSized, IsMade, IsNotMade, guest_of};
 
-use crate::codes::{DONE, HAS_BOARD, NO_BOARD, NO_MEMORY, of_fault};
+use crate::codes::{BAD_SIZE, DONE, HAS_BOARD, NO_BOARD, NO_MEMORY, of_fault};
 use crate::handle::Handle;
 use embed::{Extent, GuestSpec, Session, SessionFault, SlotSpec};
 use std::alloc::{AllocError, Global};
@@ -20,10 +20,15 @@ const SECTOR_LEN: usize = 512;
 /// How many bytes of a console's output may wait at most.
 const MOST_WAITING: u32 = 0x100_0000;
 
+/// How many bytes a slot of this version has.
+const SLOT_SIZE: usize = size_of::<Slot>();
+
 /// A slot, as C describes it.
 #[derive(Clone, Copy)]
 #[repr(C)]
 pub struct Slot {
+    /// How many bytes the host's slot has: later versions have more.
+    pub size: usize,
     pub base: u64,
     pub len: u64,
     pub start: u64,
@@ -32,6 +37,7 @@ pub struct Slot {
     pub rows: u16,
     pub outlet: u32,
     pub read_only: bool,
+    pub identity: [u8; 20],
 }
 
 impl Slot {
@@ -49,6 +55,7 @@ impl Slot {
             read_only: self.read_only,
             cols: self.cols,
             rows: self.rows,
+            identity: self.identity,
         };
         GuestSpec {
             slot,
@@ -68,22 +75,32 @@ pub extern "C" fn kalyubos_create(
     cache: u32,
 ) -> u32
     ensures full { IfSome board.old.session (λ old. (result ≡ 2) × (board.new.session ≡ Some old)) }
+
+    // the sizes are judged before all else that is described
+    ensures bad_size { board.old.session ≡ None → ((result ≡ 17) ↔ ¬ AreSized slots.now) }
+    ensures sized { board.old.session ≡ None → result ≢ 17 → AreSized slots.now }
+    ensures bad_size_keeps { board.old.session ≡ None → result ≡ 17 → board.new.session ≡ None }
+
     ensures made { board.old.session ≡ None → result ≡ 0 →
         IsMade (map guest_of slots.now) image.now cache board.new.session }
-    ensures not_made { board.old.session ≡ None → result ≢ 0 →
+    ensures not_made { board.old.session ≡ None → result ≢ 0 → result ≢ 17 →
         IsNotMade (map guest_of slots.now) image.now cache result board.new.session }
 
     // exactly that number, but that want of memory may come before a board's
-    ensures bad_image { board.old.session ≡ None → length image.now % 512 ≢ 0 → result ≡ 7 }
-    ensures bad_outlet { board.old.session ≡ None → length image.now % 512 ≡ 0 →
-        ¬ AreOutlets (map guest_of slots.now) → result ≡ 16 }
-    ensures bad_board { board.old.session ≡ None → (fault : BoardFault) →
+    ensures bad_image { board.old.session ≡ None → AreSized slots.now →
+        length image.now % 512 ≢ 0 → result ≡ 7 }
+    ensures bad_outlet { board.old.session ≡ None → AreSized slots.now →
+        length image.now % 512 ≡ 0 → ¬ AreOutlets (map guest_of slots.now) → result ≡ 16 }
+    ensures bad_board { board.old.session ≡ None → AreSized slots.now → (fault : BoardFault) →
         IsBoardFault (map guest_of slots.now) image.now cache fault →
         (result ≡ board_code fault) ⊎ (result ≡ 5) }
 {
     if let Some(held) = board.take(alloc) {
         board.put(held);
         return HAS_BOARD;
+    }
+    if !are_sized(slots) {
+        return BAD_SIZE;
     }
     match session(alloc, slots, image, cache) {
         Ok(session) => {
@@ -140,6 +157,13 @@ fn session(
         Ok(session) => Ok(session),
         Err(_) => Err(SessionFault::NoMemory),
     }
+}
+
+// Whether each slot has the size of this version. Nothing behind the first that hasn't is read.
+fn are_sized(slots: &[Slot]) -> bool
+    ensures { IsTrue result ↔ AreSized slots.now }
+{
+    slots.iter().all(|slot| slot.size == SLOT_SIZE)
 }
 
 // Whether no slot's outlet is larger than it may be.

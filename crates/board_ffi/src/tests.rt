@@ -17,6 +17,7 @@ use std::test::*;
 
 /// A guest of 64 KiB with the first two sectors.
 const SLOT: Slot = Slot {
+    size: 72,
     base: 0x8000_0000,
     len: 0x1_0000,
     start: 0,
@@ -25,6 +26,7 @@ const SLOT: Slot = Slot {
     rows: 25,
     outlet: 2,
     read_only: false,
+    identity: *b"disk-of-the-tests-01",
 };
 
 /// A disk of two sectors.
@@ -84,6 +86,7 @@ const GUEST: GuestSpec = GuestSpec {
         read_only: false,
         cols: 80,
         rows: 25,
+        identity: *b"disk-of-the-tests-01",
     },
     outlet: 2,
 };
@@ -104,19 +107,34 @@ fn what_a_board_took_is_given_back(rt: HostRuntime) -> Result<(), Fail> {
 const CUT: [u8; 768] = [7; 768];
 
 /// Slots, an image, the cache's capacity, and what creating them answers.
-const BOARDS: [(&[Slot], &[u8], u32, u32); 10] = [
+const BOARDS: [(&[Slot], &[u8], u32, u32); 15] = [
+    // sizes are judged before all else
+    (&[Slot { size: 71, ..SLOT }], &CUT, 1, 17),
+    (&[Slot { size: 73, ..SLOT }], &IMAGE, 0, 17),
+    (&[Slot { size: 0, ..SLOT }; 65], &IMAGE, 1, 17),
+    (&[SLOT, Slot { size: 64, ..SLOT }], &IMAGE, 1, 17),
+    (
+        &[Slot {
+            size: usize::MAX,
+            len: 0x800,
+            ..SLOT
+        }],
+        &IMAGE,
+        1,
+        17,
+    ),
     (&[SLOT], &CUT, 1, 7),
     (
         &[Slot {
             outlet: 0x100_0001,
             ..SLOT
-        }; 17],
+        }; 65],
         &IMAGE,
         1,
         16,
     ),
     (&[], &IMAGE, 1, 8),
-    (&[SLOT; 17], &IMAGE, 1, 9),
+    (&[SLOT; 65], &IMAGE, 1, 9),
     (&[Slot { len: 0x800, ..SLOT }], &IMAGE, 1, 10),
     (
         &[Slot {
@@ -141,6 +159,31 @@ fn a_board_is_made_or_refused(rt: HostRuntime) -> Result<(), Fail> {
         let got = kalyubos_create(alloc, &mut board, *slots, *image, *cache);
         same(&rt, got, *want);
     }
+    Ok(())
+}
+
+#[test]
+fn there_may_be_sixty_four_slots(rt: HostRuntime) -> Result<(), Fail> {
+    let alloc = rt.alloc();
+    let mut board = Handle::empty(alloc);
+    let slots = [Slot { count: 0, ..SLOT }; 64];
+    same(
+        &rt,
+        kalyubos_create(alloc, &mut board, &slots, &IMAGE, 1),
+        0,
+    );
+    for (slot, want) in &[(63, 0), (64, 3)] {
+        let mut value = 0;
+        let got = kalyubos_read(alloc, &mut board, *slot, 0, 0, 4, &mut value);
+        same(&rt, got, *want);
+    }
+    // the handle is looked at before the sizes
+    let other = [Slot { size: 0, ..SLOT }];
+    same(
+        &rt,
+        kalyubos_create(alloc, &mut board, &other, &IMAGE, 1),
+        2,
+    );
     Ok(())
 }
 

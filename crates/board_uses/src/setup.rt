@@ -11,8 +11,13 @@ pub const MEMORY_BASE: u64 = 0x8000_0000;
 /// How many sectors the shared cache may keep.
 const CACHED_SECTORS: u32 = 64;
 
+/// What the guests' disks are called, each in 20 bytes: Linux shows them as their serials.
+const SYSTEM_DISK: [u8; 20] = *b"system\0\0\0\0\0\0\0\0\0\0\0\0\0\0";
+
+const LIBRARY_DISK: [u8; 20] = *b"library\0\0\0\0\0\0\0\0\0\0\0\0\0";
+
 /// A guest with a mebibyte of memory and eight sectors of the disk.
-fn guest(first_sector: u64, read_only: bool) -> SlotSpec {
+fn guest(first_sector: u64, read_only: bool, identity: [u8; 20]) -> SlotSpec {
     SlotSpec {
         base: MEMORY_BASE,
         len: 0x10_0000,
@@ -23,6 +28,7 @@ fn guest(first_sector: u64, read_only: bool) -> SlotSpec {
         read_only,
         cols: 80,
         rows: 25,
+        identity,
     }
 }
 
@@ -35,14 +41,14 @@ pub fn two_guests<A: Allocator + Copy>(
     ensures made { IfOk result (λ board. length board.slots ≡ 2) }
     ensures returned { IfErr result (λ refused. refused.image ≡ disk) }
 {
-    let guests = [guest(0, false), guest(8, true)];
+    let guests = [guest(0, false, SYSTEM_DISK), guest(8, true, LIBRARY_DISK)];
     Board::new(alloc, &guests, disk, CACHED_SECTORS)
 }
 
 /// What whoever starts a machine can do about a refusal.
 pub fn advice(why: BoardFault) -> &'static str {
     match why {
-        BoardFault::NoSlots | BoardFault::TooManySlots => "a board has 1 to 16 guests",
+        BoardFault::NoSlots | BoardFault::TooManySlots => "a board has 1 to 64 guests",
         BoardFault::Memory(MemoryFault::BadSize) => "a guest has 4 KiB to 256 MiB, in whole pages",
         BoardFault::Memory(_) => "a guest's memory begins at a page and ends at 2^64",
         BoardFault::ExtentOutside => "the disk is too short for its guests",

@@ -182,7 +182,7 @@ fn check_loaded(rt: &impl Abort, board: &Board<MemoryImage>, loaded: &Loaded) {
 type Refusal<'a> = (BoardFault, &'a str);
 
 const REFUSALS: [Refusal; 4] = [
-    (BoardFault::TooManySlots, "a board has 1 to 16 guests"),
+    (BoardFault::TooManySlots, "a board has 1 to 64 guests"),
     (
         BoardFault::Memory(MemoryFault::BadSize),
         "a guest has 4 KiB to 256 MiB, in whole pages",

@@ -1,7 +1,11 @@
 pub mod Admitting
+pub mod Budgets
 pub mod Directions
 pub mod Contents
 pub mod Holding
+pub mod Likewise
+pub mod Limits
+pub mod Pieces
 pub mod Places
 pub mod Scattering
 pub mod Servicing

@@ -4,9 +4,9 @@ use Rattle.std.specs.Prelude.{◌&&◌, IsTrue}
 use Rattle.guest_memory.specs.Memory.{Memory}
 use Rattle.chain.specs.declared.segment.Buffer.{Buffer}
 use Rattle.chain.specs.declared.fault.Fault.{Fault}
-use Rattle.chain.specs.Service.{Entry, Kind, Device, Given, Ending, Spent, Faulted, Refused, Site, Served, Does, IsReady, ServesChain, after, ServesAll, Leaves, IsEnding, stop, Runs, open_site, Works, close_site, IsService, IsRefusedService, Course, HasAtMostOneChain, HasAtMostOneAnswer, IsExactUnless}
+use Rattle.chain.specs.Service.{Entry, Kind, Device, Given, Ending, Spent, Faulted, Refused, Site, Served, IsReady, ServesChain, after, ServesAll, IsEnding, stop, Runs, open_site, Works, close_site, IsService, IsRefusedService, HasAtMostOneChain, HasAtMostOneAnswer, IsExactUnless}
 
-both : (a b : Bool) → a ≡ true → b ≡ true → (a && b) ≡ true
+pub both : (a b : Bool) → a ≡ true → b ≡ true → (a && b) ≡ true
 both a b p q = rw (p, q) refl
 
 -- two tests of the same
@@ -22,71 +22,10 @@ same_served b c e f g h p q r = rw (p, q, r) refl
 
 module _ {Ring State : Type 0} (kind : Kind Ring) (device : Device State) where
   -- one more chain at the end
-  ServesAll-push : (old now : Site Ring State) (chains : List (Served State)) (s : Served State) → ServesAll kind device old chains now → ServesChain kind device now s
+  pub ServesAll-push : (old now : Site Ring State) (chains : List (Served State)) (s : Served State) → ServesAll kind device old chains now → ServesChain kind device now s
       → ServesAll kind device old (chains ++ s ∷ []) (after kind device now s)
   ServesAll-push old now [] s p q = rw p (q, refl)
   ServesAll-push old now (c ∷ chains) s p q = (p.0, ServesAll-push (after kind device old c) now chains s p.1 q)
-
-  -- before the first chain
-  pub course_begins : (start : Site Ring State) → Course kind device start start
-  course_begins start = record { chains = []; serves = refl }
-
-  -- One more chain was taken, served and given back. This is the step of every device's loop.
-  pub course_goes_on : (start : Site Ring State) (m served m' : Memory) (ring ring' : Ring) (s s' : State) (buffers : List Buffer) (entry : Entry) (len : ℕ) (any : Bool)
-      → Course kind device start (record { memory = m; ring = ring; state = s })
-      → device.takes s ≡ true → kind.offers m ring ≡ true → kind.Offers m ring buffers entry
-      → Does device m served buffers s s' len any
-      → m' ≡ kind.used served ring entry len any → ring' ≡ kind.past ring entry
-      → Course kind device start (record { memory = m'; ring = ring'; state = s' })
-  course_goes_on start m served m' ring ring' s s' buffers entry len any r takes offers offered d used past =
-      let now : Site Ring State = record { memory = m; ring = ring; state = s } in
-      let chain : Served State = record { buffers = buffers; entry = entry; given = record { state = s'; written = d.written } } in
-      let serves : ServesChain kind device now chain = record { ready = both (device.takes s) (kind.offers m ring) takes offers; offered = offered; gives = d.gives; each = d.each } in
-      let more : Course kind device start (after kind device now chain) =
-      record { chains = r.chains ++ chain ∷ []; serves = ServesAll-push start now r.chains chain r.serves serves } in
-      rw (used, past, d.memory, d.len_is, d.any_is) more
-
-  -- the service that has come so far ends here
-  pub runs_from_course : (start at : Site Ring State) (ending : Ending) → Course kind device start at → IsEnding kind device at ending
-      → Runs kind device start ending (stop kind device at ending)
-  runs_from_course start at ending r e = record { chains = r.chains; at = at; serves = r.serves; ends = e; stands = refl }
-
-  -- No chain is on offer, or none is wanted.
-  pub runs_out : (start : Site Ring State) (m : Memory) (ring last : Ring) (s : State) → Course kind device start (record { memory = m; ring = ring; state = s })
-      → (device.takes s && kind.offers m ring) ≡ false → last ≡ ring
-      → Runs kind device start Spent (record { memory = m; ring = last; state = s })
-  runs_out start m ring last s r none same = rw same (runs_from_course start (record { memory = m; ring = ring; state = s }) Spent r none)
-
-  -- The chain on offer has a fault.
-  pub runs_into : (start : Site Ring State) (m : Memory) (ring last : Ring) (s : State) (fault : Fault) → Course kind device start (record { memory = m; ring = ring; state = s })
-      → (device.takes s && kind.offers m ring) ≡ true → kind.HasFault m ring fault → last ≡ kind.stopped ring
-      → Runs kind device start (Faulted fault) (record { memory = m; ring = last; state = s })
-  runs_into start m ring last s fault r ready has same =
-      rw same (runs_from_course start (record { memory = m; ring = ring; state = s }) (Faulted fault) r (ready, has))
-
-  -- The device has no memory for the chain on offer.
-  pub runs_short : (start : Site Ring State) (m : Memory) (ring last : Ring) (s : State) → Course kind device start (record { memory = m; ring = ring; state = s })
-      → Leaves kind device (record { memory = m; ring = ring; state = s }) → last ≡ ring
-      → Runs kind device start Refused (record { memory = m; ring = last; state = s })
-  runs_short start m ring last s r leaves same = rw same (runs_from_course start (record { memory = m; ring = ring; state = s }) Refused r leaves)
-
-  -- A service is whole once its ring, opened without a fault, is closed where its chains end.
-  pub service_whole : (m served new : Memory) (ring opened left closed : Ring) (s t : State) (ending : Ending) (wanted : Bool)
-      → None ≡ kind.opening_fault m ring → opened ≡ kind.opened m ring
-      → Runs kind device (record { memory = m; ring = opened; state = s }) ending (record { memory = served; ring = left; state = t })
-      → new ≡ kind.closed served left → closed ≡ kind.shut left → (IsTrue wanted ↔ kind.Wants new left)
-      → IsService kind device (record { memory = m; ring = ring; state = s }) (record { memory = new; ring = closed; state = t }) ending wanted
-  service_whole m served new ring opened left closed s t ending wanted none opens runs closes shuts wants =
-      let last : Site Ring State = record { memory = served; ring = left; state = t } in
-      let start : Site Ring State = open_site kind device (record { memory = m; ring = ring; state = s }) in
-      let here : Runs kind device start ending last =
-      subst (λ (r : Ring). Runs kind device (record { memory = m; ring = r; state = s }) ending last) opens runs in
-      record {
-        last = last;
-        works = subst (λ (f : Option Fault). Works kind device f start ending last) none here;
-        closed = rw (closes, shuts) refl;
-        wanted_is = rw closes at wants;
-      }
 
   -- After a fault of the opening the ring is closed at once.
   pub service_from_fault : (m new : Memory) (ring opened closed : Ring) (s : State) (fault : Fault) (wanted : Bool)
@@ -187,7 +126,7 @@ module _ {Ring State : Type 0} (kind : Kind Ring) (device : Device State) (one_c
       }
 
 module _ {Ring State : Type 0} (kind : Kind Ring) (device exact : Device State) (count : State → ℕ) (is_exact : IsExactUnless device exact count) where
-  ready_exact : (site : Site Ring State) → IsReady kind device site → IsReady kind exact site
+  pub ready_exact : (site : Site Ring State) → IsReady kind device site → IsReady kind exact site
   ready_exact site h = rw (is_exact.takes site.state) at h
 
   -- the count doesn't fall along the chains
@@ -199,7 +138,7 @@ module _ {Ring State : Type 0} (kind : Kind Ring) (device exact : Device State) 
       omega (arith, here, rest)
 
   -- where it stays, each chain was served exactly
-  ServesAll-exact : (start at : Site Ring State) (chains : List (Served State)) → count at.state ≡ count start.state → ServesAll kind device start chains at
+  pub ServesAll-exact : (start at : Site Ring State) (chains : List (Served State)) → count at.state ≡ count start.state → ServesAll kind device start chains at
       → ServesAll kind exact start chains at
   ServesAll-exact start at [] e p = p
   ServesAll-exact start at (s ∷ chains) e p =
@@ -210,17 +149,17 @@ module _ {Ring State : Type 0} (kind : Kind Ring) (device exact : Device State) 
         ServesAll-exact (after kind device start s) at chains (e ∙ sym same) p.1,
       )
 
-  IsEnding-exact : (site : Site Ring State) (ending : Ending) → ending ≢ Refused → IsEnding kind device site ending → IsEnding kind exact site ending
+  pub IsEnding-exact : (site : Site Ring State) (ending : Ending) → ending ≢ Refused → IsEnding kind device site ending → IsEnding kind exact site ending
   IsEnding-exact site Spent n h = rw (is_exact.takes site.state) at h
   IsEnding-exact site (Faulted fault) n h = (ready_exact site h.0, h.1)
   IsEnding-exact site Refused n h = absurd (n refl)
 
-  stop_state : (site : Site Ring State) (ending : Ending) → (stop kind device site ending).state ≡ site.state
+  pub stop_state : (site : Site Ring State) (ending : Ending) → (stop kind device site ending).state ≡ site.state
   stop_state site Spent = refl
   stop_state site (Faulted fault) = refl
   stop_state site Refused = refl
 
-  stop_exact : (site : Site Ring State) (ending : Ending) → stop kind device site ending ≡ stop kind exact site ending
+  pub stop_exact : (site : Site Ring State) (ending : Ending) → stop kind device site ending ≡ stop kind exact site ending
   stop_exact site Spent = refl
   stop_exact site (Faulted fault) = refl
   stop_exact site Refused = refl

@@ -3,6 +3,8 @@
 use Rattle.std.proofs.Common.{◌≡◌, ℕ, Bool, Option, Some, None, List, [], ◌∷◌, length, refl, sym, ap, subst, ◌∙◌}
 use Rattle.std.specs.Prelude.{◌&&◌}
 use Rattle.chain.specs.declared.fault.Fault.{Fault}
+use Rattle.chain.specs.declared.segment.Buffer.{Buffer}
+use Rattle.chain.specs.Budget.{chains_of}
 use Rattle.chain.specs.Bytes.{readable_of, writable_of}
 use Rattle.chain.specs.Service.{Kind, Device, Given, Ending, Spent, Faulted, Refused, Site, Served, IsReady, after, ServesAll, IsEnding, stop, open_site, Works, IsService}
 
@@ -23,35 +25,38 @@ abbrev pub moved : {Ring S T : Type 0} → Site Ring S → T → Site Ring T
 moved site t = record { memory = site.memory; ring = site.ring; state = t }
 
 module _ {Ring S T : Type 0} (kind : Kind Ring) (device : Device S) (other : Device T) (Alike : S → T → Type 0) (likewise : DoesAs device other Alike) where
-  record ServedAlike (start : Site Ring T) (at : Site Ring S) : Type 0 where
-    chains : List (Served T)
-    state : T
-    alike : Alike at.state state
-    serves : ServesAll kind other start chains (moved at state)
+  pub record ServedAlike (start : Site Ring T) (at : Site Ring S) (buffers : List (List Buffer)) : Type 0 where
+    pub chains : List (Served T)
+    pub state : T
+    pub alike : Alike at.state state
+    pub serves : ServesAll kind other start chains (moved at state)
+    pub same : chains_of chains ≡ buffers
 
   ready_as : (site : Site Ring S) (t : T) → Alike site.state t → IsReady kind device site → IsReady kind other (moved site t)
   ready_as site t alike ready = ap (λ b. b && kind.offers site.memory site.ring) (likewise.takes site.state t alike) ∙ ready
 
-  serves_as : (start at : Site Ring S) (chains : List (Served S)) (t : T) → Alike start.state t → ServesAll kind device start chains at → ServedAlike (moved start t) at
+  pub serves_as : (start at : Site Ring S) (chains : List (Served S)) (t : T) → Alike start.state t → ServesAll kind device start chains at → ServedAlike (moved start t) at (chains_of chains)
   serves_as start at [] t alike p = record {
     chains = [];
     state = t;
     alike = subst (λ (s : Site Ring S). Alike s.state t) p alike;
     serves = ap (λ (s : Site Ring S). moved s t) p;
+    same = refl;
   }
   serves_as start at (s ∷ chains) t alike p =
       let m : Matches other Alike t (readable_of start.memory s.buffers) (length (writable_of s.buffers)) s.given =
       likewise.gives start.state t (readable_of start.memory s.buffers) (length (writable_of s.buffers)) s.given alike p.0.gives in
       let served : Served T = record { buffers = s.buffers; entry = s.entry; given = record { state = m.state; written = s.given.written } } in
-      let rest : ServedAlike (moved (after kind device start s) m.state) at = serves_as (after kind device start s) at chains m.state m.alike p.1 in
+      let rest : ServedAlike (moved (after kind device start s) m.state) at (chains_of chains) = serves_as (after kind device start s) at chains m.state m.alike p.1 in
       record {
         chains = served ∷ rest.chains;
         state = rest.state;
         alike = rest.alike;
         serves = (record { ready = ready_as start t alike p.0.ready; offered = p.0.offered; gives = m.gives; each = p.0.each }, rest.serves);
+        same = ap (λ l. s.buffers ∷ l) rest.same;
       }
 
-  ending_as : (site : Site Ring S) (t : T) (ending : Ending) → Alike site.state t → IsEnding kind device site ending → IsEnding kind other (moved site t) ending
+  pub ending_as : (site : Site Ring S) (t : T) (ending : Ending) → Alike site.state t → IsEnding kind device site ending → IsEnding kind other (moved site t) ending
   ending_as site t Spent alike h = ap (λ b. b && kind.offers site.memory site.ring) (likewise.takes site.state t alike) ∙ h
   ending_as site t (Faulted fault) alike h = (ready_as site t alike h.0, h.1)
   ending_as site t Refused alike h = record {
@@ -62,12 +67,12 @@ module _ {Ring S T : Type 0} (kind : Kind Ring) (device : Device S) (other : Dev
     lacks_memory = likewise.lacks_memory site.state t _ _ alike h.lacks_memory;
   }
 
-  stop_as : (site : Site Ring S) (t : T) (ending : Ending) → moved (stop kind device site ending) t ≡ stop kind other (moved site t) ending
+  pub stop_as : (site : Site Ring S) (t : T) (ending : Ending) → moved (stop kind device site ending) t ≡ stop kind other (moved site t) ending
   stop_as site t Spent = refl
   stop_as site t (Faulted fault) = refl
   stop_as site t Refused = refl
 
-  stop_state : (site : Site Ring S) (ending : Ending) → (stop kind device site ending).state ≡ site.state
+  pub stop_state : (site : Site Ring S) (ending : Ending) → (stop kind device site ending).state ≡ site.state
   stop_state site Spent = refl
   stop_state site (Faulted fault) = refl
   stop_state site Refused = refl
@@ -84,7 +89,7 @@ module _ {Ring S T : Type 0} (kind : Kind Ring) (device : Device S) (other : Dev
     works = (w.0, ap (λ (s : Site Ring S). moved s t) w.1);
   }
   works_as None start last ending t alike w =
-      let p : ServedAlike (moved start t) w.at = serves_as start w.at w.chains t alike w.serves in
+      let p : ServedAlike (moved start t) w.at (chains_of w.chains) = serves_as start w.at w.chains t alike w.serves in
       let same : last.state ≡ w.at.state = ap (λ (s : Site Ring S). s.state) w.stands ∙ stop_state w.at ending in
       record {
         state = p.state;

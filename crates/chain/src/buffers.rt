@@ -181,4 +181,11 @@ impl Chain {
     {
         u64::from(self.writable)
     }
+
+    /// The number of bytes of both.
+    pub fn total_len(&self) -> u64
+        ensures { result ≡ total_len self.now }
+    {
+        u64::from(self.readable + self.writable)
+    }
 }

@@ -1,9 +1,11 @@
 //! Laws of the definitions. The bodies are empty: each contract is a theorem.
 
-ghost use Rattle.std.specs.Prelude.{◌≡◌, ℕ, List, [], ◌∷◌, ◌++◌, ◌⊎◌, ◌↔◌, length};
+ghost use Rattle.std.specs.Prelude.{◌≡◌, ◌≢◌, ℕ, ◌<◌, ◌≤◌, List, [], ◌∷◌, ◌++◌, ◌⊎◌, ◌↔◌, length, Some};
 ghost use Rattle.guest_memory.specs.Memory.{Memory, put};
 ghost use Rattle.chain.specs.declared.segment.Buffer.{Buffer};
 ghost use Rattle.chain.specs.declared.fault.Fault.{Fault};
+ghost use Rattle.chain.specs.declared.budget.Budget.{Budget};
+ghost use Rattle.chain.specs.Budget.{AreWithin, IsSpent, bytes_of, left_after};
 ghost use Rattle.chain.specs.Buffers.{Admits, AdmitsAll, Good, Refuses};
 ghost use Rattle.chain.specs.Bytes.{scatter};
 
@@ -23,4 +25,15 @@ pub fn one_refusal()
 pub fn later_byte_stands()
     ensures { (m : Memory) (addrs bytes : List ℕ) (a x : ℕ) → length addrs ≡ length bytes
         → scatter m (addrs ++ a ∷ []) (bytes ++ x ∷ []) ≡ put (scatter m addrs bytes) a (x ∷ []) }
+{}
+
+/// A piece within a budget serves as many chains as it allows, at most; its bytes are passed by the last chain
+/// alone. One that begins with something left and pauses has served a chain.
+pub fn a_budget_is_kept()
+    ensures chains { (budget : Budget) (most : ℕ) (chains : List (List Buffer)) →
+        budget.chains ≡ Some most → AreWithin budget chains → length chains ≤ most }
+    ensures bytes { (budget : Budget) (most : ℕ) (front : List (List Buffer)) (last : List Buffer) →
+        budget.bytes ≡ Some most → AreWithin budget (front ++ last ∷ []) → bytes_of front < most }
+    ensures some { (budget : Budget) (chains : List (List Buffer)) →
+        ¬ IsSpent budget → IsSpent (left_after budget chains) → chains ≢ [] }
 {}

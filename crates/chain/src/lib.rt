@@ -7,6 +7,7 @@
 //! kind of ring and every device.
 #![tactic(auto)]
 
+mod budget;
 mod buffers;
 mod bytes;
 mod fault;
@@ -15,7 +16,8 @@ mod segment;
 #[cfg(test)]
 mod tests;
 
+pub use budget::{Budget, Progress};
 pub use buffers::Chain;
 pub use fault::Fault;
-pub use laws::{later_byte_stands, one_by_one, one_refusal};
+pub use laws::{a_budget_is_kept, later_byte_stands, one_by_one, one_refusal};
 pub use segment::{Buffer, Segment};

@@ -13,12 +13,14 @@
 #include <stddef.h>
 #include <stdint.h>
 
-/* One guest: its memory, the sectors of the image that its disk shows, and its console's size. */
+/* One guest: its memory, the sectors of the image that its disk shows, its console's size, and what its disk answers to
+ * GET_ID. */
 struct guest {
     uint64_t base, len;
     uint64_t start, count;
     bool read_only;
     uint16_t cols, rows;
+    uint8_t identity[20];
 };
 
 /* All guests, and the image behind their disks: whole sectors of 512 bytes, the device's to read and to write. */

@@ -5,7 +5,10 @@
  *
  *     clang -std=c11 -g -O1 -fsanitize=fuzzer,address -I ../../board_ffi -DOURS -o fuzz fuzz.c trace.c kalyubos.c \
  *         my_device.c ../../../examples/embed/heap.c ../../board_ffi/out/libboard_ffi.a
- *     mkdir -p found && ./fuzz -only_ascii=1 -max_len=8000 found ../data/scenarios/[a-z]*[a-z]
+ *     mkdir -p found && ./fuzz -only_ascii=1 -max_len=8000 found ../data/scenarios/[a-z]*[a-z] \
+ *         -seed_inputs=../../../examples/linux-boot.trace
+ *
+ * The seeds are the scenarios, and what Linux did when it booted.
  *
  * Without `address`, which looks for faults of your device's memory, it is a hundred times as fast.
  */

@@ -6,11 +6,14 @@
 
 #include <stdio.h>
 #include <stdlib.h>
+#include <string.h>
 
 #include "device.h"
 
 /* How many bytes of output a guest may have waiting: a chain that puts out more never goes out. */
 enum { MOST_WAITING = 1 << 24 };
+
+enum { MOST_SLOTS = 64 };
 
 static struct kalyubos board;
 static uint8_t *image;
@@ -44,13 +47,16 @@ static const char *name_of(uint32_t answer)
 
 static const char *make(const struct setup *setup)
 {
-    struct kalyubos_slot slots[17] = {0};
-    for (size_t i = 0; i < setup->guests_len && i < 17; i++) {
+    struct kalyubos_slot slots[MOST_SLOTS] = {0};
+    if (setup->guests_len > MOST_SLOTS)
+        return "TooManySlots";
+    for (size_t i = 0; i < setup->guests_len; i++) {
         const struct guest *guest = &setup->guests[i];
         slots[i] = (struct kalyubos_slot){
-            .base = guest->base, .len = guest->len, .start = guest->start, .count = guest->count,
+            .size = sizeof *slots, .base = guest->base, .len = guest->len, .start = guest->start, .count = guest->count,
             .cols = guest->cols, .rows = guest->rows, .outlet = MOST_WAITING, .read_only = guest->read_only,
         };
+        memcpy(slots[i].identity, guest->identity, sizeof slots[i].identity);
     }
     image = setup->image;
     image_len = setup->image_len;

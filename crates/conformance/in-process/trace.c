@@ -86,13 +86,32 @@ static bool next_line(const char **at, const char *end, struct field *line)
     return true;
 }
 
-static bool read_guest(const struct field *fields, struct guest *guest)
+/* The identity of a guest: a field of version 2, and in version 1 always the same. */
+static bool read_identity(const struct field *field, struct guest *guest)
+{
+    enum { LEN = sizeof guest->identity };
+    if (!field) {
+        memcpy(guest->identity, "vreplay-block\0\0\0\0\0\0\0", LEN);
+        return true;
+    }
+    if (field->len != 2 * LEN)
+        return false;
+    for (size_t i = 0; i < LEN; i++) {
+        int high = digit(field->at[2 * i]), low = digit(field->at[2 * i + 1]);
+        if (high < 0 || low < 0)
+            return false;
+        guest->identity[i] = (uint8_t)(16 * high + low);
+    }
+    return true;
+}
+
+static bool read_guest(const struct field *fields, bool named, struct guest *guest)
 {
     uint64_t cols, rows;
     bool good = number(fields[1], UINT64_MAX, &guest->base) && number(fields[2], UINT64_MAX, &guest->len) &&
                 number(fields[3], UINT64_MAX, &guest->start) && number(fields[4], UINT64_MAX, &guest->count) &&
                 (is(fields[5], "rw") || is(fields[5], "ro")) && number(fields[6], 0xffff, &cols) &&
-                number(fields[7], 0xffff, &rows);
+                number(fields[7], 0xffff, &rows) && read_identity(named ? &fields[8] : NULL, guest);
     guest->read_only = is(fields[5], "ro");
     guest->cols = good ? (uint16_t)cols : 0;
     guest->rows = good ? (uint16_t)rows : 0;
@@ -101,19 +120,23 @@ static bool read_guest(const struct field *fields, struct guest *guest)
 
 bool read_setup(const char *text, size_t len, struct trace *trace)
 {
-    struct field line, fields[8];
+    struct field line, fields[9];
+    size_t most;
     uint64_t value;
     *trace = (struct trace){.events = text, .end = text + len};
-    if (!next_line(&trace->events, trace->end, &line) || !is(line, "vreplay 1") ||
-        !next_line(&trace->events, trace->end, &line) || split(line.at, line.len, fields, 8) != 2 ||
+    if (!next_line(&trace->events, trace->end, &line) || (!is(line, "vreplay 1") && !is(line, "vreplay 2")))
+        return false;
+    bool named = is(line, "vreplay 2");
+    if (!next_line(&trace->events, trace->end, &line) || split(line.at, line.len, fields, 9) != 2 ||
         !is(fields[0], "cache") || !number(fields[1], UINT32_MAX, &value))
         return false;
     trace->cache = (uint32_t)value;
+    most = named ? MOST_GUESTS : 16;
     for (const char *at = trace->events; next_line(&at, trace->end, &line); trace->events = at) {
         if (line.len < 5 || memcmp(line.at, "slot ", 5))
             return true;
-        if (trace->guests_len == MOST_GUESTS || split(line.at, line.len, fields, 8) != 8 ||
-            !read_guest(fields, &trace->guests[trace->guests_len++]))
+        if (trace->guests_len == most || split(line.at, line.len, fields, 9) != (named ? 9 : 8) ||
+            !read_guest(fields, named, &trace->guests[trace->guests_len++]))
             return false;
     }
     return true;

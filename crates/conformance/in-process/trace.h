@@ -4,7 +4,7 @@
 
 #include "device.h"
 
-enum { MOST_GUESTS = 16 };
+enum { MOST_GUESTS = 64 };
 
 /* What stands before a trace's events. */
 struct trace {

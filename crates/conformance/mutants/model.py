@@ -425,7 +425,8 @@ class Window:
 
 class Slot:
     def __init__(self, fields, cache, lacks):
-        base, length, self.start, self.count, mode, self.cols, self.rows = fields
+        base, length, self.start, self.count, mode, self.cols, self.rows, *named = fields
+        self.identity = named[0] if named else IDENTITY
         self.memory, self.cache, self.read_only = Memory(base, length), cache, mode == "ro"
         block = EVERY + ["seg_max", "blk_size", "flush", "write_zeroes"] + (["ro"] if self.read_only else [])
         console = EVERY + ["size", "emerg_write"]
@@ -541,7 +542,7 @@ class Slot:
             return self.flush(), 0
         if kind == WRITE_ZEROES:
             return self.write_zeroes(chain, count - 16), 0
-        chain.write(0, IDENTITY)
+        chain.write(0, self.identity)
         return OK, 20
 
     def read_sectors(self, chain, sector, count):
@@ -615,10 +616,10 @@ class BadBoard(Exception):
     """A board that is refused, by the fault's name."""
 
 
-def board_of(slots, capacity, image, lacks):
+def board_of(slots, capacity, image, lacks, most=64):
     if not slots:
         raise BadBoard("NoSlots")
-    if len(slots) > 16:
+    if len(slots) > most:
         raise BadBoard("TooManySlots")
     taken = []
     for base, length, start, count, *_ in slots:
@@ -697,10 +698,11 @@ def replay(text, content, fails=(), lacks=(), fault_of=None):
     if fault:
         return f"fault trace {fault[0]} {fault[1]}\n", 1, image
     lines = [line.split(" ") for line in text.decode("ascii").split("\n")[:-1]]
-    slots = [[field if field in ("rw", "ro") else int(field, 16) for field in line[1:]]
-             for line in lines if line[0] == "slot"]
+    slots = [[field if field in ("rw", "ro") else int(field, 16) for field in line[1:8]]
+             + [bytes.fromhex(field) for field in line[8:]] for line in lines if line[0] == "slot"]
+    most = 16 if lines[0][1] == "1" else 64
     try:
-        board = board_of(slots, int(lines[1][1], 16), image, lacks)
+        board = board_of(slots, int(lines[1][1], 16), image, lacks, most)
     except BadBoard as refused:
         return f"fault board {refused}\n", 1, image
     events = lines[2 + len(slots):]

@@ -22,6 +22,12 @@ impl From<AllocError> for Finding {
     }
 }
 
+impl From<trace::NoMemory> for Finding {
+    fn from(_error: trace::NoMemory) -> Finding {
+        Finding::NoMemory
+    }
+}
+
 impl<T: Drop> From<AllocFailed<T>> for Finding {
     fn from(_error: AllocFailed<T>) -> Finding {
         Finding::NoMemory

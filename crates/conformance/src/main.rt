@@ -3,7 +3,7 @@
 //! `conformance FOLDER ..` takes the scenarios of each FOLDER. A scenario is a pair of files, a trace and the records
 //! that it must give; the folder's `README.md` lists them all, and `data/scenarios` says what may lie beside a pair.
 //! `page` takes the names from that list, `scenario` reads the files of one, `replayed` replays it over memory,
-//! `difference` compares, `strays` finds files that belong to no scenario, and `check` puts these in their order.
+//! `versions` has the same trace in version 2, which must give the same, `difference` compares, `strays` finds files that belong to no scenario, and `check` puts these in their order.
 //! `finding` has why a scenario can't be compared. A new scenario is files and a line of the list, and no code.
 #![tactic(auto)]
 
@@ -14,6 +14,7 @@ mod page;
 mod replayed;
 mod scenario;
 mod strays;
+mod versions;
 
 use check::check_folder;
 use std::process::ExitCode;

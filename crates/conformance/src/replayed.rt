@@ -23,11 +23,14 @@ struct Replayed {
     image: ScriptedImage,
 }
 
-/// Replays the scenario: what must be found, and what was found, on the output and of the image.
-pub(crate) fn outcome_of(alloc: Global, scenario: &Scenario) -> Result<[Compared<'_>; 2], Finding> {
+/// Replays a trace of the scenario: what must be found, and what was found, on the output and of the image.
+pub(crate) fn outcome_of<'a>(
+    alloc: Global,
+    scenario: &'a Scenario,
+    trace: &[u8],
+) -> Result<[Compared<'a>; 2], Finding> {
     let records = scenario.records()?;
     let after = scenario.after()?;
-    let trace = scenario.trace()?;
     let before = scenario.before(alloc)?;
     let image = image_of(alloc, scenario, &before)?;
     let replayed = replay_over(alloc, trace, image);

@@ -4,3 +4,4 @@ pub mod Notified
 pub mod Receiving
 pub mod Services
 pub mod Transmitting
+pub mod Pieces

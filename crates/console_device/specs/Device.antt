@@ -61,3 +61,11 @@ transmit_within limit = record {
   Gives = λ out readable w given. (given ≡ transmitted out readable w) × Fits limit (length out + length readable);
   LacksMemory = λ out readable w. (readable ≢ []) × MayRefuse limit (length out + length readable);
 }
+
+-- the same where each chain that is served fits, and none is refused
+abbrev pub transmit_fitting : Option ℕ → Device (List ℕ)
+transmit_fitting limit = record {
+  takes = λ out. true;
+  Gives = λ out readable w given. (given ≡ transmitted out readable w) × Fits limit (length out + length readable);
+  LacksMemory = λ out readable w. ⊥;
+}

@@ -3,3 +3,4 @@ pub mod Console
 pub mod Device
 pub mod Input
 pub mod Output
+pub mod Serving

@@ -7,6 +7,7 @@ mod laws;
 mod no_memory;
 mod outlet;
 mod pending;
+mod queue;
 mod receive;
 mod serve;
 mod stream;

@@ -1,32 +1,24 @@
-//! One service of each queue: opening, chains one after another, closing, and what the window shows of it.
+//! A service of each queue, whole or in pieces, and what the window shows of it.
 
-ghost use Rattle.std.specs.Prelude.{◌≡◌, ◌≤◌, length, OnOk, OnErr};
+ghost use Rattle.std.specs.Prelude.{◌≡◌, IfOk, OnOk, OnErr};
 ghost use Rattle.guest_memory.specs.Memory.{Memory, SameRange};
-ghost use Rattle.chain.specs.Service.{IsService, Refused, Runs};
-ghost use Rattle.mmio_window.specs.Queue.{LiesIn, made_as, queue_kind};
-ghost use Rattle.mmio_window.specs.Serving.{IsNotified, Notified, after_service, ending_of_result};
+ghost use Rattle.chain.specs.Service.{Refused};
+ghost use Rattle.mmio_window.specs.Pieces.{BeginsTo, FinishesWithin, GoesOnTo, NotifiedWithin};
+ghost use Rattle.mmio_window.specs.Serving.{IsNotified, Notified};
 ghost use Rattle.mmio_window.specs.Soundness.{IsSound};
 ghost use Rattle.mmio_window.specs.Window.{queue_at};
-ghost use Rattle.console_device.specs.Device.{exact_transmit, receive, transmit, transmit_within};
+ghost use Rattle.console_device.specs.Device.{exact_transmit, receive, transmit, transmit_fitting, transmit_within};
 ghost use Rattle.console_device.specs.Output.{IsUnrefused};
+ghost use Rattle.console_device.specs.Serving.{answer_of, shown};
 
 use crate::device::ConsoleDevice;
 use crate::no_memory::NoMemory;
 use crate::outlet::Outlet;
-use crate::stream::Stream;
-use chain::{Chain, Fault};
+use crate::queue::{Left, serve_open, serve_queue};
+use chain::{Budget, Progress};
 use guest_memory::GuestMemory;
-use mmio_window::{Queue, Window};
+use mmio_window::Window;
 use std::alloc::Allocator;
-
-/// What came of a service.
-#[derive(Clone, Copy, Debug, PartialEq, Eq)]
-struct Service {
-    /// The fault that ended it, if one did; or there was no memory for the chain on offer.
-    ending: Result<Option<Fault>, NoMemory>,
-    /// Whether the driver wants a notification.
-    wanted: bool,
-}
 
 impl<A: Allocator> ConsoleDevice<A> {
     /// Puts pending input into the chains on offer (5.3.6), in the window of this device. Where the window
@@ -39,11 +31,51 @@ impl<A: Allocator> ConsoleDevice<A> {
         ensures range { SameRange mem.old mem.new }
         ensures sound { IsSound mem.new window.new }
     {
+        let _ = self.serve_receive_some(mem, window, Budget::UNLIMITED);
+    }
+
+    /// The same within a budget: where that is spent, input is still pending and one more chain is on offer, the
+    /// service pauses. Its queue then stands open, and until `go_on_receive` has answered `Done` no other call may
+    /// be made with the window.
+    pub fn serve_receive_some<M: Allocator>(
+        &mut self,
+        mem: &mut GuestMemory<M>,
+        window: &mut Window,
+        budget: Budget,
+    ) -> Progress
+        requires sound { IsSound mem.old window.old }
+        ensures served { BeginsTo receive budget 0 (queue_at 0 window.old) result mem.old mem.new
+            window.old window.new self.old.pending self.new.pending }
+        ensures size { self.new ≡ record self.old { pending = self.new.pending } }
+        ensures range { SameRange mem.old mem.new }
+        ensures sound { IsSound mem.new window.new }
+    {
         let Some(queue) = window.queue(0) else {
-            return;
+            return Progress::Done;
         };
-        let service = serve_queue(&mut self.pending, mem, queue);
-        show(window, service);
+        let left = serve_queue(&mut self.pending, mem, queue, budget);
+        show(window, left).unwrap_or(Progress::Done)
+    }
+
+    /// Goes on with a service of the receive queue that paused.
+    pub fn go_on_receive<M: Allocator>(
+        &mut self,
+        mem: &mut GuestMemory<M>,
+        window: &mut Window,
+        budget: Budget,
+    ) -> Progress
+        requires sound { IsSound mem.old window.old }
+        ensures served { GoesOnTo receive budget 0 (queue_at 0 window.old) result mem.old mem.new
+            window.old window.new self.old.pending self.new.pending }
+        ensures size { self.new ≡ record self.old { pending = self.new.pending } }
+        ensures range { SameRange mem.old mem.new }
+        ensures sound { IsSound mem.new window.new }
+    {
+        let Some(queue) = window.queue(0) else {
+            return Progress::Done;
+        };
+        let left = serve_open(&mut self.pending, mem, queue, budget);
+        show(window, left).unwrap_or(Progress::Done)
     }
 
     /// Puts out the chains on offer (5.3.6), in the window of this device, behind what stands in `out`. A chain
@@ -71,82 +103,78 @@ impl<A: Allocator> ConsoleDevice<A> {
         ensures range { SameRange mem.old mem.new }
         ensures sound { IsSound mem.new window.new }
     {
-        let Some(queue) = window.queue(1) else {
-            return Ok(());
-        };
-        let service = serve_queue(out, mem, queue);
-        show(window, service);
-        service.ending?;
+        self.serve_transmit_some(mem, window, out, Budget::UNLIMITED)?;
         Ok(())
     }
-}
 
-/// Opens a service, serves its chains and closes it, also after a fault.
-fn serve_queue<S: Stream, M: Allocator>(
-    stream: &mut S,
-    mem: &mut GuestMemory<M>,
-    queue: &mut Queue,
-) -> Service
-    requires { LiesIn mem.old queue.old }
-    ensures service { IsService queue_kind (S.device (S.limit stream.old))
-        (record { memory = mem.old; ring = queue.old; state = S.bytes stream.old })
-        (record { memory = mem.new; ring = queue.new; state = S.bytes stream.new })
-        (ending_of_result result.ending) result.wanted }
-    ensures range { SameRange mem.old mem.new }
-    ensures limit { S.limit stream.new ≡ S.limit stream.old }
-    ensures made { made_as queue.new ≡ made_as queue.old }
-{
-    let ending = match queue.open(mem) {
-        Ok(()) => serve_chains(stream, mem, queue),
-        Err(fault) => Ok(Some(fault)),
-    };
-    Service {
-        ending,
-        wanted: queue.close(mem),
+    /// The same within a budget: where that is spent and one more chain is on offer, the service pauses. Its queue
+    /// then stands open, and until `go_on_transmit` has answered anything but `More` no other call may be made with
+    /// the window.
+    pub fn serve_transmit_some<M: Allocator, O: Outlet>(
+        &mut self,
+        mem: &mut GuestMemory<M>,
+        window: &mut Window,
+        out: &mut O,
+        budget: Budget,
+    ) -> Result<Progress, NoMemory>
+        requires sound { IsSound mem.old window.old }
+        ensures ok { IfOk result (λ progress. BeginsTo (transmit_fitting (O.limit out.old)) budget 1
+            (queue_at 1 window.old) progress mem.old mem.new window.old window.new (O.bytes out.old) (O.bytes out.new)) }
+        ensures no_memory { OnErr result (NotifiedWithin (transmit_within (O.limit out.old)) budget 1
+            (queue_at 1 window.old) Refused mem.old mem.new window.old window.new (O.bytes out.old) (O.bytes out.new)) }
+        ensures limit { O.limit out.new ≡ O.limit out.old }
+        ensures same { self.new ≡ self.old }
+        ensures range { SameRange mem.old mem.new }
+        ensures sound { IsSound mem.new window.new }
+    {
+        let Some(queue) = window.queue(1) else {
+            return Ok(Progress::Done);
+        };
+        let left = serve_queue(out, mem, queue, budget);
+        show(window, left)
+    }
+
+    /// Goes on with a service of the transmit queue that paused.
+    pub fn go_on_transmit<M: Allocator, O: Outlet>(
+        &mut self,
+        mem: &mut GuestMemory<M>,
+        window: &mut Window,
+        out: &mut O,
+        budget: Budget,
+    ) -> Result<Progress, NoMemory>
+        requires sound { IsSound mem.old window.old }
+        ensures ok { IfOk result (λ progress. GoesOnTo (transmit_fitting (O.limit out.old)) budget 1
+            (queue_at 1 window.old) progress mem.old mem.new window.old window.new (O.bytes out.old) (O.bytes out.new)) }
+        ensures no_memory { OnErr result (FinishesWithin (transmit_within (O.limit out.old)) budget 1
+            (queue_at 1 window.old) Refused mem.old mem.new window.old window.new (O.bytes out.old) (O.bytes out.new)) }
+        ensures limit { O.limit out.new ≡ O.limit out.old }
+        ensures same { self.new ≡ self.old }
+        ensures range { SameRange mem.old mem.new }
+        ensures sound { IsSound mem.new window.new }
+    {
+        let Some(queue) = window.queue(1) else {
+            return Ok(Progress::Done);
+        };
+        let left = serve_open(out, mem, queue, budget);
+        show(window, left)
     }
 }
 
-/// Serves chains until none is on offer or wanted, one has a fault, or there is no memory for one.
-fn serve_chains<S: Stream, M: Allocator>(
-    stream: &mut S,
-    mem: &mut GuestMemory<M>,
-    queue: &mut Queue,
-) -> Result<Option<Fault>, NoMemory>
-    requires { LiesIn mem.old queue.old }
-    ensures runs { Runs queue_kind (S.device (S.limit stream.old))
-        (record { memory = mem.old; ring = queue.old; state = S.bytes stream.old })
-        (ending_of_result result)
-        (record { memory = mem.new; ring = queue.new; state = S.bytes stream.new }) }
-    ensures range { SameRange mem.old mem.new }
-    ensures limit { S.limit stream.new ≡ S.limit stream.old }
-    ensures lies { LiesIn mem.new queue.new }
-    ensures made { made_as queue.new ≡ made_as queue.old }
-{
-    let mut chain = Chain::new();
-    while stream.takes() {
-        match queue.take(mem, &mut chain) {
-            Ok(Some(token)) => {
-                let answer = stream.serve(mem, &chain)?;
-                queue.give(mem, token, answer.len, answer.wrote);
-            }
-            Ok(None) => return Ok(None),
-            Err(fault) => return Ok(Some(fault)),
-        }
-    }
-    Ok(None)
-}
-
-/// What the window shows of a service: a used buffer where the driver wants to be told of one, and after a
-/// fault that a reset is needed.
-fn show(window: &mut Window, service: Service)
-    ensures after { window.new ≡
-        after_service (ending_of_result service.ending) service.wanted window.old }
+/// What the window shows of a queue that is left so: nothing of one that stands open; else a used buffer where the
+/// driver wants to be told of one, and after a fault that a reset is needed.
+fn show(window: &mut Window, left: Left) -> Result<Progress, NoMemory>
+    ensures answer { result ≡ answer_of left }
+    ensures after { window.new ≡ shown left window.old }
     ensures sound { (m : Memory) → IsSound m window.old → IsSound m window.new }
 {
-    if service.wanted {
+    let Left::Closed { ending, wanted } = left else {
+        return Ok(Progress::More);
+    };
+    if wanted {
         window.used_interrupt();
     }
-    if let Ok(Some(_)) = service.ending {
+    if ending?.is_some() {
         window.needs_reset();
     }
+    Ok(Progress::Done)
 }

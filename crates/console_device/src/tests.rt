@@ -4,6 +4,7 @@
 ghost use Rattle.mmio_window.specs.Soundness.{IsSound};
 
 mod console;
+mod pieces;
 mod receive;
 mod refused;
 mod transmit;

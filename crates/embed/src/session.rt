@@ -29,7 +29,7 @@ const SECTOR_LEN: usize = 512;
 /// How many bytes of one guest's output may wait at most.
 const MOST_WAITING: u32 = 0x100_0000;
 
-/// Up to sixteen guests over one image in memory. All room is made when it is made: no call takes memory.
+/// Up to sixty-four guests over one image in memory. All room is made when it is made: no call takes memory.
 #[derive(Drop)]
 pub struct Session<A: Allocator = Global> {
     board: Board<MemoryImage<A>, A>,

@@ -25,6 +25,7 @@ fn slot(start: u64) -> SlotSpec {
         read_only: false,
         cols: 80,
         rows: 25,
+        identity: *b"disk-of-the-tests-01",
     }
 }
 

@@ -5,3 +5,5 @@ pub mod Soundness
 pub mod QueueKind
 pub mod ReadyLemmas
 pub mod Services
+pub mod Pieces
+pub mod PiecesExact

@@ -38,28 +38,7 @@ module _ {S T : Type 0} (device : Device S) (other : Device T) (Alike : S → T 
         notified = record { last = h.last; wanted = h.wanted; service = served.service; window = h.window };
       }
 
--- what a window shows of a service: the interrupt where one is wanted, and then the reset that a fault asks for
-pub window_after_fault : (fault : Option Fault) (wanted : Bool) (w told after : WindowState) → is_some fault ≡ true
-    → told ≡ (if wanted then with_used_interrupt w else w) → after ≡ with_reset_asked told → after ≡ after_service (ending_of fault) wanted w
-window_after_fault None wanted w told after some e f = cc
-window_after_fault (Some fault) wanted w told after some e f = f ∙ ap with_reset_asked e
-
-pub window_after_none : (fault : Option Fault) (wanted : Bool) (w told : WindowState) → is_some fault ≡ false
-    → told ≡ (if wanted then with_used_interrupt w else w) → told ≡ after_service (ending_of fault) wanted w
-window_after_none None wanted w told none e = e
-window_after_none (Some fault) wanted w told none e = cc
-
 module _ {State : Type 0} (device : Device State) where
-  -- a service of the queue that the device may serve is what a notification does
-  pub notified_by_service : (q : ℕ) (found : Option Queue) (queue last : Queue) (ending : Ending) (wanted : Bool) (old new : Memory) (before after : WindowState) (s s' : State)
-      → Some queue ≡ found
-      → IsService queue_kind device (record { memory = old; ring = queue; state = s }) (record { memory = new; ring = last; state = s' }) ending wanted
-      → after ≡ after_service ending wanted (with_ring q before last)
-      → Notified device q found ending old new before after s s'
-  notified_by_service q found queue last ending wanted old new before after s s' is service window =
-      let serves : ServesQueue device q queue ending old new before after s s' = record { last = last; wanted = wanted; service = service; window = window } in
-      subst (λ (f : Option Queue). Notified device q f ending old new before after s s') is serves
-
   -- a device that never lacks memory refuses nothing
   pub notified_not_refused : ((s : State) (readable : List ℕ) (w : ℕ) → device.LacksMemory s readable w → ⊥)
       → (q : ℕ) (queue : Option Queue) (ending : Ending) (old new : Memory) (before after : WindowState) (s s' : State)

@@ -14,6 +14,7 @@ pub mod Lending
 pub mod Reading
 pub mod Writing
 pub mod Notifying
+pub mod Pieces
 pub mod Serving
 pub mod Soundness
 pub mod Ready

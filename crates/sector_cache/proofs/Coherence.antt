@@ -80,10 +80,10 @@ module _ {A : Type 0} where
       coherent_less sector after old new (coherent_torn sector disk after old torn beside whole within) dropped
 
   -- such a write, whichever way it ends
-  pub coherent_zeroed : {X E : Type 0} (result : Result X E) (sector : ℕ) (new : List ℕ) (disk after : Disk) (kept : Kept A) → OnOk result (after ≡ written sector new disk) → OnErr result (IsTorn sector disk after)
+  pub coherent_unkept : {X E : Type 0} (result : Result X E) (sector : ℕ) (new : List ℕ) (disk after : Disk) (kept : Kept A) → OnOk result (after ≡ written sector new disk) → OnErr result (IsTorn sector disk after)
       → IsBeside sector disk kept → IsWhole disk → sector < disk.sector_count → length new ≡ 512 → IsCoherent after kept
-  coherent_zeroed (Ok _) sector new disk after kept ok err beside whole within long = (coherent_written sector new disk after kept ok beside whole within long).others
-  coherent_zeroed (Err _) sector new disk after kept ok err beside whole within long = coherent_torn sector disk after kept err beside whole within
+  coherent_unkept (Ok _) sector new disk after kept ok err beside whole within long = (coherent_written sector new disk after kept ok beside whole within long).others
+  coherent_unkept (Err _) sector new disk after kept ok err beside whole within long = coherent_torn sector disk after kept err beside whole within
 
   -- what is put is as told
   pub coherent_put : (sector : ℕ) (bytes : List ℕ) (disk : Disk) (old new : Kept A) → MayKeep sector bytes old new → IsWritten sector bytes disk old → IsCoherent disk new

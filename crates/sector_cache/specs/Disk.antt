@@ -1,5 +1,5 @@
 -- An image as it is seen from outside, and what each call of it leaves.
-use Rattle.std.specs.Prelude.{◌≡◌, ℕ, ◌+◌, ◌*◌, ◌/◌, Bool, true, false, List, length, Option, Some, IfSome}
+use Rattle.std.specs.Prelude.{◌≡◌, ℕ, ◌+◌, ◌*◌, ◌/◌, Bool, true, false, List, length, Option, Some, IfSome, IsSomeAnd}
 use Rattle.std.specs.Option.{option_map}
 use Rattle.sector_cache.specs.Sector.{sector_of, with_sector}
 
@@ -20,6 +20,10 @@ IsWhole disk = IfSome disk.told (λ bytes. length bytes ≡ 512 * disk.sector_co
 -- these are the sector's bytes, as far as bytes are told
 abbrev pub IsAsTold : Disk → ℕ → List ℕ → Type 0
 IsAsTold disk sector read = IfSome disk.told (λ bytes. read ≡ sector_of bytes sector)
+
+-- bytes are told, and these are the sector's
+abbrev pub Tells : Disk → ℕ → List ℕ → Type 0
+Tells disk sector read = IsSomeAnd disk.told (λ bytes. read ≡ sector_of bytes sector)
 
 -- An image that was just made of these bytes: it tells them, no call has failed and the mark is
 -- clear.

@@ -52,7 +52,7 @@ impl<I: Image, A: Allocator + Copy> SectorCache<I, A> {
                 why: CacheFault::BadCapacity,
             });
         }
-        let Ok(kept) = Kept::new(alloc, room_for(capacity, image.sectors())) else {
+        let Ok(kept) = Kept::new(alloc, room_for(capacity, &image)) else {
             return Err(Refused {
                 image,
                 why: CacheFault::NoMemory,
@@ -61,13 +61,17 @@ impl<I: Image, A: Allocator + Copy> SectorCache<I, A> {
         Ok(SectorCache { image, kept })
     }
 
-    /// Lends the bytes of a sector: where they are kept those, else what the image reads just now.
+    /// Lends the bytes of a sector: where they lie in the image, else those that are kept, else what the image reads
+    /// just now.
     pub fn lend(&mut self, sector: u64) -> Result<&[u8; 512], ImageError>
         requires { sector < (I.disk self.old).sector_count }
         ensures read { IfOk result (λ bytes. IsAsTold (I.disk self.old) sector bytes.now) }
         ensures* after_borrow { sem 𝓛 (Rests (the_row I.row A.row I.Image A.Allocator) self.entry (λ cache.
             IsReadThrough result (I.disk self.old) (I.disk cache))) }
     {
+        if self.image.lend_sector(sector).is_some() {
+            return self.image.lend_sector(sector).ok_or(ImageError);
+        }
         let place = match self.kept.touch(sector) {
             Some(place) => place,
             None => {
@@ -95,6 +99,9 @@ impl<I: Image, A: Allocator + Copy> SectorCache<I, A> {
         ensures ok { OnOk result (I.disk self.new ≡ written sector from.now (I.disk self.old)) }
         ensures err { OnErr result (IsTorn sector (I.disk self.old) (I.disk self.new)) }
     {
+        if self.image.lend_sector(sector).is_some() {
+            return write_unkept(&mut self.image, &mut self.kept, sector, from);
+        }
         write_through(&mut self.image, &mut self.kept, sector, from)
     }
 
@@ -105,7 +112,7 @@ impl<I: Image, A: Allocator + Copy> SectorCache<I, A> {
             (I.disk self.new ≡ written sector (replicate 512 0) (I.disk self.old)) }
         ensures err { OnErr result (IsTorn sector (I.disk self.old) (I.disk self.new)) }
     {
-        zero_through(&mut self.image, &mut self.kept, sector)
+        write_unkept(&mut self.image, &mut self.kept, sector, &[0; 512])
     }
 }
 
@@ -157,21 +164,22 @@ fn write_through<I: Image, A: Allocator + Copy>(
     Ok(())
 }
 
-/// Zeroes a sector of an image, of which some sectors are kept. Nothing is kept of it from before the image is
+/// Writes a sector of an image, of which some sectors are kept. Nothing is kept of it from before the image is
 /// called.
-fn zero_through<I: Image, A: Allocator + Copy>(
+fn write_unkept<I: Image, A: Allocator + Copy>(
     image: &mut I,
     kept: &mut Kept<A>,
     sector: u64,
+    from: &[u8; 512],
 ) -> Result<(), ImageError>
     requires sector { sector < (I.disk image.old).sector_count }
     requires coherent { IsCoherent (I.disk image.old) kept.old }
-    ensures ok { OnOk result (I.disk image.new ≡ written sector (replicate 512 0) (I.disk image.old)) }
+    ensures ok { OnOk result (I.disk image.new ≡ written sector from.now (I.disk image.old)) }
     ensures err { OnErr result (IsTorn sector (I.disk image.old) (I.disk image.new)) }
     ensures coherent { IsCoherent (I.disk image.new) kept.new }
 {
     kept.forget(sector);
-    image.write_sector(sector, &[0; 512])
+    image.write_sector(sector, from)
 }
 
 /// Whether a cache may have this capacity.
@@ -181,7 +189,12 @@ fn is_admitted(capacity: u32) -> bool
     (1..=MOST_SECTORS).contains(&capacity)
 }
 
-/// How many sectors of an image can be kept: no more than it has, and at least one.
-fn room_for(capacity: u32, sectors: u64) -> usize {
+/// How many sectors of an image can be kept: no more than it has, and at least one. Of one that lends them none is
+/// kept, so there is room for one.
+fn room_for<I: Image>(capacity: u32, image: &I) -> usize {
+    let sectors = image.sectors();
+    if sectors > 0 && image.lend_sector(0).is_some() {
+        return 1;
+    }
     sectors.min(capacity as u64).max(1) as usize
 }

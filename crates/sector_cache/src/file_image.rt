@@ -145,6 +145,10 @@ impl<F: BackingFile> Image for FileImage<F> {
         self.sectors
     }
 
+    fn lend_sector(&self, _sector: u64) -> Option<&[u8; 512]> {
+        None
+    }
+
     fn read_sector(&mut self, sector: u64, into: &mut [u8; 512]) -> Result<(), ImageError>
         requires { sector < (disk_of self.old).sector_count }
         ensures read { OnOk result (IsAsTold (disk_of self.old) sector into.new) }

@@ -1,7 +1,7 @@
 //! What a disk image is: the calls that the cache makes, and what each of them leaves.
 
-ghost use Rattle.std.specs.Prelude.{◌≡◌, ◌^◌, ◌<◌, OnOk, OnErr};
-ghost use Rattle.sector_cache.specs.Disk.{Disk, IsWhole, IsAsTold, IsTorn, failed, written, flushed};
+ghost use Rattle.std.specs.Prelude.{◌≡◌, ◌^◌, ◌<◌, Bool, false, is_some, IfSome, OnOk, OnErr};
+ghost use Rattle.sector_cache.specs.Disk.{Disk, IsWhole, IsAsTold, IsTorn, Tells, failed, written, flushed};
 
 use thiserror::Error;
 
@@ -19,8 +19,17 @@ pub struct ImageError;
 pub trait Image {
     ghost disk: { Self → Disk };
 
+    // whether it lends its sectors where they lie
+    ghost lends: { Self → Bool } = { λ _. false };
+
     fn sectors(&self) -> u64
         ensures { result ≡ (disk self.now).sector_count };
+
+    /// Lends the bytes of a sector where they lie in memory. An image that isn't there lends none.
+    fn lend_sector(&self, sector: u64) -> Option<&[u8; 512]>
+        requires { sector < (disk self.now).sector_count }
+        ensures lent { is_some result ≡ lends self.now }
+        ensures told { IfSome result (λ bytes. Tells (disk self.now) sector bytes.now) };
 
     /// After an `Err` `into` may hold any bytes.
     fn read_sector(&mut self, sector: u64, into: &mut [u8; 512]) -> Result<(), ImageError>

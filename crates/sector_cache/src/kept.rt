@@ -111,6 +111,9 @@ impl<A: Allocator + Copy> Kept<A> {
     pub(crate) fn forget(&mut self, sector: u64)
         ensures { KeepsAllBut sector self.old self.new }
     {
+        if self.table.is_empty() {
+            return;
+        }
         if let Some(place) = self.table.remove(&sector) {
             self.clear(place, sector);
             self.order.make_oldest(place);

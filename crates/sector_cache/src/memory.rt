@@ -1,7 +1,7 @@
 //! An image that is a list of bytes in memory. Its calls never fail.
 
-ghost use Rattle.std.specs.Prelude.{◌≡◌, ◌≢◌, ◌%◌, ◌<◌, ◌↔◌, length, Some, OnOk, IfOk, IsOk, IsErrOf};
-ghost use Rattle.sector_cache.specs.Disk.{IsAsTold, new_disk, written, flushed};
+ghost use Rattle.std.specs.Prelude.{◌≡◌, ◌≢◌, ◌%◌, ◌<◌, ◌↔◌, length, Some, IsSomeAnd, OnOk, IfOk, IsOk, IsErrOf, true};
+ghost use Rattle.sector_cache.specs.Disk.{IsAsTold, Tells, new_disk, written, flushed};
 
 use crate::fault::ImageFault;
 use crate::image::{Image, ImageError};
@@ -53,8 +53,17 @@ impl<A: Allocator> Image for MemoryImage<A> {
 
     ghost disk = { disk_of };
 
+    ghost lends = { λ _. true };
+
     fn sectors(&self) -> u64 {
         self.bytes.len() as u64 / 512
+    }
+
+    fn lend_sector(&self, sector: u64) -> Option<&[u8; 512]>
+        requires { sector < (disk_of self.now).sector_count }
+        ensures { IsSomeAnd result (λ bytes. Tells (disk_of self.now) sector bytes.now) }
+    {
+        sector::lend(&self.bytes, sector)
     }
 
     fn read_sector(&mut self, sector: u64, into: &mut [u8; 512]) -> Result<(), ImageError>

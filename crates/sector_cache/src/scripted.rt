@@ -107,6 +107,10 @@ impl<A: Allocator> Image for ScriptedImage<A> {
         self.memory.sectors()
     }
 
+    fn lend_sector(&self, _sector: u64) -> Option<&[u8; 512]> {
+        None
+    }
+
     fn read_sector(&mut self, sector: u64, into: &mut [u8; 512]) -> Result<(), ImageError>
         requires { sector < (disk_of self.old).sector_count }
         ensures fails { IsErr result ↔ Fails (script_of self.old) }

@@ -1,10 +1,18 @@
 //! One sector of a list of bytes, read and written in place.
 
-ghost use Rattle.std.specs.Prelude.{◌≡◌, ◌+◌, ◌*◌, ◌≤◌, ◌++◌, length, take, drop};
+ghost use Rattle.std.specs.Prelude.{◌≡◌, ◌+◌, ◌*◌, ◌≤◌, ◌++◌, length, take, drop, IsSomeAnd};
 ghost use Rattle.sector_cache.specs.Sector.{sector_of, with_sector};
 
 /// How many bytes a sector has.
 pub(crate) const SECTOR_BYTES: usize = 512;
+
+/// One sector where it lies.
+pub(crate) fn lend(bytes: &[u8], sector: u64) -> Option<&[u8; SECTOR_BYTES]>
+    requires { 512 * (sector + 1) ≤ length bytes.now }
+    ensures { IsSomeAnd result (λ lent. lent.now ≡ sector_of bytes.now sector) }
+{
+    bytes[sector as usize * SECTOR_BYTES..].first_chunk()
+}
 
 /// Copies one sector out of `bytes`.
 pub(crate) fn copy_from(bytes: &[u8], sector: u64, into: &mut [u8; SECTOR_BYTES])

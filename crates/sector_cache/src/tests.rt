@@ -5,6 +5,7 @@ mod both;
 mod files;
 mod gather;
 mod image_calls;
+mod in_place;
 mod memory_file;
 mod plain;
 mod refused;

@@ -7,7 +7,7 @@ use Rattle.hex.specs.Hex.{encode_lower, encode_with, lower_digits, IsBytes}
 use Rattle.hex.proofs.HexLemmas.{length-encode_with}
 use Rattle.trace.specs.Spelling.{digit, bytes}
 use Rattle.trace.proofs.Signs.{Above, above_tested, above_digits}
-use Rattle.trace.specs.Words.{ArePairs, IsDigit, IsBytesField, Says, Bytes}
+use Rattle.trace.specs.Words.{ArePairs, IsDigit, IsBytesField, IsIdentityField, Says, Bytes}
 
 abbrev pub AreBytes : List ℕ → Type 0
 AreBytes = All (λ b. b < 2 ^ 8)
@@ -89,3 +89,23 @@ pub bytes_none : (bs : List ℕ) → length bs ≡ 0 → bytes bs ≡ 45 ∷ []
 unfolding bytes
 bytes_none [] h = refl
 bytes_none (b ∷ bs) h = absurd (omega arith)
+
+-- an identity is spelled by forty digits
+module _ (field bs : List ℕ) (h : IsIdentityField field bs) where
+  identity_encoded : field ≡ encode_lower bs
+  identity_encoded = let twenty = h.twenty in h.bytes_are.spelled ∙ bytes_above bs (omega (arith, twenty, length-encode_with lower_digits bs))
+
+  pub identity_digits : All IsDigit field
+  identity_digits = subst (All IsDigit) (sym identity_encoded) (digits_encoded bs (is_bytes bs h.bytes_are.fits))
+
+  pub identity_len : length field ≡ 40
+  identity_len = let twenty = h.twenty in omega (arith, twenty, ap length identity_encoded, length-encode_with lower_digits bs)
+
+-- what was read of forty digits
+pub identity_read : (field bs : List ℕ) → length field ≡ 40 → encode_lower bs ≡ field → AreBytes bs → IsIdentityField field bs
+identity_read field bs len spelled fits =
+    let some : 0 < length (encode_lower bs) = omega (arith, ap length spelled, len) in
+    record {
+      bytes_are = record { fits = fits; spelled = sym spelled ∙ sym (bytes_above bs some) };
+      twenty = omega (arith, len, ap length spelled, length-encode_with lower_digits bs);
+    }

@@ -8,46 +8,63 @@ use Rattle.trace.specs.declared.fault.FaultKind.TheVariants as kind
 use Rattle.trace.specs.declared.word.Word.{Word}
 use Rattle.trace.specs.declared.word.Word.TheVariants.{Cache, Slot, Read, Write, MemRead, MemWrite, Input, Resize}
 use Rattle.trace.specs.Cuts.{lines_of}
-use Rattle.trace.specs.Faults.{AllSay, AreAsMany, MayStand, HasWord, IsEnded, Passes, first_field, line_at, other_fields}
+use Rattle.trace.specs.Faults.{AllSay, AreAsMany, MayStand, HasWord, IsEnded, IsHeader, IsOfVersion, Passes, first_field, line_at, other_fields}
 use Rattle.trace.specs.Text.{header}
+use Rattle.trace.specs.Version.{IsVersion}
 use Rattle.trace.specs.Words.{spelled, shapes}
 use Rattle.trace.proofs.Entries.{Entered, EnteredEvent, same_word}
 
--- what makes line k pass each check
-pub record Good (text : List ℕ) (k : ℕ) : Type 0 where
+-- a first line names one version
+pub same_version : (v w : ℕ) (text : List ℕ) → IsOfVersion text v → IsOfVersion text w → v ≡ w
+same_version v w text one other = omega (arith, ap (λ (xs : List ℕ). get_or xs 8 0) (sym one ∙ other))
+
+-- what makes line k of a text of this version pass each check
+pub record Good (version : ℕ) (text : List ℕ) (k : ℕ) : Type 0 where
   pub ended : IsEnded text k
-  pub first : k ≡ 1 → line_at text k ≡ header
+  pub names : IsOfVersion text version
+  pub first : k ≡ 1 → IsHeader (line_at text k)
   pub word : 2 ≤ k → HasWord k (line_at text k)
   pub order : first_field (line_at text k) ≡ spelled Slot → (j : ℕ) → 3 ≤ j → j < k → first_field (line_at text j) ≡ spelled Slot
-  pub entry : 2 ≤ k → (word : Word) × Entered (line_at text k) word
+  pub entry : 2 ≤ k → (word : Word) × Entered version (line_at text k) word
 
 -- the word of a line and its fields
-first_is : (l : List ℕ) (w : Word) → Entered l w → first_field l ≡ spelled w
-first_is l w e = ap (λ (fs : List (List ℕ)). get_or fs 0 []) e.cut
+first_is : (version : ℕ) (l : List ℕ) (w : Word) → Entered version l w → first_field l ≡ spelled w
+first_is version l w e = ap (λ (fs : List (List ℕ)). get_or fs 0 []) e.cut
 
-others_are : (l : List ℕ) (w : Word) (e : Entered l w) → other_fields l ≡ e.fields
-others_are l w e = ap (drop 1) e.cut
+others_are : (version : ℕ) (l : List ℕ) (w : Word) (e : Entered version l w) → other_fields l ≡ e.fields
+others_are version l w e = ap (drop 1) e.cut
 
-counted : (l : List ℕ) (v w : Word) → Entered l v → first_field l ≡ spelled w → AreAsMany w (other_fields l)
-counted l v w e is =
-    let same = same_word v w (sym (first_is l v e) ∙ is) in
-    subst (λ (x : Word). AreAsMany x (other_fields l)) same (subst (AreAsMany v) (sym (others_are l v e)) e.count)
+counted : (version : ℕ) (l : List ℕ) (v w : Word) → Entered version l v → first_field l ≡ spelled w → AreAsMany version w (other_fields l)
+counted version l v w e is =
+    let same = same_word v w (sym (first_is version l v e) ∙ is) in
+    subst (λ (x : Word). AreAsMany version x (other_fields l)) same (subst (AreAsMany version v) (sym (others_are version l v e)) e.count)
 
-said : (l : List ℕ) (v w : Word) (fault : FaultKind) → Entered l v → first_field l ≡ spelled w → AllSay fault (shapes w (other_fields l)) (other_fields l)
-said l v w fault e is =
-    let same = same_word v w (sym (first_is l v e) ∙ is) in
-    subst (λ (x : Word). AllSay fault (shapes x (other_fields l)) (other_fields l)) same (subst (λ (fs : List (List ℕ)). AllSay fault (shapes v fs) fs) (sym (others_are l v e)) (e.say fault))
+said : (version : ℕ) (l : List ℕ) (v w : Word) (fault : FaultKind) → Entered version l v → first_field l ≡ spelled w → AllSay fault (shapes version w (other_fields l)) (other_fields l)
+said version l v w fault e is =
+    let same = same_word v w (sym (first_is version l v e) ∙ is) in
+    subst (λ (x : Word). AllSay fault (shapes version x (other_fields l)) (other_fields l)) same (subst (λ (fs : List (List ℕ)). AllSay fault (shapes version v fs) fs) (sym (others_are version l v e)) (e.say fault))
 
-pub good_passes : (text : List ℕ) (k : ℕ) → Good text k → (fault : FaultKind) → Passes text k fault
-good_passes text k g kind.Cut = λ owed. g.ended
-good_passes text k g kind.Header = λ end. g.first
-good_passes text k g kind.Word = λ end. g.word
-good_passes text k g kind.Order = λ end. g.order
-good_passes text k g kind.Fields = λ end le w is. let e = g.entry le in counted (line_at text k) e.0 w e.1 is
-good_passes text k g kind.Number = λ end le w is. let e = g.entry le in said (line_at text k) e.0 w kind.Number e.1 is
-good_passes text k g kind.Choice = λ end le w is. let e = g.entry le in said (line_at text k) e.0 w kind.Choice e.1 is
-good_passes text k g kind.Bytes = λ end le w is. let e = g.entry le in said (line_at text k) e.0 w kind.Bytes e.1 is
-good_passes text k g kind.NoMemory = tt
+module _ (version : ℕ) (text : List ℕ) (k : ℕ) (g : Good version text k) where
+  good_said : (fault : FaultKind) → 2 ≤ k → (v : ℕ) → IsOfVersion text v → (w : Word) → first_field (line_at text k) ≡ spelled w → AllSay fault (shapes v w (other_fields (line_at text k))) (other_fields (line_at text k))
+  good_said fault le v names w is =
+      let e = g.entry le in
+      subst (λ (x : ℕ). AllSay fault (shapes x w (other_fields (line_at text k))) (other_fields (line_at text k))) (same_version version v text g.names names) (said version (line_at text k) e.0 w fault e.1 is)
+
+  good_counted : 2 ≤ k → (v : ℕ) → IsOfVersion text v → (w : Word) → first_field (line_at text k) ≡ spelled w → AreAsMany v w (other_fields (line_at text k))
+  good_counted le v names w is =
+      let e = g.entry le in
+      subst (λ (x : ℕ). AreAsMany x w (other_fields (line_at text k))) (same_version version v text g.names names) (counted version (line_at text k) e.0 w e.1 is)
+
+  pub good_passes : (fault : FaultKind) → Passes text k fault
+  good_passes kind.Cut = λ owed. g.ended
+  good_passes kind.Header = λ end. g.first
+  good_passes kind.Word = λ end. g.word
+  good_passes kind.Order = λ end. g.order
+  good_passes kind.Fields = λ end. good_counted
+  good_passes kind.Number = λ end. good_said kind.Number
+  good_passes kind.Choice = λ end. good_said kind.Choice
+  good_passes kind.Bytes = λ end. good_said kind.Bytes
+  good_passes kind.NoMemory = tt
 
 -- a word that may stand in line 3 may stand in any later one
 pub may_later : (w : Word) (k : ℕ) → 3 ≤ k → MayStand 3 w → MayStand k w
@@ -70,15 +87,15 @@ may_earlier MemWrite k le h = omega arith
 may_earlier Input k le h = omega arith
 may_earlier Resize k le h = omega arith
 
-abbrev pub IsSlotLine : List ℕ → Type 0
-IsSlotLine l = Entered l Slot
+abbrev pub IsSlotLine : ℕ → List ℕ → Type 0
+IsSlotLine version l = Entered version l Slot
 
 -- a text whose first lines are a header, a cache, slots and events, before at least one more part
-module _ (text h k : List ℕ) (S E more : List (List ℕ)) (is : lines_of text ≡ (h ∷ k ∷ (S ++ E)) ++ more) (some : 0 < length more) (head : h ≡ header) (cache : Entered k Cache) (slots : All IsSlotLine S) (events : All EnteredEvent E) where
+module _ (version : ℕ) (text k : List ℕ) (S E more : List (List ℕ)) (is : lines_of text ≡ (header version ∷ k ∷ (S ++ E)) ++ more) (some : 0 < length more) (one_of : IsVersion version) (cache : Entered version k Cache) (slots : All (IsSlotLine version) S) (events : All (EnteredEvent version) E) where
   total : length (lines_of text) ≡ 2 + (length S + length E) + length more
-  total = ap length is ∙ omega (arith, length-append (h ∷ k ∷ (S ++ E)) more, length-append S E)
+  total = ap length is ∙ omega (arith, length-append (header version ∷ k ∷ (S ++ E)) more, length-append S E)
 
-  at_one : line_at text 1 ≡ h
+  at_one : IsOfVersion text version
   at_one = ap (λ (ls : List (List ℕ)). get_or ls 0 []) is
 
   at_two : line_at text 2 ≡ k
@@ -87,7 +104,7 @@ module _ (text h k : List ℕ) (S E more : List (List ℕ)) (is : lines_of text 
   at_later : (j : ℕ) → 3 ≤ j → j < 3 + (length S + length E) → line_at text j ≡ get_or (S ++ E) (j - 3) []
   at_later j le lt =
       let e : j - 1 ≡ suc (suc (j - 3)) = omega arith in
-      ap (λ (ls : List (List ℕ)). get_or ls (j - 1) []) is ∙ ap (λ (n : ℕ). get_or ((h ∷ k ∷ (S ++ E)) ++ more) n []) e ∙ get_or_append_left (S ++ E) more [] (j - 3) (omega (arith, length-append S E))
+      ap (λ (ls : List (List ℕ)). get_or ls (j - 1) []) is ∙ ap (λ (n : ℕ). get_or ((header version ∷ k ∷ (S ++ E)) ++ more) n []) e ∙ get_or_append_left (S ++ E) more [] (j - 3) (omega (arith, length-append S E))
 
   at_slot : (j : ℕ) → 3 ≤ j → j < 3 + length S → line_at text j ≡ get_or S (j - 3) []
   at_slot j le lt = at_later j le (omega arith) ∙ get_or_append_left S E [] (j - 3) (omega arith)
@@ -95,13 +112,13 @@ module _ (text h k : List ℕ) (S E more : List (List ℕ)) (is : lines_of text 
   at_event : (j : ℕ) → 3 + length S ≤ j → j < 3 + (length S + length E) → line_at text j ≡ get_or E (j - 3 - length S) []
   at_event j le lt = at_later j (omega arith) lt ∙ get_or-append_right S E (length S) (j - 3) [] refl (omega arith)
 
-  slot_there : (j : ℕ) → 3 ≤ j → j < 3 + length S → Entered (line_at text j) Slot
-  slot_there j le lt = subst (λ (l : List ℕ). Entered l Slot) (sym (at_slot j le lt)) (All-get_or IsSlotLine S (j - 3) [] (omega arith) slots)
+  slot_there : (j : ℕ) → 3 ≤ j → j < 3 + length S → Entered version (line_at text j) Slot
+  slot_there j le lt = subst (λ (l : List ℕ). Entered version l Slot) (sym (at_slot j le lt)) (All-get_or (IsSlotLine version) S (j - 3) [] (omega arith) slots)
 
-  event_there : (j : ℕ) → 3 + length S ≤ j → j < 3 + (length S + length E) → EnteredEvent (line_at text j)
-  event_there j le lt = subst EnteredEvent (sym (at_event j le lt)) (All-get_or EnteredEvent E (j - 3 - length S) [] (omega arith) events)
+  event_there : (j : ℕ) → 3 + length S ≤ j → j < 3 + (length S + length E) → EnteredEvent version (line_at text j)
+  event_there j le lt = subst (EnteredEvent version) (sym (at_event j le lt)) (All-get_or (EnteredEvent version) E (j - 3 - length S) [] (omega arith) events)
 
-  pub good : (j : ℕ) → 1 ≤ j → j < 3 + (length S + length E) → Good text j
+  pub good : (j : ℕ) → 1 ≤ j → j < 3 + (length S + length E) → Good version text j
   good j le lt =
       let end : IsEnded text j = omega (arith, total) in
       elim (cases_lt j 3) [
@@ -110,18 +127,20 @@ module _ (text h k : List ℕ) (S E more : List (List ℕ)) (is : lines_of text 
               | inl one ↦
                   record {
                     ended = end;
-                    first = λ _. ap (line_at text) one ∙ at_one ∙ head;
+                    names = at_one;
+                    first = λ _. (version, (one_of, ap (line_at text) one ∙ at_one));
                     word = λ two. absurd (omega arith);
                     order = λ _ i low high. absurd (omega arith);
                     entry = λ two. absurd (omega arith);
                   }
               | inr ne ↦
                   let two : j ≡ 2 = omega arith in
-                  let e : Entered (line_at text j) Cache = subst (λ (l : List ℕ). Entered l Cache) (sym (ap (line_at text) two ∙ at_two)) cache in
+                  let e : Entered version (line_at text j) Cache = subst (λ (l : List ℕ). Entered version l Cache) (sym (ap (line_at text) two ∙ at_two)) cache in
                   record {
                     ended = end;
+                    names = at_one;
                     first = λ one. absurd (omega arith);
-                    word = λ _. record { word = Cache; may = two; first = first_is (line_at text j) Cache e };
+                    word = λ _. record { word = Cache; may = two; first = first_is version (line_at text j) Cache e };
                     order = λ _ i low high. absurd (omega arith);
                     entry = λ _. (Cache, e);
                   }
@@ -132,18 +151,20 @@ module _ (text h k : List ℕ) (S E more : List (List ℕ)) (is : lines_of text 
                   let e = slot_there j late slot in
                   record {
                     ended = end;
+                    names = at_one;
                     first = λ one. absurd (omega arith);
-                    word = λ _. record { word = Slot; may = late; first = first_is (line_at text j) Slot e };
-                    order = λ _ i low high. first_is (line_at text i) Slot (slot_there i low (omega arith));
+                    word = λ _. record { word = Slot; may = late; first = first_is version (line_at text j) Slot e };
+                    order = λ _ i low high. first_is version (line_at text i) Slot (slot_there i low (omega arith));
                     entry = λ _. (Slot, e);
                   }
               | inr event ↦
                   let e = event_there j event lt in
                   record {
                     ended = end;
+                    names = at_one;
                     first = λ one. absurd (omega arith);
-                    word = λ _. record { word = e.word; may = may_later e.word j late e.may; first = first_is (line_at text j) e.word e.entry };
-                    order = λ is i low high. absurd (e.other (same_word e.word Slot (sym (first_is (line_at text j) e.word e.entry) ∙ is)));
+                    word = λ _. record { word = e.word; may = may_later e.word j late e.may; first = first_is version (line_at text j) e.word e.entry };
+                    order = λ is i low high. absurd (e.other (same_word e.word Slot (sym (first_is version (line_at text j) e.word e.entry) ∙ is)));
                     entry = λ _. (e.word, e.entry);
                   }
             ]
@@ -151,10 +172,10 @@ module _ (text h k : List ℕ) (S E more : List (List ℕ)) (is : lines_of text 
 
   -- where no event has come, every line from the third on is a slot's
   pub only_slots : length E ≡ 0 → (j : ℕ) → 3 ≤ j → j < 3 + (length S + length E) → first_field (line_at text j) ≡ spelled Slot
-  only_slots none j le lt = first_is (line_at text j) Slot (slot_there j le (omega arith))
+  only_slots none j le lt = first_is version (line_at text j) Slot (slot_there j le (omega arith))
 
   -- where one has come, there is a line that isn't a slot's
   pub one_event : 0 < length E → first_field (line_at text (3 + length S)) ≡ spelled Slot → ⊥
   one_event some is =
       let e = event_there (3 + length S) (omega arith) (omega arith) in
-      e.other (same_word e.word Slot (sym (first_is (line_at text (3 + length S)) e.word e.entry) ∙ is))
+      e.other (same_word e.word Slot (sym (first_is version (line_at text (3 + length S)) e.word e.entry) ∙ is))

@@ -1,5 +1,5 @@
 -- The line of a slot, of an event and of the cache: its word, and fields that say what they have to.
-use Rattle.std.proofs.Common.{◌≡◌, ◌≢◌, ℕ, ◌+◌, ◌*◌, ◌^◌, ◌<◌, Bool, true, false, cond, eqb, List, [], ◌∷◌, get_or, refl, sym, ap, subst, ◌∙◌, arith, MatchBool, inl, inr}
+use Rattle.std.proofs.Common.{◌≡◌, ◌≢◌, ◌==◌, ℕ, ◌+◌, ◌*◌, ◌^◌, ◌<◌, Bool, true, false, cond, eqb, if◌then◌else◌, length, List, [], ◌∷◌, get_or, refl, sym, ap, subst, ◌∙◌, arith, MatchBool, inl, inr}
 use Rattle.std.specs.Prelude.{⊤, Option, Some, None, IfSome, IfNone}
 use Rattle.mmio_window.specs.declared.device_kind.DeviceKind.{DeviceKind}
 use Rattle.mmio_window.specs.declared.device_kind.DeviceKind.TheVariants.{Block, Console}
@@ -16,7 +16,8 @@ use Rattle.trace.specs.Printable.{EventInRange, KindInRange, IsPrintableKind, Sl
 use Rattle.trace.specs.Refusals.{IsFine}
 use Rattle.trace.specs.Spelling.{num, fixed, bytes, window, mode, width_digit}
 use Rattle.trace.specs.Text.{line, cache_fields, cache_line, slot_fields, slot_line, event_fields, event_line, what_fields}
-use Rattle.trace.specs.Words.{Shape, Value, Says, spelled, shapes, IsNum, IsFixed, IsWidth}
+use Rattle.trace.specs.Version.{in_version_2}
+use Rattle.trace.specs.Words.{Shape, Identity, Value, Says, spelled, shapes, IsNum, IsFixed, IsWidth}
 use Rattle.trace.proofs.ByteFields.{bytes_digits}
 use Rattle.trace.proofs.Signs.{Above, AllAbove, above_tested, above_num, above_fixed, fields_of-line, above_line}
 
@@ -72,20 +73,20 @@ all_say (s ∷ ss) (f ∷ fs) h fault = (one_way (eqb (order (fault_of s)) (orde
 -- ---- lines
 
 -- the line has the word, and after it fields that pass each check
-pub record Entered (l : List ℕ) (word : Word) : Type 0 where
+pub record Entered (version : ℕ) (l : List ℕ) (word : Word) : Type 0 where
   pub fields : List (List ℕ)
   pub cut : fields_of l ≡ spelled word ∷ fields
-  pub count : AreAsMany word fields
-  pub say : (fault : FaultKind) → AllSay fault (shapes word fields) fields
+  pub count : AreAsMany version word fields
+  pub say : (fault : FaultKind) → AllSay fault (shapes version word fields) fields
   pub unbroken : Above 10 l
 
-entered : (l : List ℕ) (word : Word) (fs : List (List ℕ)) → l ≡ line (spelled word ∷ fs) → AreAsMany word fs → EachSays (shapes word fs) fs → AllAbove 32 fs → Entered l word
-entered l word fs is count says above =
+entered : (version : ℕ) (l : List ℕ) (word : Word) (fs : List (List ℕ)) → l ≡ line (spelled word ∷ fs) → AreAsMany version word fs → EachSays (shapes version word fs) fs → AllAbove 32 fs → Entered version l word
+entered version l word fs is count says above =
     record {
       fields = fs;
       cut = ap fields_of is ∙ fields_of-line (spelled word) fs (above_word word, above);
       count = count;
-      say = all_say (shapes word fs) fs says;
+      say = all_say (shapes version word fs) fs says;
       unbroken = subst (Above 10) (sym is) (above_line (spelled word) fs (above_word word, above));
     }
 
@@ -108,16 +109,45 @@ fits_digits width value wide within =
       | inr more ↦ elim more [ inl two ↦ rw two (rw two at within) | inr four ↦ rw four (rw four at within) ]
     ]
 
-pub entered_cache : (n : ℕ) → n < 2 ^ 32 → Entered (cache_line n) Cache
+pub entered_cache : (version n : ℕ) → n < 2 ^ 32 → Entered version (cache_line n) Cache
 unfolding cache_line
-entered_cache n lt = entered (cache_line n) Cache (num n ∷ []) refl refl (number 32 n lt, tt) (above_num n, tt)
+entered_cache version n lt = entered version (cache_line n) Cache (num n ∷ []) refl refl (number 32 n lt, tt) (above_num n, tt)
 
-pub entered_slot : (s : SlotSpec) → SlotInRange s → Entered (slot_line s) Slot
+-- the identity, where a version has it
+abbrev last_field : ℕ → SlotSpec → List (List ℕ)
+last_field version s = in_version_2 version (bytes s.identity ∷ [])
+
+last_said : (has : Bool) (s : SlotSpec) → SlotInRange s → EachSays (if has then Identity ∷ [] else []) (if has then bytes s.identity ∷ [] else [])
+last_said false s h = tt
+last_said true s h = ((s.identity, record { bytes_are = record { fits = h.identity; spelled = refl }; twenty = h.twenty }), tt)
+
+last_counted : (has : Bool) (s : SlotSpec) → length (if has then bytes s.identity ∷ [] else []) ≡ length (if has then Identity ∷ [] else [])
+last_counted false s = refl
+last_counted true s = refl
+
+last_above : (has : Bool) (s : SlotSpec) → SlotInRange s → AllAbove 32 (if has then bytes s.identity ∷ [] else [])
+last_above false s h = tt
+last_above true s h = (bytes_digits s.identity h.identity, tt)
+
+abbrev slot_rest : ℕ → SlotSpec → List (List ℕ)
+slot_rest version s =
+    num s.base ∷ num s.len ∷ num s.extent.start ∷ num s.extent.count ∷ mode s.read_only ∷ num s.cols ∷ num s.rows ∷ last_field version s
+
+slot_said : (version : ℕ) (s : SlotSpec) → SlotInRange s → EachSays (shapes version Slot (slot_rest version s)) (slot_rest version s)
+slot_said version s h =
+    (number 64 s.base h.base, (number 64 s.len h.len, (number 64 s.extent.start h.start, (number 64 s.extent.count h.count, ((s.read_only, refl), (number 16 s.cols h.cols, (number 16 s.rows h.rows, last_said (version == 2) s h)))))))
+
+pub slot_says : (version : ℕ) (s : SlotSpec) → SlotInRange s → (fault : FaultKind) → AllSay fault (shapes version Slot (slot_rest version s)) (slot_rest version s)
+slot_says version s h = all_say (shapes version Slot (slot_rest version s)) (slot_rest version s) (slot_said version s h)
+
+slot_above : (version : ℕ) (s : SlotSpec) → SlotInRange s → AllAbove 32 (slot_rest version s)
+slot_above version s h =
+    (above_num s.base, (above_num s.len, (above_num s.extent.start, (above_num s.extent.count, (above_mode s.read_only, (above_num s.cols, (above_num s.rows, last_above (version == 2) s h)))))))
+
+pub entered_slot : (version : ℕ) (s : SlotSpec) → SlotInRange s → Entered version (slot_line version s) Slot
 unfolding slot_line
-entered_slot s h =
-    entered (slot_line s) Slot (num s.base ∷ num s.len ∷ num s.extent.start ∷ num s.extent.count ∷ mode s.read_only ∷ num s.cols ∷ num s.rows ∷ []) refl refl
-    (number 64 s.base h.base, (number 64 s.len h.len, (number 64 s.extent.start h.start, (number 64 s.extent.count h.count, ((s.read_only, refl), (number 16 s.cols h.cols, (number 16 s.rows h.rows, tt)))))))
-    (above_num s.base, (above_num s.len, (above_num s.extent.start, (above_num s.extent.count, (above_mode s.read_only, (above_num s.cols, (above_num s.rows, tt)))))))
+entered_slot version s h =
+    entered version (slot_line version s) Slot (slot_rest version s) refl (omega (arith, last_counted (version == 2) s)) (slot_said version s h) (slot_above version s h)
 
 -- a value within a width, beside that width
 says_value : (width value : ℕ) → IsWidth width → value < 2 ^ (8 * width) → Says (Value (width_digit width)) (fixed (2 * width) value)
@@ -126,77 +156,77 @@ says_value width value wide within other h =
     (value, subst (λ (w : ℕ). IsFixed (2 * w) (fixed (2 * width) value) value) same (record { fits = fits_digits width value wide within; spelled = refl }))
 
 -- the line of an event, which has another word than a slot's
-pub record EnteredEvent (l : List ℕ) : Type 0 where
+pub record EnteredEvent (version : ℕ) (l : List ℕ) : Type 0 where
   pub word : Word
   pub may : MayStand 3 word
   pub other : word ≢ Slot
-  pub entry : Entered l word
+  pub entry : Entered version l word
 
-entered_what : {A : Type 0} (slot : ℕ) (w : EventKind A) → slot < 2 ^ 8 → KindInRange w → IsPrintableKind w → EnteredEvent (line (what_fields slot w))
-entered_what slot (what.Read kind offset width) lt range fine =
+entered_what : {A : Type 0} (version slot : ℕ) (w : EventKind A) → slot < 2 ^ 8 → KindInRange w → IsPrintableKind w → EnteredEvent version (line (what_fields slot w))
+entered_what version slot (what.Read kind offset width) lt range fine =
     record {
       word = Read;
       may = omega arith;
       other = λ e. absurd cc;
       entry =
-          entered _ Read (num slot ∷ window kind ∷ fixed 3 offset ∷ width_digit width ∷ []) refl refl
+          entered version _ Read (num slot ∷ window kind ∷ fixed 3 offset ∷ width_digit width ∷ []) refl refl
           (number 8 slot lt, ((kind, refl), ((offset, record { fits = fine.three_digits; spelled = refl }), ((width, record { fits = fine.wide; spelled = refl }), tt))))
           (above_num slot, (above_window kind, (above_fixed 3 offset, ((omega arith, tt), tt))));
     }
-entered_what slot (what.Write kind offset width value) lt range fine =
+entered_what version slot (what.Write kind offset width value) lt range fine =
     record {
       word = Write;
       may = omega arith;
       other = λ e. absurd cc;
       entry =
-          entered _ Write (num slot ∷ window kind ∷ fixed 3 offset ∷ width_digit width ∷ fixed (2 * width) value ∷ []) refl refl
+          entered version _ Write (num slot ∷ window kind ∷ fixed 3 offset ∷ width_digit width ∷ fixed (2 * width) value ∷ []) refl refl
           (number 8 slot lt, ((kind, refl), ((offset, record { fits = fine.access.three_digits; spelled = refl }), ((width, record { fits = fine.access.wide; spelled = refl }), (says_value width value fine.access.wide fine.within, tt)))))
           (above_num slot, (above_window kind, (above_fixed 3 offset, ((omega arith, tt), (above_fixed (2 * width) value, tt)))));
     }
-entered_what slot (what.MemRead addr len) lt range fine =
+entered_what version slot (what.MemRead addr len) lt range fine =
     record {
       word = MemRead;
       may = omega arith;
       other = λ e. absurd cc;
       entry =
-          entered _ MemRead (num slot ∷ num addr ∷ num len ∷ []) refl refl
+          entered version _ MemRead (num slot ∷ num addr ∷ num len ∷ []) refl refl
           (number 8 slot lt, (number 64 addr range.from, (number 32 len range.size, tt)))
           (above_num slot, (above_num addr, (above_num len, tt)));
     }
-entered_what slot (what.MemWrite addr bs) lt range fine =
+entered_what version slot (what.MemWrite addr bs) lt range fine =
     record {
       word = MemWrite;
       may = omega arith;
       other = λ e. absurd cc;
       entry =
-          entered _ MemWrite (num slot ∷ num addr ∷ bytes bs ∷ []) refl refl
+          entered version _ MemWrite (num slot ∷ num addr ∷ bytes bs ∷ []) refl refl
           (number 8 slot lt, (number 64 addr range.from, ((bs, record { fits = range.each; spelled = refl }), tt)))
           (above_num slot, (above_num addr, (bytes_digits bs range.each, tt)));
     }
-entered_what slot (what.Input bs) lt range fine =
+entered_what version slot (what.Input bs) lt range fine =
     record {
       word = Input;
       may = omega arith;
       other = λ e. absurd cc;
       entry =
-          entered _ Input (num slot ∷ bytes bs ∷ []) refl refl
+          entered version _ Input (num slot ∷ bytes bs ∷ []) refl refl
           (number 8 slot lt, ((bs, record { fits = range.each; spelled = refl }), tt))
           (above_num slot, (bytes_digits bs range.each, tt));
     }
-entered_what slot (what.Resize cols rows) lt range fine =
+entered_what version slot (what.Resize cols rows) lt range fine =
     record {
       word = Resize;
       may = omega arith;
       other = λ e. absurd cc;
       entry =
-          entered _ Resize (num slot ∷ num cols ∷ num rows ∷ []) refl refl
+          entered version _ Resize (num slot ∷ num cols ∷ num rows ∷ []) refl refl
           (number 8 slot lt, (number 16 cols range.across, (number 16 rows range.down, tt)))
           (above_num slot, (above_num cols, (above_num rows, tt)));
     }
 
-pub entered_event : {A : Type 0} (e : Event A) → IsFine e → EnteredEvent (event_line e)
+pub entered_event : {A : Type 0} (version : ℕ) (e : Event A) → IsFine e → EnteredEvent version (event_line e)
 unfolding event_line
-entered_event e h = entered_what e.slot e.what h.fits.slot h.fits.what h.printable
+entered_event version e h = entered_what version e.slot e.what h.fits.slot h.fits.what h.printable
 
 -- a field that was found to be another word, or none
 pub not_cache : (o : Option Word) (f : List ℕ) → IfSome o (λ w. f ≡ spelled w) → IfNone o ((w : Word) → f ≢ spelled w) → (o ≡ Some Cache → ⊥) → f ≡ spelled Cache → ⊥
@@ -209,11 +239,9 @@ pub cut_cache : (n : ℕ) → fields_of (cache_line n) ≡ cache_fields n
 unfolding cache_line
 cut_cache n = fields_of-line (spelled Cache) (num n ∷ []) (above_word Cache, (above_num n, tt))
 
-pub cut_slot : (s : SlotSpec) → fields_of (slot_line s) ≡ slot_fields s
+pub cut_slot : (version : ℕ) (s : SlotSpec) → SlotInRange s → fields_of (slot_line version s) ≡ slot_fields version s
 unfolding slot_line
-cut_slot s =
-    fields_of-line (spelled Slot) (num s.base ∷ num s.len ∷ num s.extent.start ∷ num s.extent.count ∷ mode s.read_only ∷ num s.cols ∷ num s.rows ∷ [])
-    (above_word Slot, (above_num s.base, (above_num s.len, (above_num s.extent.start, (above_num s.extent.count, (above_mode s.read_only, (above_num s.cols, (above_num s.rows, tt))))))))
+cut_slot version s h = fields_of-line (spelled Slot) (slot_rest version s) (above_word Slot, slot_above version s h)
 
 cut_what : {A : Type 0} (slot : ℕ) (w : EventKind A) → KindInRange w → fields_of (line (what_fields slot w)) ≡ what_fields slot w
 cut_what slot (what.Read kind offset width) range =

@@ -4,9 +4,10 @@ use Rattle.trace.specs.declared.fault.FaultKind.{FaultKind}
 use Rattle.trace.specs.declared.fault.FaultKind.TheVariants as kind
 use Rattle.trace.specs.declared.word.Word.{Word}
 use Rattle.trace.specs.declared.word.Word.TheVariants.{Slot}
-use Rattle.trace.specs.Faults.{AllSay, AreAsMany, MayStand, IsCleanBefore, IsEnded, IsFault, IsOwed, Passes, first_field, line_at, order, other_fields}
+use Rattle.trace.specs.Faults.{AllSay, AreAsMany, MayStand, IsCleanBefore, IsEnded, IsFault, IsOfVersion, IsOwed, Passes, first_field, line_at, order, other_fields}
 use Rattle.trace.specs.Refusals.{RefusesFields}
 use Rattle.trace.specs.Words.{spelled, shapes}
+use Rattle.trace.proofs.Clean.{same_version}
 use Rattle.trace.proofs.Entries.{same_word}
 
 -- the checks before the n-th, one by one
@@ -69,18 +70,22 @@ module _ (text : List ℕ) (k : ℕ) (late : 2 ≤ k) (clean : IsCleanBefore tex
         fails = λ p. other (p end is j le lt);
       }
 
-  module _ (w : Word) (may : MayStand k w) (is : first_field (line_at text k) ≡ spelled w) (ordered : Passes text k kind.Order) where
+  module _ (version : ℕ) (names : IsOfVersion text version) (w : Word) (may : MayStand k w) (is : first_field (line_at text k) ≡ spelled w) (ordered : Passes text k kind.Order) where
     word_passes : Passes text k kind.Word
     word_passes _ _ = record { word = w; may = may; first = is }
 
-    fields_pass : AreAsMany w (other_fields (line_at text k)) → Passes text k kind.Fields
-    fields_pass same = λ _ _ v first. subst (λ (x : Word). AreAsMany x (other_fields (line_at text k))) (same_word w v (sym is ∙ first)) same
+    fields_pass : AreAsMany version w (other_fields (line_at text k)) → Passes text k kind.Fields
+    fields_pass same = λ _ _ u other v first.
+        subst (λ (x : ℕ). AreAsMany x v (other_fields (line_at text k))) (same_version version u text names other)
+        (subst (λ (x : Word). AreAsMany version x (other_fields (line_at text k))) (same_word w v (sym is ∙ first)) same)
 
-    say_pass : (fault : FaultKind) → AllSay fault (shapes w (other_fields (line_at text k))) (other_fields (line_at text k)) → (v : Word) → first_field (line_at text k) ≡ spelled v → AllSay fault (shapes v (other_fields (line_at text k))) (other_fields (line_at text k))
-    say_pass fault all v first = subst (λ (x : Word). AllSay fault (shapes x (other_fields (line_at text k))) (other_fields (line_at text k))) (same_word w v (sym is ∙ first)) all
+    say_pass : (fault : FaultKind) → AllSay fault (shapes version w (other_fields (line_at text k))) (other_fields (line_at text k)) → (u : ℕ) → IsOfVersion text u → (v : Word) → first_field (line_at text k) ≡ spelled v → AllSay fault (shapes u v (other_fields (line_at text k))) (other_fields (line_at text k))
+    say_pass fault all u other v first =
+        subst (λ (x : ℕ). AllSay fault (shapes x v (other_fields (line_at text k))) (other_fields (line_at text k))) (same_version version u text names other)
+        (subst (λ (x : Word). AllSay fault (shapes version x (other_fields (line_at text k))) (other_fields (line_at text k))) (same_word w v (sym is ∙ first)) all)
 
     -- its fields are refused
-    pub fields_fault : (fault : FaultKind) → RefusesFields w (other_fields (line_at text k)) fault → fault ≢ kind.NoMemory → IsFault text k fault
+    pub fields_fault : (fault : FaultKind) → RefusesFields version w (other_fields (line_at text k)) fault → fault ≢ kind.NoMemory → IsFault text k fault
     fields_fault kind.Cut h some = absurd h
     fields_fault kind.Header h some = absurd h
     fields_fault kind.Word h some = absurd h
@@ -91,26 +96,26 @@ module _ (text : List ℕ) (k : ℕ) (late : 2 ≤ k) (clean : IsCleanBefore tex
           numbered = omega arith;
           before = clean;
           earlier = earlier_by text k 5 (λ _. cut_passes) (λ _. header_passes) (λ _. word_passes) (λ _. ordered) (λ lt. absurd (omega arith)) (λ lt. absurd (omega arith)) (λ lt. absurd (omega arith)) (λ lt. absurd (omega arith));
-          fails = λ p. h (p end late w is);
+          fails = λ p. h (p end late version names w is);
         }
     fields_fault kind.Number h some =
         record {
           numbered = omega arith;
           before = clean;
           earlier = earlier_by text k 6 (λ _. cut_passes) (λ _. header_passes) (λ _. word_passes) (λ _. ordered) (λ _. fields_pass h.0) (λ lt. absurd (omega arith)) (λ lt. absurd (omega arith)) (λ lt. absurd (omega arith));
-          fails = λ p. h.1 (p end late w is);
+          fails = λ p. h.1 (p end late version names w is);
         }
     fields_fault kind.Choice h some =
         record {
           numbered = omega arith;
           before = clean;
           earlier = earlier_by text k 7 (λ _. cut_passes) (λ _. header_passes) (λ _. word_passes) (λ _. ordered) (λ _. fields_pass h.0) (λ _ _ _. say_pass kind.Number h.1) (λ lt. absurd (omega arith)) (λ lt. absurd (omega arith));
-          fails = λ p. h.2 (p end late w is);
+          fails = λ p. h.2 (p end late version names w is);
         }
     fields_fault kind.Bytes h some =
         record {
           numbered = omega arith;
           before = clean;
           earlier = earlier_by text k 8 (λ _. cut_passes) (λ _. header_passes) (λ _. word_passes) (λ _. ordered) (λ _. fields_pass h.0) (λ _ _ _. say_pass kind.Number h.1) (λ _ _ _. say_pass kind.Choice h.2) (λ lt. absurd (omega arith));
-          fails = λ p. h.3 (p end late w is);
+          fails = λ p. h.3 (p end late version names w is);
         }

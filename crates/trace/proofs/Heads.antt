@@ -6,13 +6,14 @@ use Rattle.trace.specs.declared.fault.FaultKind.TheVariants as kind
 use Rattle.trace.specs.declared.word.Word.{Word}
 use Rattle.trace.specs.declared.word.Word.TheVariants.{Cache, Slot, Read, Write, MemRead, MemWrite, Input, Resize}
 use Rattle.trace.specs.Cuts.{lines_of}
-use Rattle.trace.specs.Faults.{MayStand, IsCleanBefore, IsEnded, IsFault, Passes, first_field, line_at, other_fields}
+use Rattle.trace.specs.Faults.{MayStand, IsCleanBefore, IsEnded, IsFault, IsHeader, IsOfVersion, Passes, first_field, line_at, other_fields}
 use Rattle.trace.specs.Refusals.{RefusesCache, RefusesFields, RefusesHead, RefusesSecond}
 use Rattle.trace.specs.Text.{header, joined}
+use Rattle.trace.specs.Version.{IsVersion}
 use Rattle.trace.specs.Words.{spelled}
 use Rattle.trace.proofs.Clean.{Good, good_passes}
 use Rattle.trace.proofs.Faulty.{cut_fault, fields_fault, header_fault, word_fault}
-use Rattle.trace.proofs.Signs.{above_tested, lines_of-joined}
+use Rattle.trace.proofs.Signs.{above_header, lines_of-joined}
 use Rattle.trace.proofs.Sofar.{some_lines}
 
 nothing_before : (text : List ℕ) → IsCleanBefore text 1
@@ -22,7 +23,7 @@ pub head_fault : (text : List ℕ) (fault : FaultKind) → RefusesHead text faul
 head_fault text kind.Cut h = cut_fault text 1 (omega arith) (nothing_before text) (inl (omega arith)) (λ end. omega (arith, ap length h))
 head_fault text kind.Header h =
     header_fault text (nothing_before text) (omega (arith, ap length h.cut, some_lines h.rest))
-    (λ p. h.other (sym (ap (λ (ls : List (List ℕ)). get_or ls 0 []) h.cut) ∙ p (omega (arith, ap length h.cut, some_lines h.rest)) refl))
+    (λ p. h.other (subst IsHeader (ap (λ (ls : List (List ℕ)). get_or ls 0 []) h.cut) (p (omega (arith, ap length h.cut, some_lines h.rest)) refl)))
 head_fault text kind.Word h = absurd h
 head_fault text kind.Order h = absurd h
 head_fault text kind.Fields h = absurd h
@@ -32,23 +33,27 @@ head_fault text kind.Bytes h = absurd h
 head_fault text kind.NoMemory h = absurd h
 
 -- after a good first line
-module _ (text rest : List ℕ) (whole : text ≡ header ++ 10 ∷ rest) where
-  pub headed : lines_of text ≡ header ∷ lines_of rest
+module _ (version : ℕ) (text rest : List ℕ) (one_of : IsVersion version) (whole : text ≡ header version ++ 10 ∷ rest) where
+  pub headed : lines_of text ≡ header version ∷ lines_of rest
   unfolding joined
-  headed = ap lines_of (whole ∙ sym (ap (λ (xs : List ℕ). xs ++ rest) (append-nil (header ++ 10 ∷ [])) ∙ append_assoc header (10 ∷ []) rest)) ∙ lines_of-joined (header ∷ []) rest (above_tested 10 header refl, tt)
+  headed = ap lines_of (whole ∙ sym (ap (λ (xs : List ℕ). xs ++ rest) (append-nil (header version ++ 10 ∷ [])) ∙ append_assoc (header version) (10 ∷ []) rest)) ∙ lines_of-joined (header version ∷ []) rest (above_header version, tt)
 
-  good_head : Good text 1
+  names_it : IsOfVersion text version
+  names_it = ap (λ (ls : List (List ℕ)). get_or ls 0 []) headed
+
+  good_head : Good version text 1
   good_head =
       record {
         ended = omega (arith, ap length headed, some_lines rest);
-        first = λ _. ap (λ (ls : List (List ℕ)). get_or ls 0 []) headed;
+        names = names_it;
+        first = λ _. (version, (one_of, names_it));
         word = λ two. absurd (omega arith);
         order = λ _ j low high. absurd (omega arith);
         entry = λ two. absurd (omega arith);
       }
 
   pub head_clean : IsCleanBefore text 2
-  head_clean j le lt fault = let one : 1 ≡ j = omega arith in subst (λ (k : ℕ). Passes text k fault) one (good_passes text 1 good_head fault)
+  head_clean j le lt fault = let one : 1 ≡ j = omega arith in subst (λ (k : ℕ). Passes text k fault) one (good_passes version text 1 good_head fault)
 
   at_two : line_at text 2 ≡ get_or (lines_of rest) 0 []
   at_two = ap (λ (ls : List (List ℕ)). get_or ls 1 []) headed
@@ -67,8 +72,8 @@ module _ (text rest : List ℕ) (whole : text ≡ header ++ 10 ∷ rest) where
   fields_of_cache fault h known =
       let here : line_at text 2 ≡ h.line = at_two ∙ ap (λ (ls : List (List ℕ)). get_or ls 0 []) h.cut in
       let end : IsEnded text 2 = omega (arith, ap length headed, ap length h.cut, some_lines h.rest) in
-      fields_fault text 2 (omega arith) head_clean end Cache refl (ap first_field here ∙ h.first) (λ _ _ j low high. absurd (omega arith)) fault
-      (subst (λ (l : List ℕ). RefusesFields Cache (other_fields l) fault) (sym here) h.refused) known
+      fields_fault text 2 (omega arith) head_clean end version names_it Cache refl (ap first_field here ∙ h.first) (λ _ _ j low high. absurd (omega arith)) fault
+      (subst (λ (l : List ℕ). RefusesFields version Cache (other_fields l) fault) (sym here) (h.refused version)) known
 
   pub second_fault : (fault : FaultKind) → RefusesSecond rest fault → fault ≢ kind.NoMemory → IsFault text 2 fault
   second_fault kind.Cut h known = cut_fault text 2 (omega arith) head_clean (inl (omega arith)) (λ end. omega (arith, ap length headed, ap length h))

@@ -6,12 +6,14 @@ pub mod ByteFields
 pub mod PairSteps
 pub mod Judging
 pub mod Entries
+pub mod Named
 pub mod Clean
 pub mod Faulty
 pub mod Sofar
 pub mod Heads
 pub mod Refused
 pub mod Unique
+pub mod Versions
 pub mod Printed
 pub mod RecordLines
 pub mod Sending

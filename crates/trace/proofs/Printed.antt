@@ -20,16 +20,16 @@ unfolding joined
 joined_append [] ys = refl
 joined_append (x ∷ xs) ys = ap (λ (t : List ℕ). ended x ++ t) (joined_append xs ys) ∙ sym (append_assoc (ended x) (joined xs) (joined ys))
 
-front_is : (cache : ℕ) → joined (header ∷ cache_line cache ∷ []) ≡ front_text cache
+front_is : (version cache : ℕ) → joined (header version ∷ cache_line cache ∷ []) ≡ front_text version cache
 unfolding joined
-front_is cache = ap (λ (t : List ℕ). ended header ++ t) (append-nil (ended (cache_line cache)))
+front_is version cache = ap (λ (t : List ℕ). ended (header version) ++ t) (append-nil (ended (cache_line cache)))
 
 -- the text, in its three parts
-pub text_is : {A : Type 0} (c : Content A) → (front_text c.cache ++ joined (map slot_line c.slots)) ++ joined (map event_line c.events) ≡ text c
+pub text_is : {A : Type 0} (c : Content A) → (front_text c.version c.cache ++ joined (map (slot_line c.version) c.slots)) ++ joined (map event_line c.events) ≡ text c
 unfolding trace_lines
 text_is c =
-    sym (joined_append (header ∷ cache_line c.cache ∷ map slot_line c.slots) (map event_line c.events)
-    ∙ ap (λ (t : List ℕ). t ++ joined (map event_line c.events)) (joined_append (header ∷ cache_line c.cache ∷ []) (map slot_line c.slots) ∙ ap (λ (t : List ℕ). t ++ joined (map slot_line c.slots)) (front_is c.cache)))
+    sym (joined_append (header c.version ∷ cache_line c.cache ∷ map (slot_line c.version) c.slots) (map event_line c.events)
+    ∙ ap (λ (t : List ℕ). t ++ joined (map event_line c.events)) (joined_append (header c.version ∷ cache_line c.cache ∷ []) (map (slot_line c.version) c.slots) ∙ ap (λ (t : List ℕ). t ++ joined (map (slot_line c.version) c.slots)) (front_is c.version c.cache)))
 
 -- the same at any default
 pub joined_at : {X : Type 0} (f : X → List ℕ) (front : List ℕ) (xs : List X) (i : ℕ) (d : X) → i < length xs → (front ++ joined (map f (take i xs))) ++ ended (f (get_or xs i d)) ≡ front ++ joined (map f (take (i + 1) xs))
@@ -37,4 +37,4 @@ joined_at f front xs i d lt = joined_more f front xs i (get_or xs i d) lt (get_o
 
 -- what stands past the end of a list of slots
 abbrev pub no_slot : SlotSpec
-no_slot = record { base = 0; len = 0; extent = record { start = 0; count = 0 }; read_only = false; cols = 0; rows = 0 }
+no_slot = record { base = 0; len = 0; extent = record { start = 0; count = 0 }; read_only = false; cols = 0; rows = 0; identity = [] }

@@ -1,6 +1,6 @@
 -- No field has a space in it, and no line a line feed: so cutting a text gives its lines, and cutting a
 -- line its fields.
-use Rattle.std.proofs.Common.{◌≡◌, ℕ, ◌<◌, ◌≤◌, ltb, Bool, true, false, List, [], ◌∷◌, ◌++◌, All, refl, sym, ap, ◌∙◌, arith}
+use Rattle.std.proofs.Common.{◌≡◌, ℕ, ◌+◌, ◌<◌, ◌≤◌, ltb, codes, Bool, true, false, List, [], ◌∷◌, ◌++◌, All, refl, sym, ap, ◌∙◌, arith}
 use Rattle.std.specs.List.{AllByRecursion, slice_split, join_with_byte, flat_map, list_all}
 use Rattle.std.proofs.lemmas.Bool.{ltb-true, ne_eqb, and_parts}
 use Rattle.std.proofs.lemmas.List.{append_assoc, append-nil}
@@ -8,7 +8,7 @@ use Rattle.std.proofs.lemmas.List.Elements.{All-from_recursion}
 use Rattle.std.proofs.lemmas.List.Splits.{slice_split_at, slice_split_none, join_with_byte-slice_split}
 use Rattle.trace.specs.Cuts.{fields_of, lines_of, is_space, is_line_feed}
 use Rattle.trace.specs.Spelling.{num, fixed}
-use Rattle.trace.specs.Text.{line, joined, ended}
+use Rattle.trace.specs.Text.{line, joined, ended, header}
 use Rattle.trace.proofs.Cutting.{is_byte}
 use Rattle.trace.proofs.Digits.{digit_above}
 use Rattle.trace.proofs.Numbers.{AreDigits, are_digits_num, are_digits_fixed}
@@ -74,6 +74,9 @@ above_line f [] h = above_lower 10 32 f (omega arith) h.0
 above_line f (g ∷ fs) h = above_append 10 f (32 ∷ line (g ∷ fs)) (above_lower 10 32 f (omega arith) h.0) (omega arith, above_line g fs h.1)
 
 -- ---- lines
+
+pub above_header : (version : ℕ) → Above 10 (header version)
+above_header version = above_append 10 (codes "vreplay ") ((48 + version) ∷ []) (above_tested 10 (codes "vreplay ") refl) (omega arith, tt)
 
 pub lines_of-joined : (ls : List (List ℕ)) (rest : List ℕ) → AllAbove 10 ls → lines_of (joined ls ++ rest) ≡ ls ++ lines_of rest
 unfolding lines_of joined

@@ -10,42 +10,43 @@ use Rattle.trace.specs.declared.fault.FaultKind.{FaultKind}
 use Rattle.trace.specs.declared.fault.FaultKind.TheVariants as kind
 use Rattle.trace.specs.declared.word.Word.TheVariants.{Slot}
 use Rattle.trace.specs.Cuts.{fields_of, lines_of, is_line_feed}
-use Rattle.trace.specs.Faults.{IsCleanBefore, IsEnded, IsFault, Passes, line_at}
-use Rattle.trace.specs.Printable.{InRange, IsPrintable, EventInRange, IsPrintableKind, SlotInRange}
-use Rattle.trace.specs.Refusals.{AddsLine, IsFine, IsFineEntry, RefusesLine, RefusesAfterWord, entry_fields, has_begun, with_entry}
+use Rattle.trace.specs.Faults.{IsCleanBefore, IsEnded, IsFault, IsOfVersion, Passes, line_at}
+use Rattle.trace.specs.Printable.{InRange, IsPrintable, EventInRange, IsPrintableKind, IsPrintableSlot, SlotInRange}
+use Rattle.trace.specs.Version.{IsVersion}
+use Rattle.trace.specs.Refusals.{AddsLine, IsFine, IsFineEntry, IsFineSlot, RefusesLine, RefusesAfterWord, entry_fields, has_begun, with_entry}
 use Rattle.trace.specs.declared.entry.Entry.{Entry}
 use Rattle.trace.specs.declared.entry.Entry.TheVariants as entry
-use Rattle.trace.specs.Text.{Content, ended, header, joined, line, cache_fields, cache_line, slot_fields, slot_line, event_fields, event_line, trace_lines}
+use Rattle.trace.specs.Text.{Content, ended, header, joined, text, line, cache_fields, cache_line, slot_fields, slot_line, event_fields, event_line, trace_lines}
 use Rattle.trace.proofs.Clean.{Good, IsSlotLine, good, good_passes, only_slots, one_event, may_earlier, may_later}
 use Rattle.trace.proofs.Entries.{EnteredEvent, entered_cache, entered_event, entered_slot, same_word}
 use Rattle.trace.proofs.Faulty.{cut_fault, fields_fault, order_fault, word_fault}
-use Rattle.trace.proofs.Signs.{AllAbove, above_lines, above_tested, joined_push, line-fields_of, lines_of-joined}
+use Rattle.trace.proofs.Signs.{AllAbove, above_header, above_lines, joined_push, line-fields_of, lines_of-joined}
 
 -- what has a text
 pub record Fits {A : Type 0} (c : Content A) : Type 0 where
   pub range : InRange c
   pub printable : IsPrintable c
 
-slot_lines : (slots : List SlotSpec) → All SlotInRange slots → All IsSlotLine (map slot_line slots)
-slot_lines slots h = All-map IsSlotLine slot_line slots (All-weaker SlotInRange (λ s. IsSlotLine (slot_line s)) entered_slot slots h)
+slot_lines : (version : ℕ) (slots : List SlotSpec) → All SlotInRange slots → All (IsSlotLine version) (map (slot_line version) slots)
+slot_lines version slots h = All-map (IsSlotLine version) (slot_line version) slots (All-weaker SlotInRange (λ s. IsSlotLine version (slot_line version s)) (entered_slot version) slots h)
 
-event_lines : {A : Type 0} (events : List (Event A)) → All EventInRange events → All (λ e. IsPrintableKind e.what) events → All EnteredEvent (map event_line events)
-event_lines events range fine = All-map EnteredEvent event_line events (λ k d lt. entered_event (get_or events k d) (record { fits = range k d lt; printable = fine k d lt }))
+event_lines : {A : Type 0} (version : ℕ) (events : List (Event A)) → All EventInRange events → All (λ e. IsPrintableKind e.what) events → All (EnteredEvent version) (map event_line events)
+event_lines version events range fine = All-map (EnteredEvent version) event_line events (λ k d lt. entered_event version (get_or events k d) (record { fits = range k d lt; printable = fine k d lt }))
 
-unbroken_slots : (ls : List (List ℕ)) → All IsSlotLine ls → AllAbove 10 ls
-unbroken_slots [] h = tt
-unbroken_slots (l ∷ ls) h = let first = h 0 l (omega arith) in (first.unbroken, unbroken_slots ls (λ k d lt. h (suc k) d (omega arith)))
+unbroken_slots : (version : ℕ) (ls : List (List ℕ)) → All (IsSlotLine version) ls → AllAbove 10 ls
+unbroken_slots version [] h = tt
+unbroken_slots version (l ∷ ls) h = let first = h 0 l (omega arith) in (first.unbroken, unbroken_slots version ls (λ k d lt. h (suc k) d (omega arith)))
 
-unbroken_events : (ls : List (List ℕ)) → All EnteredEvent ls → AllAbove 10 ls
-unbroken_events [] h = tt
-unbroken_events (l ∷ ls) h = let first = h 0 l (omega arith) in (first.entry.unbroken, unbroken_events ls (λ k d lt. h (suc k) d (omega arith)))
+unbroken_events : (version : ℕ) (ls : List (List ℕ)) → All (EnteredEvent version) ls → AllAbove 10 ls
+unbroken_events version [] h = tt
+unbroken_events version (l ∷ ls) h = let first = h 0 l (omega arith) in (first.entry.unbroken, unbroken_events version ls (λ k d lt. h (suc k) d (omega arith)))
 
 -- no line of a trace has a line feed in it
 pub unbroken : {A : Type 0} (c : Content A) → Fits c → AllAbove 10 (trace_lines c)
 unfolding trace_lines
 unbroken c h =
-    let cache = entered_cache c.cache h.range.cache in
-    (above_tested 10 header refl, (cache.unbroken, above_lines (map slot_line c.slots) (map event_line c.events) (unbroken_slots (map slot_line c.slots) (slot_lines c.slots h.range.slots)) (unbroken_events (map event_line c.events) (event_lines c.events h.range.events h.printable))))
+    let cache = entered_cache c.version c.cache h.range.cache in
+    (above_header c.version, (cache.unbroken, above_lines (map (slot_line c.version) c.slots) (map event_line c.events) (unbroken_slots c.version (map (slot_line c.version) c.slots) (slot_lines c.version c.slots h.range.slots)) (unbroken_events c.version (map event_line c.events) (event_lines c.version c.events h.range.events h.printable.events))))
 
 pub some_lines : (text : List ℕ) → 0 < length (lines_of text)
 unfolding lines_of
@@ -58,39 +59,42 @@ pub record Sofar {A : Type 0} (text : List ℕ) (c : Content A) (k : ℕ) (rest 
   pub count : k ≡ 3 + (length c.slots + length c.events)
 
 module _ {A : Type 0} (text : List ℕ) (c : Content A) (k : ℕ) (rest : List ℕ) (s : Sofar text c k rest) where
-  pub parts : lines_of text ≡ (header ∷ cache_line c.cache ∷ (map slot_line c.slots ++ map event_line c.events)) ++ lines_of rest
+  pub parts : lines_of text ≡ (header c.version ∷ cache_line c.cache ∷ (map (slot_line c.version) c.slots ++ map event_line c.events)) ++ lines_of rest
   unfolding trace_lines
   parts = ap lines_of s.spelled ∙ lines_of-joined (trace_lines c) rest (unbroken c s.fits)
 
-  slots_len : length (map slot_line c.slots) ≡ length c.slots
-  slots_len = length-map c.slots slot_line
+  slots_len : length (map (slot_line c.version) c.slots) ≡ length c.slots
+  slots_len = length-map c.slots (slot_line c.version)
 
   events_len : length (map event_line c.events) ≡ length c.events
   events_len = length-map c.events event_line
 
-  good_before : (j : ℕ) → 1 ≤ j → j < k → Good text j
+  good_before : (j : ℕ) → 1 ≤ j → j < k → Good c.version text j
   good_before j le lt =
       let count = s.count in
-      good text header (cache_line c.cache) (map slot_line c.slots) (map event_line c.events) (lines_of rest) parts (some_lines rest) refl
-      (entered_cache c.cache s.fits.range.cache) (slot_lines c.slots s.fits.range.slots) (event_lines c.events s.fits.range.events s.fits.printable) j le (omega (arith, slots_len, events_len))
+      good c.version text (cache_line c.cache) (map (slot_line c.version) c.slots) (map event_line c.events) (lines_of rest) parts (some_lines rest) s.fits.printable.version
+      (entered_cache c.version c.cache s.fits.range.cache) (slot_lines c.version c.slots s.fits.range.slots) (event_lines c.version c.events s.fits.range.events s.fits.printable.events) j le (omega (arith, slots_len, events_len))
 
   pub clean : IsCleanBefore text k
-  clean j le lt fault = good_passes text j (good_before j le lt) fault
+  clean j le lt fault = good_passes c.version text j (good_before j le lt) fault
+
+  names_it : IsOfVersion text c.version
+  names_it = ap (λ (ls : List (List ℕ)). get_or ls 0 []) parts
 
   -- the line that comes next, and whether it is ended
   pub next_is : line_at text k ≡ get_or (lines_of rest) 0 []
   next_is =
       let count = s.count in
-      let front : length (header ∷ cache_line c.cache ∷ (map slot_line c.slots ++ map event_line c.events)) ≡ k - 1 = omega (arith, slots_len, events_len, length-append (map slot_line c.slots) (map event_line c.events)) in
+      let front : length (header c.version ∷ cache_line c.cache ∷ (map (slot_line c.version) c.slots ++ map event_line c.events)) ≡ k - 1 = omega (arith, slots_len, events_len, length-append (map (slot_line c.version) c.slots) (map event_line c.events)) in
       let none : k - 1 - (k - 1) ≡ 0 = omega arith in
       ap (λ (ls : List (List ℕ)). get_or ls (k - 1) []) parts
-      ∙ get_or-append_right (header ∷ cache_line c.cache ∷ (map slot_line c.slots ++ map event_line c.events)) (lines_of rest) (k - 1) (k - 1) [] front (omega arith)
+      ∙ get_or-append_right (header c.version ∷ cache_line c.cache ∷ (map (slot_line c.version) c.slots ++ map event_line c.events)) (lines_of rest) (k - 1) (k - 1) [] front (omega arith)
       ∙ ap (λ (n : ℕ). get_or (lines_of rest) n []) none
 
   pub lines_left : length (lines_of text) + 1 ≡ k + length (lines_of rest)
   lines_left =
       let count = s.count in
-      omega (arith, ap length parts, slots_len, events_len, length-append (map slot_line c.slots) (map event_line c.events), length-append (header ∷ cache_line c.cache ∷ (map slot_line c.slots ++ map event_line c.events)) (lines_of rest))
+      omega (arith, ap length parts, slots_len, events_len, length-append (map (slot_line c.version) c.slots) (map event_line c.events), length-append (header c.version ∷ cache_line c.cache ∷ (map (slot_line c.version) c.slots ++ map event_line c.events)) (lines_of rest))
 
   -- the rest is a line that isn't ended
   pub is_cut : lines_of rest ≡ rest ∷ [] → rest ≢ [] → IsFault text k kind.Cut
@@ -101,22 +105,22 @@ module _ {A : Type 0} (text : List ℕ) (c : Content A) (k : ℕ) (rest : List �
       (λ end. omega (arith, lines_left, ap length last))
 
   -- an ended line that has this word and fields
-  ordered : (begun : Bool) (fault : FaultKind) → IsEnded text k → (begun ≡ false → length c.events ≡ 0) → RefusesAfterWord begun (line_at text k) fault → Passes text k kind.Order
+  ordered : (begun : Bool) (fault : FaultKind) → IsEnded text k → (begun ≡ false → length c.events ≡ 0) → RefusesAfterWord c.version begun (line_at text k) fault → Passes text k kind.Order
   ordered begun fault end none r = λ _ slot j low high.
       let count = s.count in
       elim (cases_Bool begun) [
         | inl so ↦ absurd (r.ordered so (same_word r.word Slot (sym r.first ∙ slot)))
         | inr not_yet ↦
-            only_slots text header (cache_line c.cache) (map slot_line c.slots) (map event_line c.events) (lines_of rest) parts (some_lines rest) refl
-            (entered_cache c.cache s.fits.range.cache) (slot_lines c.slots s.fits.range.slots) (event_lines c.events s.fits.range.events s.fits.printable) (events_len ∙ none not_yet) j low (omega (arith, slots_len, events_len))
+            only_slots c.version text (cache_line c.cache) (map (slot_line c.version) c.slots) (map event_line c.events) (lines_of rest) parts (some_lines rest) s.fits.printable.version
+            (entered_cache c.version c.cache s.fits.range.cache) (slot_lines c.version c.slots s.fits.range.slots) (event_lines c.version c.events s.fits.range.events s.fits.printable.events) (events_len ∙ none not_yet) j low (omega (arith, slots_len, events_len))
       ]
 
-  fault_after : (begun : Bool) (fault : FaultKind) → IsEnded text k → 2 ≤ k → (begun ≡ false → length c.events ≡ 0) → RefusesAfterWord begun (line_at text k) fault → fault ≢ kind.NoMemory → IsFault text k fault
+  fault_after : (begun : Bool) (fault : FaultKind) → IsEnded text k → 2 ≤ k → (begun ≡ false → length c.events ≡ 0) → RefusesAfterWord c.version begun (line_at text k) fault → fault ≢ kind.NoMemory → IsFault text k fault
   fault_after begun fault end late none r known =
       let count = s.count in
-      fields_fault text k late clean end r.word (may_later r.word k (omega arith) r.may) r.first (ordered begun fault end none r) fault r.refused known
+      fields_fault text k late clean end c.version names_it r.word (may_later r.word k (omega arith) r.may) r.first (ordered begun fault end none r) fault r.refused known
 
-  refused : (begun : Bool) (fault : FaultKind) → IsEnded text k → 2 ≤ k → (begun ≡ true → 0 < length c.events) → (begun ≡ false → length c.events ≡ 0) → RefusesLine begun (line_at text k) fault → fault ≢ kind.NoMemory → IsFault text k fault
+  refused : (begun : Bool) (fault : FaultKind) → IsEnded text k → 2 ≤ k → (begun ≡ true → 0 < length c.events) → (begun ≡ false → length c.events ≡ 0) → RefusesLine c.version begun (line_at text k) fault → fault ≢ kind.NoMemory → IsFault text k fault
   refused begun kind.Cut end late some none h known = fault_after begun kind.Cut end late none h known
   refused begun kind.Header end late some none h known = fault_after begun kind.Header end late none h known
   refused begun kind.Word end late some none h known =
@@ -125,9 +129,9 @@ module _ {A : Type 0} (text : List ℕ) (c : Content A) (k : ℕ) (rest : List �
   refused begun kind.Order end late some none h known =
       let count = s.count in
       let begins = some h.0 in
-      order_fault text k late clean end (omega arith) h.1 (3 + length (map slot_line c.slots)) (omega arith) (omega (arith, slots_len))
-      (one_event text header (cache_line c.cache) (map slot_line c.slots) (map event_line c.events) (lines_of rest) parts (some_lines rest) refl
-      (entered_cache c.cache s.fits.range.cache) (slot_lines c.slots s.fits.range.slots) (event_lines c.events s.fits.range.events s.fits.printable) (omega (arith, events_len)))
+      order_fault text k late clean end (omega arith) h.1 (3 + length (map (slot_line c.version) c.slots)) (omega arith) (omega (arith, slots_len))
+      (one_event c.version text (cache_line c.cache) (map (slot_line c.version) c.slots) (map event_line c.events) (lines_of rest) parts (some_lines rest) s.fits.printable.version
+      (entered_cache c.version c.cache s.fits.range.cache) (slot_lines c.version c.slots s.fits.range.slots) (event_lines c.version c.events s.fits.range.events s.fits.printable.events) (omega (arith, events_len)))
   refused begun kind.Fields end late some none h known = fault_after begun kind.Fields end late none h known
   refused begun kind.Number end late some none h known = fault_after begun kind.Number end late none h known
   refused begun kind.Choice end late some none h known = fault_after begun kind.Choice end late none h known
@@ -135,29 +139,34 @@ module _ {A : Type 0} (text : List ℕ) (c : Content A) (k : ℕ) (rest : List �
   refused begun kind.NoMemory end late some none h known = absurd (known refl)
 
   -- the next line is refused
-  pub is_refused : (begun : Bool) (l after : List ℕ) (fault : FaultKind) → lines_of rest ≡ l ∷ lines_of after → (begun ≡ true → 0 < length c.events) → (begun ≡ false → length c.events ≡ 0) → RefusesLine begun l fault → fault ≢ kind.NoMemory → IsFault text k fault
+  pub is_refused : (begun : Bool) (l after : List ℕ) (fault : FaultKind) → lines_of rest ≡ l ∷ lines_of after → (begun ≡ true → 0 < length c.events) → (begun ≡ false → length c.events ≡ 0) → RefusesLine c.version begun l fault → fault ≢ kind.NoMemory → IsFault text k fault
   is_refused begun l after fault is some none h known =
       let count = s.count in
       let here : line_at text k ≡ l = next_is ∙ ap (λ (ls : List (List ℕ)). get_or ls 0 []) is in
       let end : IsEnded text k = omega (arith, lines_left, ap length is, some_lines after) in
-      refused begun fault end (omega arith) some none (subst (λ (x : List ℕ). RefusesLine begun x fault) (sym here) h) known
+      refused begun fault end (omega arith) some none (subst (λ (x : List ℕ). RefusesLine c.version begun x fault) (sym here) h) known
+
+-- where nothing is left, the whole text was read
+pub all_read : {A : Type 0} (whole : List ℕ) (c : Content A) (k : ℕ) (rest : List ℕ) → Sofar whole c k rest → length rest ≡ 0 → whole ≡ text c
+all_read whole c k rest so none = so.spelled ∙ ap (λ (xs : List ℕ). text c ++ xs) (nil_from_length rest none) ∙ append-nil (text c)
 
 -- ---- one line more
 
-pub push_slot : {A : Type 0} (c : Content A) (s : SlotSpec) → length c.events ≡ 0 → trace_lines (record c { slots = c.slots ++ s ∷ [] }) ≡ trace_lines c ++ slot_line s ∷ []
+pub push_slot : {A : Type 0} (c : Content A) (s : SlotSpec) → length c.events ≡ 0 → trace_lines (record c { slots = c.slots ++ s ∷ [] }) ≡ trace_lines c ++ slot_line c.version s ∷ []
 unfolding trace_lines
 push_slot c s none =
     let empty = nil_from_length c.events none in
     let e : map event_line c.events ≡ [] = ap (map event_line) empty in
-    ap (λ (ls : List (List ℕ)). (header ∷ cache_line c.cache ∷ map slot_line (c.slots ++ s ∷ [])) ++ ls) e
-    ∙ append-nil (header ∷ cache_line c.cache ∷ map slot_line (c.slots ++ s ∷ []))
-    ∙ ap (λ (ls : List (List ℕ)). header ∷ cache_line c.cache ∷ ls) (map_push slot_line c.slots s)
-    ∙ ap (λ (ls : List (List ℕ)). ls ++ slot_line s ∷ []) (sym (append-nil (header ∷ cache_line c.cache ∷ map slot_line c.slots)) ∙ ap (λ (ls : List (List ℕ)). (header ∷ cache_line c.cache ∷ map slot_line c.slots) ++ ls) (sym e))
+    let v = c.version in
+    ap (λ (ls : List (List ℕ)). (header v ∷ cache_line c.cache ∷ map (slot_line v) (c.slots ++ s ∷ [])) ++ ls) e
+    ∙ append-nil (header v ∷ cache_line c.cache ∷ map (slot_line v) (c.slots ++ s ∷ []))
+    ∙ ap (λ (ls : List (List ℕ)). header v ∷ cache_line c.cache ∷ ls) (map_push (slot_line v) c.slots s)
+    ∙ ap (λ (ls : List (List ℕ)). ls ++ slot_line v s ∷ []) (sym (append-nil (header v ∷ cache_line c.cache ∷ map (slot_line v) c.slots)) ∙ ap (λ (ls : List (List ℕ)). (header v ∷ cache_line c.cache ∷ map (slot_line v) c.slots) ++ ls) (sym e))
 
 pub push_event : {A : Type 0} (c : Content A) (e : Event A) → trace_lines (record c { events = c.events ++ e ∷ [] }) ≡ trace_lines c ++ event_line e ∷ []
 unfolding trace_lines
 push_event c e =
-    ap (λ (ls : List (List ℕ)). (header ∷ cache_line c.cache ∷ map slot_line c.slots) ++ ls) (map_push event_line c.events e) ∙ sym (append_assoc (header ∷ cache_line c.cache ∷ map slot_line c.slots) (map event_line c.events) (event_line e ∷ []))
+    ap (λ (ls : List (List ℕ)). (header c.version ∷ cache_line c.cache ∷ map (slot_line c.version) c.slots) ++ ls) (map_push event_line c.events e) ∙ sym (append_assoc (header c.version ∷ cache_line c.cache ∷ map (slot_line c.version) c.slots) (map event_line c.events) (event_line e ∷ []))
 
 -- a line taken off the rest goes to the end of what was read
 taken : (text : List ℕ) (front more : List (List ℕ)) (rest l after : List ℕ) → text ≡ joined front ++ rest → rest ≡ l ++ 10 ∷ after → more ≡ front ++ l ∷ [] → text ≡ joined more ++ after
@@ -165,16 +174,16 @@ taken text front more rest l after whole cut is =
     whole ∙ ap (λ (xs : List ℕ). joined front ++ xs) (cut ∙ sym (append_assoc l (10 ∷ []) after)) ∙ sym (append_assoc (joined front) (ended l) after)
     ∙ ap (λ (xs : List ℕ). xs ++ after) (sym (ap joined is ∙ joined_push front l))
 
-pub slot_read : {A : Type 0} (text : List ℕ) (c : Content A) (k : ℕ) (rest l after : List ℕ) (s : SlotSpec) → Sofar text c k rest → rest ≡ l ++ 10 ∷ after → fields_of l ≡ slot_fields s → SlotInRange s → length c.events ≡ 0 → Sofar text (record c { slots = c.slots ++ s ∷ [] }) (k + 1) after
+pub slot_read : {A : Type 0} (text : List ℕ) (c : Content A) (k : ℕ) (rest l after : List ℕ) (s : SlotSpec) → Sofar text c k rest → rest ≡ l ++ 10 ∷ after → fields_of l ≡ slot_fields c.version s → IsFineSlot c.version s → length c.events ≡ 0 → Sofar text (record c { slots = c.slots ++ s ∷ [] }) (k + 1) after
 unfolding slot_line
-slot_read text c k rest l after s so cut is range none =
+slot_read text c k rest l after s so cut is fine none =
     let count = so.count in
     record {
       spelled = taken text (trace_lines c) (trace_lines (record c { slots = c.slots ++ s ∷ [] })) rest l after so.spelled cut
-          (push_slot c s none ∙ ap (λ (x : List ℕ). trace_lines c ++ x ∷ []) (sym (line-fields_of l (slot_fields s) is)));
+          (push_slot c s none ∙ ap (λ (x : List ℕ). trace_lines c ++ x ∷ []) (sym (line-fields_of l (slot_fields c.version s) is)));
       fits = record {
-        range = record { cache = so.fits.range.cache; slots = All-push SlotInRange c.slots s so.fits.range.slots range; events = so.fits.range.events };
-        printable = so.fits.printable;
+        range = record { cache = so.fits.range.cache; slots = All-push SlotInRange c.slots s so.fits.range.slots fine.fits; events = so.fits.range.events };
+        printable = record { version = so.fits.printable.version; slots = All-push (IsPrintableSlot c.version) c.slots s so.fits.printable.slots fine.printable; events = so.fits.printable.events };
       };
       count = omega (arith, length_push c.slots s);
     }
@@ -188,7 +197,7 @@ event_read text c k rest l after e so cut is fine =
           (push_event c e ∙ ap (λ (x : List ℕ). trace_lines c ++ x ∷ []) (sym (line-fields_of l (event_fields e) is)));
       fits = record {
         range = record { cache = so.fits.range.cache; slots = so.fits.range.slots; events = All-push EventInRange c.events e so.fits.range.events fine.fits };
-        printable = All-push (λ x. IsPrintableKind x.what) c.events e so.fits.printable fine.printable;
+        printable = record { version = so.fits.printable.version; slots = so.fits.printable.slots; events = All-push (λ x. IsPrintableKind x.what) c.events e so.fits.printable.events fine.printable };
       };
       count = omega (arith, length_push c.events e);
     }
@@ -197,13 +206,13 @@ two_lines : (a b rest : List ℕ) → ((a ++ 10 ∷ []) ++ ((b ++ 10 ∷ []) ++ 
 two_lines a b rest = simp (append_assoc, append-nil)
 
 -- the first two lines
-pub begun_so : {A : Type 0} (text : List ℕ) (cache : ℕ) (middle l rest : List ℕ) → text ≡ header ++ 10 ∷ middle → middle ≡ l ++ 10 ∷ rest → fields_of l ≡ cache_fields cache → cache < 2 ^ 32 → Sofar {A = A} text (record { cache = cache; slots = []; events = [] }) 3 rest
+pub begun_so : {A : Type 0} (text : List ℕ) (version cache : ℕ) (middle l rest : List ℕ) → IsVersion version → text ≡ header version ++ 10 ∷ middle → middle ≡ l ++ 10 ∷ rest → fields_of l ≡ cache_fields cache → cache < 2 ^ 32 → Sofar {A = A} text (record { version = version; cache = cache; slots = []; events = [] }) 3 rest
 unfolding trace_lines joined cache_line
-begun_so text cache middle l rest first second is range =
+begun_so text version cache middle l rest one_of first second is range =
     let e = line-fields_of l (cache_fields cache) is in
     record {
-      spelled = first ∙ ap (λ (m : List ℕ). header ++ 10 ∷ m) (second ∙ ap (λ (x : List ℕ). x ++ 10 ∷ rest) e) ∙ sym (two_lines header (line (cache_fields cache)) rest);
-      fits = record { range = record { cache = range; slots = All-nil SlotInRange; events = λ k d lt. absurd (omega arith) }; printable = λ k d lt. absurd (omega arith) };
+      spelled = first ∙ ap (λ (m : List ℕ). header version ++ 10 ∷ m) (second ∙ ap (λ (x : List ℕ). x ++ 10 ∷ rest) e) ∙ sym (two_lines (header version) (line (cache_fields cache)) rest);
+      fits = record { range = record { cache = range; slots = All-nil SlotInRange; events = λ k d lt. absurd (omega arith) }; printable = record { version = one_of; slots = All-nil (IsPrintableSlot version); events = λ k d lt. absurd (omega arith) } };
       count = refl;
     }
 
@@ -213,7 +222,7 @@ none_begun c h = elim (cases_lt 0 (length c.events)) [ inl lt ↦ absurd (h (lt-
 pub entry_read : {A : Type 0} (text : List ℕ) (c d : Content A) (k : ℕ) (rest l after : List ℕ) → Sofar text c k rest → rest ≡ l ++ 10 ∷ after → AddsLine c l d → Sofar text d (k + 1) after
 entry_read text c d k rest l after so cut adds = subst (λ x. Sofar text x (k + 1) after) (sym adds.added) (by_entry text c k rest l after so cut adds.entry adds.fields adds.fine)
   where
-    by_entry : {A : Type 0} (text : List ℕ) (c : Content A) (k : ℕ) (rest l after : List ℕ) → Sofar text c k rest → rest ≡ l ++ 10 ∷ after → (e : Entry A) → fields_of l ≡ entry_fields e → IsFineEntry (has_begun c) e → Sofar text (with_entry c e) (k + 1) after
+    by_entry : {A : Type 0} (text : List ℕ) (c : Content A) (k : ℕ) (rest l after : List ℕ) → Sofar text c k rest → rest ≡ l ++ 10 ∷ after → (e : Entry A) → fields_of l ≡ entry_fields c.version e → IsFineEntry c.version (has_begun c) e → Sofar text (with_entry c e) (k + 1) after
     by_entry text c k rest l after so cut (entry.Slot s) is fine = slot_read text c k rest l after s so cut is fine.0 (none_begun c fine.1)
     by_entry text c k rest l after so cut (entry.Event e) is fine = event_read text c k rest l after e so cut is fine
 
@@ -227,5 +236,5 @@ pub numbered : {A : Type 0} (text : List ℕ) (c : Content A) (k : ℕ) (rest : 
 unfolding trace_lines joined
 numbered text c k rest so =
     let count = so.count in
-    let others : List (List ℕ) = cache_line c.cache ∷ (map slot_line c.slots ++ map event_line c.events) in
-    omega (arith, ap length so.spelled, length-append (joined (trace_lines c)) rest, length-append (ended header) (joined others), length_joined others, length-append (map slot_line c.slots) (map event_line c.events), length-map c.slots slot_line, length-map c.events event_line)
+    let others : List (List ℕ) = cache_line c.cache ∷ (map (slot_line c.version) c.slots ++ map event_line c.events) in
+    omega (arith, ap length so.spelled, length-append (joined (trace_lines c)) rest, length-append (ended (header c.version)) (joined others), length-append (header c.version) (10 ∷ []), length_joined others, length-append (map (slot_line c.version) c.slots) (map event_line c.events), length-map c.slots (slot_line c.version), length-map c.events event_line)

@@ -16,9 +16,10 @@ use Rattle.trace.specs.declared.fault.FaultKind.{FaultKind}
 use Rattle.trace.specs.declared.fault.FaultKind.TheVariants as kind
 use Rattle.trace.specs.declared.word.Word.TheVariants.{Slot}
 use Rattle.trace.specs.Cuts.{fields_of, lines_of}
-use Rattle.trace.specs.Faults.{IsEnded, IsFault, Passes, line_at, order}
-use Rattle.trace.specs.Printable.{InRange, IsPrintable, IsPrintableKind, IsWriteAccess, KindInRange, SlotInRange}
-use Rattle.trace.specs.Refusals.{IsFine}
+use Rattle.trace.specs.Faults.{IsCleanBefore, IsEnded, IsFault, Passes, line_at, order}
+use Rattle.trace.specs.Printable.{InRange, IsPrintable, IsPrintableKind, IsWriteAccess, KindInRange}
+use Rattle.trace.specs.Refusals.{IsFine, IsFineSlot}
+use Rattle.trace.specs.Version.{IsVersion}
 use Rattle.trace.specs.Spelling.{bytes, fixed, mode, window}
 use Rattle.trace.specs.Text.{Content, cache_line, event_fields, event_line, slot_fields, slot_line, text, trace_lines, what_fields}
 use Rattle.trace.specs.Words.{spelled}
@@ -58,27 +59,38 @@ field fs gs i e = ap (λ (xs : List (List ℕ)). get_or xs i []) e
 
 -- ---- lines
 
-made_slot : ℕ → ℕ → ℕ → ℕ → Bool → ℕ → ℕ → SlotSpec
-made_slot base len start count read_only cols rows =
-    record { base = base; len = len; extent = record { start = start; count = count }; read_only = read_only; cols = cols; rows = rows }
+made_slot : ℕ → ℕ → ℕ → ℕ → Bool → ℕ → ℕ → List ℕ → SlotSpec
+made_slot base len start count read_only cols rows identity =
+    record { base = base; len = len; extent = record { start = start; count = count }; read_only = read_only; cols = cols; rows = rows; identity = identity }
 
-same_slot_fields : (s t : SlotSpec) → slot_fields s ≡ slot_fields t → s ≡ t
+-- the identities of slots of one version
+same_identity : (version : ℕ) (s t : SlotSpec) → IsVersion version → IsFineSlot version s → IsFineSlot version t → slot_fields version s ≡ slot_fields version t → s.identity ≡ t.identity
+same_identity version s t one_of fs ft e =
+    elim one_of [
+      | inl one ↦ fs.printable one ∙ sym (ft.printable one)
+      | inr two ↦ same_bytes s.identity t.identity fs.fits.identity ft.fits.identity (field (slot_fields 2 s) (slot_fields 2 t) 8 (subst (λ (v : ℕ). slot_fields v s ≡ slot_fields v t) two e))
+    ]
+
+same_slot_fields : (version : ℕ) (s t : SlotSpec) → IsVersion version → IsFineSlot version s → IsFineSlot version t → slot_fields version s ≡ slot_fields version t → s ≡ t
 unfolding made_slot
-same_slot_fields s t e =
-    let base = same_num s.base t.base (field (slot_fields s) (slot_fields t) 1 e) in
-    let len = same_num s.len t.len (field (slot_fields s) (slot_fields t) 2 e) in
-    let start = same_num s.extent.start t.extent.start (field (slot_fields s) (slot_fields t) 3 e) in
-    let count = same_num s.extent.count t.extent.count (field (slot_fields s) (slot_fields t) 4 e) in
-    let read_only = same_mode s.read_only t.read_only (field (slot_fields s) (slot_fields t) 5 e) in
-    let cols = same_num s.cols t.cols (field (slot_fields s) (slot_fields t) 6 e) in
-    let rows = same_num s.rows t.rows (field (slot_fields s) (slot_fields t) 7 e) in
-    ap (λ (x : ℕ). made_slot x s.len s.extent.start s.extent.count s.read_only s.cols s.rows) base
-    ∙ ap (λ (x : ℕ). made_slot t.base x s.extent.start s.extent.count s.read_only s.cols s.rows) len
-    ∙ ap (λ (x : ℕ). made_slot t.base t.len x s.extent.count s.read_only s.cols s.rows) start
-    ∙ ap (λ (x : ℕ). made_slot t.base t.len t.extent.start x s.read_only s.cols s.rows) count
-    ∙ ap (λ (x : Bool). made_slot t.base t.len t.extent.start t.extent.count x s.cols s.rows) read_only
-    ∙ ap (λ (x : ℕ). made_slot t.base t.len t.extent.start t.extent.count t.read_only x s.rows) cols
-    ∙ ap (λ (x : ℕ). made_slot t.base t.len t.extent.start t.extent.count t.read_only t.cols x) rows
+same_slot_fields version s t one_of fs ft e =
+    let here = field (slot_fields version s) (slot_fields version t) in
+    let base = same_num s.base t.base (here 1 e) in
+    let len = same_num s.len t.len (here 2 e) in
+    let start = same_num s.extent.start t.extent.start (here 3 e) in
+    let count = same_num s.extent.count t.extent.count (here 4 e) in
+    let read_only = same_mode s.read_only t.read_only (here 5 e) in
+    let cols = same_num s.cols t.cols (here 6 e) in
+    let rows = same_num s.rows t.rows (here 7 e) in
+    let identity = same_identity version s t one_of fs ft e in
+    ap (λ (x : ℕ). made_slot x s.len s.extent.start s.extent.count s.read_only s.cols s.rows s.identity) base
+    ∙ ap (λ (x : ℕ). made_slot t.base x s.extent.start s.extent.count s.read_only s.cols s.rows s.identity) len
+    ∙ ap (λ (x : ℕ). made_slot t.base t.len x s.extent.count s.read_only s.cols s.rows s.identity) start
+    ∙ ap (λ (x : ℕ). made_slot t.base t.len t.extent.start x s.read_only s.cols s.rows s.identity) count
+    ∙ ap (λ (x : Bool). made_slot t.base t.len t.extent.start t.extent.count x s.cols s.rows s.identity) read_only
+    ∙ ap (λ (x : ℕ). made_slot t.base t.len t.extent.start t.extent.count t.read_only x s.rows s.identity) cols
+    ∙ ap (λ (x : ℕ). made_slot t.base t.len t.extent.start t.extent.count t.read_only t.cols x s.identity) rows
+    ∙ ap (λ (x : List ℕ). made_slot t.base t.len t.extent.start t.extent.count t.read_only t.cols t.rows x) identity
 
 -- the first two bytes of the first field, which differ for each event's word
 sign : List (List ℕ) → ℕ
@@ -160,17 +172,17 @@ same_event_fields d e fd fe h =
     let both = same_what d.slot e.slot d.what e.what fd.fits.what fe.fits.what fd.printable fe.printable h in
     ap (λ (n : ℕ). record { slot = n; what = d.what }) both.0 ∙ ap (λ w. record { slot = e.slot; what = w }) both.1
 
-same_slot_line : (s t : SlotSpec) → slot_line s ≡ slot_line t → s ≡ t
-same_slot_line s t e = same_slot_fields s t (sym (cut_slot s) ∙ ap fields_of e ∙ cut_slot t)
+same_slot_line : (version : ℕ) (s t : SlotSpec) → IsVersion version → IsFineSlot version s → IsFineSlot version t → slot_line version s ≡ slot_line version t → s ≡ t
+same_slot_line version s t one_of fs ft e = same_slot_fields version s t one_of fs ft (sym (cut_slot version s fs.fits) ∙ ap fields_of e ∙ cut_slot version t ft.fits)
 
 same_event_line : {A : Type 0} (d e : Event A) → IsFine d → IsFine e → event_line d ≡ event_line e → d ≡ e
 same_event_line d e hd he h = same_event_fields d e hd he (sym (cut_event d hd.fits) ∙ ap fields_of h ∙ cut_event e he.fits)
 
 -- a slot's line is no event's
-other_line : {A : Type 0} (s : SlotSpec) (e : Event A) → SlotInRange s → IsFine e → slot_line s ≡ event_line e → ⊥
-other_line s e hs he h =
-    let event = entered_event e he in
-    let slot = entered_slot s hs in
+other_line : {A : Type 0} (version : ℕ) (s : SlotSpec) (e : Event A) → IsFineSlot version s → IsFine e → slot_line version s ≡ event_line e → ⊥
+other_line version s e hs he h =
+    let event = entered_event version e he in
+    let slot = entered_slot version s hs.fits in
     let words : spelled Slot ≡ spelled event.word = ap (λ (fs : List (List ℕ)). get_or fs 0 []) (sym slot.cut ∙ ap fields_of h ∙ event.entry.cut) in
     event.other (sym (same_word Slot event.word words))
 
@@ -190,24 +202,28 @@ same_events (x ∷ ds) (y ∷ es) hd he e =
     let b = same_events ds es (λ k d lt. hd (suc k) d (omega arith)) (λ k d lt. he (suc k) d (omega arith)) rest in
     cc
 
-same_parts : {A : Type 0} (ss ts : List SlotSpec) (ds es : List (Event A)) → All SlotInRange ss → All SlotInRange ts → AllFine ds → AllFine es
-    → map slot_line ss ++ map event_line ds ≡ map slot_line ts ++ map event_line es → (ss ≡ ts) × (ds ≡ es)
-same_parts [] [] ds es hs ht hd he e = (refl, same_events ds es hd he e)
-same_parts [] (t ∷ ts) [] es hs ht hd he e = absurd cc
-same_parts [] (t ∷ ts) (d ∷ ds) es hs ht hd he e =
-    let first : event_line d ≡ slot_line t = cc in absurd (other_line t d (ht 0 t (omega arith)) (hd 0 d (omega arith)) (sym first))
-same_parts (s ∷ ss) [] ds [] hs ht hd he e = absurd cc
-same_parts (s ∷ ss) [] ds (x ∷ es) hs ht hd he e =
-    let first : slot_line s ≡ event_line x = cc in absurd (other_line s x (hs 0 s (omega arith)) (he 0 x (omega arith)) first)
-same_parts (s ∷ ss) (t ∷ ts) ds es hs ht hd he e =
-    let first : slot_line s ≡ slot_line t = cc in
-    let rest : map slot_line ss ++ map event_line ds ≡ map slot_line ts ++ map event_line es = cc in
-    let a = same_slot_line s t first in
-    let b = same_parts ss ts ds es (λ k d lt. hs (suc k) d (omega arith)) (λ k d lt. ht (suc k) d (omega arith)) hd he rest in
-    (let c = b.0 in cc, b.1)
+module _ {A : Type 0} (version : ℕ) (one_of : IsVersion version) where
+  same_parts : (ss ts : List SlotSpec) (ds es : List (Event A)) → All (IsFineSlot version) ss → All (IsFineSlot version) ts → AllFine ds → AllFine es
+      → map (slot_line version) ss ++ map event_line ds ≡ map (slot_line version) ts ++ map event_line es → (ss ≡ ts) × (ds ≡ es)
+  same_parts [] [] ds es hs ht hd he e = (refl, same_events ds es hd he e)
+  same_parts [] (t ∷ ts) [] es hs ht hd he e = absurd cc
+  same_parts [] (t ∷ ts) (d ∷ ds) es hs ht hd he e =
+      let first : event_line d ≡ slot_line version t = cc in absurd (other_line version t d (ht 0 t (omega arith)) (hd 0 d (omega arith)) (sym first))
+  same_parts (s ∷ ss) [] ds [] hs ht hd he e = absurd cc
+  same_parts (s ∷ ss) [] ds (x ∷ es) hs ht hd he e =
+      let first : slot_line version s ≡ event_line x = cc in absurd (other_line version s x (hs 0 s (omega arith)) (he 0 x (omega arith)) first)
+  same_parts (s ∷ ss) (t ∷ ts) ds es hs ht hd he e =
+      let first : slot_line version s ≡ slot_line version t = cc in
+      let rest : map (slot_line version) ss ++ map event_line ds ≡ map (slot_line version) ts ++ map event_line es = cc in
+      let a = same_slot_line version s t one_of (hs 0 s (omega arith)) (ht 0 t (omega arith)) first in
+      let b = same_parts ss ts ds es (λ k d lt. hs (suc k) d (omega arith)) (λ k d lt. ht (suc k) d (omega arith)) hd he rest in
+      (let c = b.0 in cc, b.1)
 
 all_fine : {A : Type 0} (c : Content A) → Fits c → AllFine c.events
-all_fine c h = λ k d lt. record { fits = h.range.events k d lt; printable = h.printable k d lt }
+all_fine c h = λ k d lt. record { fits = h.range.events k d lt; printable = h.printable.events k d lt }
+
+all_fine_slots : {A : Type 0} (c : Content A) → Fits c → All (IsFineSlot c.version) c.slots
+all_fine_slots c h = λ k d lt. record { fits = h.range.slots k d lt; printable = h.printable.slots k d lt }
 
 lines_of_text : {A : Type 0} (c : Content A) → Fits c → lines_of (text c) ≡ trace_lines c ++ lines_of []
 lines_of_text c h = ap lines_of (sym (append-nil (text c))) ∙ lines_of-joined (trace_lines c) [] (unbroken c h)
@@ -215,12 +231,17 @@ lines_of_text c h = ap lines_of (sym (append-nil (text c))) ∙ lines_of-joined 
 same_lines : {A : Type 0} (c d : Content A) → Fits c → Fits d → trace_lines c ≡ trace_lines d → c ≡ d
 unfolding trace_lines
 same_lines c d hc hd e =
+    let version : c.version ≡ d.version = omega (arith, ap (λ (ls : List (List ℕ)). get_or (get_or ls 0 []) 8 0) e) in
     let caches : cache_line c.cache ≡ cache_line d.cache = ap (λ (ls : List (List ℕ)). get_or ls 1 []) e in
     let cache = same_num c.cache d.cache (ap (λ (fs : List (List ℕ)). get_or fs 1 []) (sym (cut_cache c.cache) ∙ ap fields_of caches ∙ cut_cache d.cache)) in
-    let parts = same_parts c.slots d.slots c.events d.events hc.range.slots hd.range.slots (all_fine c hc) (all_fine d hd) (ap (drop 2) e) in
-    ap (λ (n : ℕ). record { cache = n; slots = c.slots; events = c.events }) cache
-    ∙ ap (λ (ss : List SlotSpec). record { cache = d.cache; slots = ss; events = c.events }) parts.0
-    ∙ ap (λ es. record { cache = d.cache; slots = d.slots; events = es }) parts.1
+    let fine : All (IsFineSlot c.version) d.slots = subst (λ (v : ℕ). All (IsFineSlot v) d.slots) (sym version) (all_fine_slots d hd) in
+    let lines : map (slot_line c.version) c.slots ++ map event_line c.events ≡ map (slot_line c.version) d.slots ++ map event_line d.events =
+    ap (drop 2) e ∙ ap (λ (v : ℕ). map (slot_line v) d.slots ++ map event_line d.events) (sym version) in
+    let parts = same_parts c.version hc.printable.version c.slots d.slots c.events d.events (all_fine_slots c hc) fine (all_fine c hc) (all_fine d hd) lines in
+    ap (λ (n : ℕ). record { version = n; cache = c.cache; slots = c.slots; events = c.events }) version
+    ∙ ap (λ (n : ℕ). record { version = d.version; cache = n; slots = c.slots; events = c.events }) cache
+    ∙ ap (λ (ss : List SlotSpec). record { version = d.version; cache = d.cache; slots = ss; events = c.events }) parts.0
+    ∙ ap (λ es. record { version = d.version; cache = d.cache; slots = d.slots; events = es }) parts.1
 
 -- a text belongs to one trace
 pub one_trace : {A : Type 0} (c d : Content A) → Fits c → Fits d → text c ≡ text d → c ≡ d
@@ -256,15 +277,22 @@ empty_past whole c k h e le =
       | inr later ↦ get_or_past (lines_of whole) (k - 1) [] (omega arith)
     ]
 
-pub no_fault : {A : Type 0} (whole : List ℕ) (c : Content A) (k : ℕ) (fault : FaultKind) → Fits c → whole ≡ text c → IsFault whole k fault → ⊥
-no_fault whole c k fault h e f =
+-- each of its lines passes each check
+every_check : {A : Type 0} (whole : List ℕ) (c : Content A) (k : ℕ) (fault : FaultKind) → Fits c → whole ≡ text c → 1 ≤ k → Passes whole k fault
+every_check whole c k fault h e numbered =
     let so = whole_so whole c h e in
     let total = lines_left whole c (3 + (length c.slots + length c.events)) [] so in
     let last = ap length nothing_left in
     elim (cases_lt k (3 + (length c.slots + length c.events))) [
-      | inl before ↦ f.fails (clean whole c (3 + (length c.slots + length c.events)) [] so k f.numbered before fault)
-      | inr after ↦ f.fails (past whole k (omega arith) (λ end. omega arith) (empty_past whole c k h e after) fault)
+      | inl before ↦ clean whole c (3 + (length c.slots + length c.events)) [] so k numbered before fault
+      | inr after ↦ past whole k (omega arith) (λ end. omega arith) (empty_past whole c k h e after) fault
     ]
+
+pub no_fault : {A : Type 0} (whole : List ℕ) (c : Content A) (k : ℕ) (fault : FaultKind) → Fits c → whole ≡ text c → IsFault whole k fault → ⊥
+no_fault whole c k fault h e f = f.fails (every_check whole c k fault h e f.numbered)
+
+pub text_clean : {A : Type 0} (c : Content A) (k : ℕ) → Fits c → IsCleanBefore (text c) k
+text_clean c k h j numbered lt fault = every_check (text c) c j fault h refl numbered
 
 -- ---- a text has one fault
 

@@ -6,7 +6,8 @@ use Rattle.trace.specs.declared.word.Word.{Word}
 use Rattle.trace.specs.declared.word.Word.TheVariants.{Cache, Slot}
 use Rattle.trace.specs.Cuts.{lines_of, fields_of}
 use Rattle.trace.specs.Text.{header}
-use Rattle.trace.specs.Words.{Shape, Num, Offset, Window, Width, Value, Mode, Bytes, Says, spelled, shapes}
+use Rattle.trace.specs.Version.{IsVersion}
+use Rattle.trace.specs.Words.{Shape, Num, Offset, Window, Width, Value, Mode, Bytes, Identity, Says, spelled, shapes}
 
 -- line k of a text, numbered from 1; a text ends before line k where nothing stands there
 abbrev pub line_at : List ℕ → ℕ → List ℕ
@@ -19,6 +20,13 @@ IsEnded text k = k < length (lines_of text)
 -- line k has to have one: it is one of the first two, or something stands in it
 abbrev pub IsOwed : List ℕ → ℕ → Type 0
 IsOwed text k = (k ≤ 2) ⊎ (line_at text k ≢ [])
+
+-- a first line, and that of a text of this version
+abbrev pub IsHeader : List ℕ → Type 0
+IsHeader line = (version : ℕ) × (IsVersion version × (line ≡ header version))
+
+abbrev pub IsOfVersion : List ℕ → ℕ → Type 0
+IsOfVersion text version = line_at text 1 ≡ header version
 
 -- the first field of a line, and those after it
 abbrev pub first_field : List ℕ → List ℕ
@@ -47,10 +55,11 @@ fault_of Window = kind.Choice
 fault_of Width = kind.Choice
 fault_of Mode = kind.Choice
 fault_of Bytes = kind.Bytes
+fault_of Identity = kind.Bytes
 
--- the fields are as many as the word has
-abbrev pub AreAsMany : Word → List (List ℕ) → Type 0
-AreAsMany word fields = length fields ≡ length (shapes word fields)
+-- the fields are as many as the word has in a version
+abbrev pub AreAsMany : ℕ → Word → List (List ℕ) → Type 0
+AreAsMany version word fields = length fields ≡ length (shapes version word fields)
 
 -- the order in which a line is checked
 abbrev pub order : FaultKind → ℕ
@@ -73,12 +82,12 @@ AllSay fault (shape ∷ more) (field ∷ fields) = MatchBool (order (fault_of sh
 -- line k of the text passes the check of a kind
 abbrev pub Passes : List ℕ → ℕ → FaultKind → Type 0
 Passes text k kind.Cut = IsOwed text k → IsEnded text k
-Passes text k kind.Header = IsEnded text k → k ≡ 1 → line_at text k ≡ header
+Passes text k kind.Header = IsEnded text k → k ≡ 1 → IsHeader (line_at text k)
 Passes text k kind.Word = IsEnded text k → 2 ≤ k → HasWord k (line_at text k)
 Passes text k kind.Order = IsEnded text k → first_field (line_at text k) ≡ spelled Slot → (j : ℕ) → 3 ≤ j → j < k → first_field (line_at text j) ≡ spelled Slot
-Passes text k kind.Fields = IsEnded text k → 2 ≤ k → (word : Word) → first_field (line_at text k) ≡ spelled word → AreAsMany word (other_fields (line_at text k))
+Passes text k kind.Fields = IsEnded text k → 2 ≤ k → (version : ℕ) → IsOfVersion text version → (word : Word) → first_field (line_at text k) ≡ spelled word → AreAsMany version word (other_fields (line_at text k))
 Passes text k kind.NoMemory = ⊤
-Passes text k fault = IsEnded text k → 2 ≤ k → (word : Word) → first_field (line_at text k) ≡ spelled word → AllSay fault (shapes word (other_fields (line_at text k))) (other_fields (line_at text k))
+Passes text k fault = IsEnded text k → 2 ≤ k → (version : ℕ) → IsOfVersion text version → (word : Word) → first_field (line_at text k) ≡ spelled word → AllSay fault (shapes version word (other_fields (line_at text k))) (other_fields (line_at text k))
 
 -- each line before line k passes every check
 abbrev pub IsCleanBefore : List ℕ → ℕ → Type 0

@@ -1,10 +1,11 @@
 -- Which traces have a text.
-use Rattle.std.specs.Prelude.{ℕ, ◌*◌, ◌^◌, ◌<◌, List, All, ⊤}
+use Rattle.std.specs.Prelude.{◌≡◌, ℕ, ◌*◌, ◌^◌, ◌<◌, List, All, ⊤, length}
 use Rattle.board.specs.declared.event.Event.{Event}
 use Rattle.board.specs.declared.event.EventKind.{EventKind}
 use Rattle.board.specs.declared.event.EventKind.TheVariants.{Read, Write, MemRead, MemWrite, Input, Resize}
 use Rattle.board.specs.declared.spec.SlotSpec.{SlotSpec}
 use Rattle.trace.specs.Text.{Content}
+use Rattle.trace.specs.Version.{IsVersion, identity_in_version_1}
 use Rattle.trace.specs.Words.{IsWidth}
 
 -- an access to a register that has a spelling: its offset has three digits, and its width is 1, 2 or 4
@@ -26,9 +27,15 @@ IsPrintableKind (MemWrite addr bs) = ⊤
 IsPrintableKind (Input bs) = ⊤
 IsPrintableKind (Resize cols rows) = ⊤
 
--- a trace that has a text: each of its events has a line
-abbrev pub IsPrintable : {A : Type 0} → Content A → Type 0
-IsPrintable t = All (λ e. IsPrintableKind e.what) t.events
+-- a slot that has a line in a version: version 1 leaves its identity out
+abbrev pub IsPrintableSlot : ℕ → SlotSpec → Type 0
+IsPrintableSlot version s = version ≡ 1 → s.identity ≡ identity_in_version_1
+
+-- a trace that has a text: there is such a version, and each of its slots and events has a line
+pub record IsPrintable {A : Type 0} (t : Content A) : Type 0 where
+  pub version : IsVersion t.version
+  pub slots : All (IsPrintableSlot t.version) t.slots
+  pub events : All (λ e. IsPrintableKind e.what) t.events
 
 -- What the integers of a trace give by themselves, for a clause that speaks of every trace: in a clause
 -- a number has no upper bound.
@@ -39,6 +46,8 @@ pub record SlotInRange (s : SlotSpec) : Type 0 where
   pub count : s.extent.count < 2 ^ 64
   pub cols : s.cols < 2 ^ 16
   pub rows : s.rows < 2 ^ 16
+  pub identity : All (λ b. b < 2 ^ 8) s.identity
+  pub twenty : length s.identity ≡ 20
 
 pub record RangeInRange (addr len : ℕ) : Type 0 where
   pub from : addr < 2 ^ 64

@@ -3,11 +3,13 @@ use Rattle.std.specs.Prelude.{◌≡◌, ℕ, ◌^◌, ◌<◌, ◌∷◌, ◌++
 use Rattle.trace.specs.declared.fault.FaultKind.{FaultKind}
 use Rattle.trace.specs.declared.fault.FaultKind.TheVariants as kind
 use Rattle.board.specs.declared.event.Event.{Event}
-use Rattle.trace.specs.Printable.{EventInRange, IsPrintableKind}
+use Rattle.trace.specs.Printable.{EventInRange, IsPrintableKind, IsPrintableSlot}
 use Rattle.trace.specs.Cuts.{lines_of, fields_of}
-use Rattle.trace.specs.Faults.{AllSay, AreAsMany, MayStand, first_field, other_fields}
+use Rattle.trace.specs.Faults.{AllSay, AreAsMany, IsHeader, MayStand, first_field, other_fields}
 use Rattle.trace.specs.Text.{Content, header, cache_fields, slot_fields, event_fields}
 use Rattle.trace.specs.Printable.{SlotInRange}
+use Rattle.trace.specs.Version.{IsVersion}
+use Rattle.board.specs.declared.spec.SlotSpec.{SlotSpec}
 use Rattle.trace.specs.declared.entry.Entry.{Entry}
 use Rattle.trace.specs.declared.entry.Entry.TheVariants as entry
 use Rattle.trace.specs.declared.word.Word.{Word}
@@ -32,51 +34,65 @@ RefusesValue width value kind.Choice = Says (Value width) value × (¬ Says Widt
 RefusesValue width value _ = ⊥
 
 -- the fields after a word fail this check, and pass those before it
-abbrev pub RefusesFields : Word → List (List ℕ) → FaultKind → Type 0
-RefusesFields word fields kind.Fields = ¬ AreAsMany word fields
-RefusesFields word fields kind.Number = AreAsMany word fields × (¬ AllSay kind.Number (shapes word fields) fields)
-RefusesFields word fields kind.Choice =
-    AreAsMany word fields × AllSay kind.Number (shapes word fields) fields × (¬ AllSay kind.Choice (shapes word fields) fields)
-RefusesFields word fields kind.Bytes =
-    AreAsMany word fields × AllSay kind.Number (shapes word fields) fields × AllSay kind.Choice (shapes word fields) fields × (¬ AllSay kind.Bytes (shapes word fields) fields)
-RefusesFields word fields kind.NoMemory = ⊤
-RefusesFields word fields _ = ⊥
+abbrev pub RefusesFields : ℕ → Word → List (List ℕ) → FaultKind → Type 0
+RefusesFields version word fields kind.Fields = ¬ AreAsMany version word fields
+RefusesFields version word fields kind.Number = AreAsMany version word fields × (¬ AllSay kind.Number (shapes version word fields) fields)
+RefusesFields version word fields kind.Choice =
+    AreAsMany version word fields × AllSay kind.Number (shapes version word fields) fields × (¬ AllSay kind.Choice (shapes version word fields) fields)
+RefusesFields version word fields kind.Bytes =
+    AreAsMany version word fields × AllSay kind.Number (shapes version word fields) fields × AllSay kind.Choice (shapes version word fields) fields × (¬ AllSay kind.Bytes (shapes version word fields) fields)
+RefusesFields version word fields kind.NoMemory = ⊤
+RefusesFields version word fields _ = ⊥
 
 -- a line after the second is refused, where events may have begun before it: it has no word, or is a slot
 -- after an event, or its fields are refused
-pub record RefusesAfterWord (begun : Bool) (line : List ℕ) (fault : FaultKind) : Type 0 where
+pub record RefusesAfterWord (version : ℕ) (begun : Bool) (line : List ℕ) (fault : FaultKind) : Type 0 where
   pub word : Word
   pub may : MayStand 3 word
   pub first : first_field line ≡ spelled word
   pub ordered : begun ≡ true → word ≡ Slot → ⊥
-  pub refused : RefusesFields word (other_fields line) fault
+  pub refused : RefusesFields version word (other_fields line) fault
 
-abbrev pub RefusesLine : Bool → List ℕ → FaultKind → Type 0
-RefusesLine begun line kind.Word = (word : Word) → MayStand 3 word → ¬ (first_field line ≡ spelled word)
-RefusesLine begun line kind.Order = (begun ≡ true) × (first_field line ≡ spelled Slot)
-RefusesLine begun line fault = RefusesAfterWord begun line fault
+abbrev pub RefusesLine : ℕ → Bool → List ℕ → FaultKind → Type 0
+RefusesLine version begun line kind.Word = (word : Word) → MayStand 3 word → ¬ (first_field line ≡ spelled word)
+RefusesLine version begun line kind.Order = (begun ≡ true) × (first_field line ≡ spelled Slot)
+RefusesLine version begun line fault = RefusesAfterWord version begun line fault
+
+-- the same of a word that has the same fields in each version
+abbrev pub RefusesFieldsOf : Word → List (List ℕ) → FaultKind → Type 0
+RefusesFieldsOf word fields fault = (version : ℕ) → RefusesFields version word fields fault
 
 -- the fields of what was read
-abbrev pub entry_fields : {A : Type 0} → Entry A → List (List ℕ)
-entry_fields (entry.Slot s) = slot_fields s
-entry_fields (entry.Event e) = event_fields e
+abbrev pub entry_fields : {A : Type 0} → ℕ → Entry A → List (List ℕ)
+entry_fields version (entry.Slot s) = slot_fields version s
+entry_fields version (entry.Event e) = event_fields e
+
+-- a slot that its integers admit and that has a line
+pub record IsFineSlot (version : ℕ) (s : SlotSpec) : Type 0 where
+  pub fits : SlotInRange s
+  pub printable : IsPrintableSlot version s
 
 -- what was read has a line, and a slot comes before every event
-abbrev pub IsFineEntry : {A : Type 0} → Bool → Entry A → Type 0
-IsFineEntry begun (entry.Slot s) = SlotInRange s × (begun ≡ true → ⊥)
-IsFineEntry begun (entry.Event e) = IsFine e
+abbrev pub IsFineEntry : {A : Type 0} → ℕ → Bool → Entry A → Type 0
+IsFineEntry version begun (entry.Slot s) = IsFineSlot version s × (begun ≡ true → ⊥)
+IsFineEntry version begun (entry.Event e) = IsFine e
 
 -- the first line is cut off, or isn't the header
 pub record IsOtherHead (text : List ℕ) : Type 0 where
   pub head : List ℕ
   pub rest : List ℕ
   pub cut : lines_of text ≡ head ∷ lines_of rest
-  pub other : head ≡ header → ⊥
+  pub other : IsHeader head → ⊥
 
 abbrev pub RefusesHead : List ℕ → FaultKind → Type 0
 RefusesHead text kind.Cut = lines_of text ≡ text ∷ []
 RefusesHead text kind.Header = IsOtherHead text
 RefusesHead text _ = ⊥
+
+-- a text whose first line is the header of this version
+pub record IsFirst (text : List ℕ) (version : ℕ) (rest : List ℕ) : Type 0 where
+  pub one_of : IsVersion version
+  pub ended : text ≡ header version ++ 10 ∷ rest
 
 -- a text whose first line is that of the cache
 pub record IsSecond (text : List ℕ) (sectors : ℕ) (rest : List ℕ) : Type 0 where
@@ -98,7 +114,7 @@ pub record RefusesCache (text : List ℕ) (fault : FaultKind) : Type 0 where
   pub rest : List ℕ
   pub cut : lines_of text ≡ line ∷ lines_of rest
   pub first : first_field line ≡ spelled Cache
-  pub refused : RefusesFields Cache (other_fields line) fault
+  pub refused : RefusesFieldsOf Cache (other_fields line) fault
 
 -- the second line, at the front of a text, is refused
 abbrev pub RefusesSecond : List ℕ → FaultKind → Type 0
@@ -118,6 +134,6 @@ with_entry c (entry.Event e) = record c { events = c.events ++ e ∷ [] }
 -- the new trace is the old one with what the line says
 pub record AddsLine {A : Type 0} (old : Content A) (line : List ℕ) (new : Content A) : Type 0 where
   pub entry : Entry A
-  pub fields : fields_of line ≡ entry_fields entry
-  pub fine : IsFineEntry (has_begun old) entry
+  pub fields : fields_of line ≡ entry_fields old.version entry
+  pub fine : IsFineEntry old.version (has_begun old) entry
   pub added : new ≡ with_entry old entry

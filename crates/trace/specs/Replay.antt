@@ -1,9 +1,10 @@
 -- What a replay comes to: the trace that it read, the run on that trace's board, and what it wrote.
-use Rattle.std.specs.Prelude.{◌≡◌, ◌≢◌, ℕ, ◌<◌, ◌≤◌, ⊤, List, [], ◌∷◌, length, map, take, Option, IfSome, Result, Ok, Err}
+use Rattle.std.specs.Prelude.{◌≡◌, ◌≢◌, ◌⊎◌, ℕ, ◌<◌, ◌≤◌, ⊤, List, [], ◌∷◌, length, map, take, Option, IfSome, Result, Ok, Err}
 use Rattle.std.specs.Io.KnownBytes.{Appends, IsAtEnd, Keeps}
 use Rattle.sector_cache.specs.Disk.{Disk}
 use Rattle.board.specs.declared.event.Event.{Event}
 use Rattle.board.specs.declared.fault.BoardFault.{BoardFault}
+use Rattle.board.specs.declared.fault.BoardFault.TheVariants.{TooManySlots}
 use Rattle.board.specs.declared.reply.Record.{Record}
 use Rattle.board.specs.declared.spec.SlotSpec.{SlotSpec}
 use Rattle.board.specs.Fault.{IsAccepted, Refuses}
@@ -71,10 +72,22 @@ AfterRun disk slots events before after old new (Err Write) = RecordedFront disk
 AfterRun disk slots events before after old new (Err NoMemory) = RecordedFront disk slots events before after (λ _. Keeps old new)
 AfterRun disk slots events before after old new (Err _) = ⊥
 
+-- a trace of version 1 has at most sixteen slots, whatever a board may have
+pub record HasTooMany {A : Type 0} (trace : Content A) : Type 0 where
+  pub version : trace.version ≡ 1
+  pub many : 16 < length trace.slots
+
+-- Why there is no board for a trace: it has too many slots for its version, before any of them is looked at; else it
+-- is the board's own fault.
+abbrev pub RefusesBoardOf : {A : Type 0} → ℕ → Content A → BoardFault → Type 0
+RefusesBoardOf sectors trace fault =
+    (HasTooMany trace × (fault ≡ TooManySlots)) ⊎ ((¬ HasTooMany trace) × Refuses sectors trace.slots trace.cache fault)
+
 -- the trace was read, there is a board for it, and this came of its events
 pub record Plays {I : Type 0} (A : Type 0) (disk : I → Disk) (input old new : Option (List ℕ)) (before after : I) (outcome : Result (Unit {0}) ReplayFault) : Type 0 where
   pub trace : Content A
   pub read : IfSome input (λ bytes. IsTraceOf bytes trace)
+  pub few : ¬ HasTooMany trace
   pub accepted : IsAccepted (disk before).sector_count trace.slots trace.cache
   pub ended : AfterRun disk trace.slots trace.events before after old new outcome
 
@@ -93,7 +106,7 @@ pub record RefusesBoard {I : Type 0} (A : Type 0) (disk : I → Disk) (input old
   pub untouched : IsUntouched old new before after
   pub trace : Content A
   pub read : IfSome input (λ bytes. IsTraceOf bytes trace)
-  pub refused : Refuses (disk before).sector_count trace.slots trace.cache fault
+  pub refused : RefusesBoardOf (disk before).sector_count trace fault
 
 -- What a replay comes to, from the bytes that its reader told and those that its writer held before and
 -- holds after, with the image as it was handed in and as it is handed back.

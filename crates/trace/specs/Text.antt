@@ -1,5 +1,5 @@
 -- The one text of a trace: its lines in order, each ended by a line feed.
-use Rattle.std.specs.Prelude.{ℕ, ◌*◌, List, [], ◌∷◌, ◌++◌, map, codes}
+use Rattle.std.specs.Prelude.{ℕ, ◌+◌, ◌*◌, List, [], ◌∷◌, ◌++◌, map, codes}
 use Rattle.std.specs.List.{flat_map, join_with_byte}
 use Rattle.mmio_window.specs.declared.device_kind.DeviceKind.{DeviceKind}
 use Rattle.board.specs.declared.event.Event.{Event}
@@ -9,31 +9,35 @@ use Rattle.board.specs.declared.spec.SlotSpec.{SlotSpec}
 use Rattle.trace.specs.declared.trace.Trace.{Trace}
 use Rattle.trace.specs.declared.word.Word.TheVariants.{Cache, Slot, Read, Write, MemRead, MemWrite, Input, Resize}
 use Rattle.trace.specs.Spelling.{num, fixed, bytes, window, width_digit, mode}
+use Rattle.trace.specs.Version.{in_version_2}
 use Rattle.trace.specs.Words.{spelled}
 
 -- a trace without where it lies in memory
 pub record Content (A : Type 0) : Type 0 where
+  pub version : ℕ
   pub cache : ℕ
   pub slots : List SlotSpec
   pub events : List (Event A)
 
 abbrev pub content : {A : Type 0} → Trace A → Content A
-content t = record { cache = t.cache; slots = t.slots.items; events = t.events.items }
+content t = record { version = t.version; cache = t.cache; slots = t.slots.items; events = t.events.items }
 
 -- a line of fields: a space stands between two of them
 abbrev pub line : List (List ℕ) → List ℕ
 line fields = join_with_byte 32 fields
 
--- the first line, which names the format and its version
-abbrev pub header : List ℕ
-header = codes "vreplay 1"
+-- the first line, which names the format and by one digit its version (48 is `0`)
+abbrev pub header : ℕ → List ℕ
+header version = codes "vreplay " ++ (48 + version) ∷ []
 
 abbrev pub cache_fields : ℕ → List (List ℕ)
 cache_fields sectors = spelled Cache ∷ num sectors ∷ []
 
-abbrev pub slot_fields : SlotSpec → List (List ℕ)
-slot_fields s =
-    spelled Slot ∷ num s.base ∷ num s.len ∷ num s.extent.start ∷ num s.extent.count ∷ mode s.read_only ∷ num s.cols ∷ num s.rows ∷ []
+-- a slot, in a version
+abbrev pub slot_fields : ℕ → SlotSpec → List (List ℕ)
+slot_fields version s =
+    spelled Slot ∷ num s.base ∷ num s.len ∷ num s.extent.start ∷ num s.extent.count ∷ mode s.read_only ∷ num s.cols ∷ num s.rows
+    ∷ in_version_2 version (bytes s.identity ∷ [])
 
 -- a read and a write of a register, a read and a write of memory
 abbrev pub read_fields : ℕ → DeviceKind → ℕ → ℕ → List (List ℕ)
@@ -69,8 +73,8 @@ abbrev pub event_fields : {A : Type 0} → Event A → List (List ℕ)
 event_fields e = what_fields e.slot e.what
 
 -- the line of a slot, and that of an event
-unfoldable pub slot_line : SlotSpec → List ℕ
-slot_line s = line (slot_fields s)
+unfoldable pub slot_line : ℕ → SlotSpec → List ℕ
+slot_line version s = line (slot_fields version s)
 
 unfoldable pub event_line : {A : Type 0} → Event A → List ℕ
 event_line e = line (event_fields e)
@@ -80,7 +84,7 @@ cache_line sectors = line (cache_fields sectors)
 
 -- the lines of a trace: the header, the cache, the slots, the events
 unfoldable pub trace_lines : {A : Type 0} → Content A → List (List ℕ)
-trace_lines t = header ∷ cache_line t.cache ∷ map slot_line t.slots ++ map event_line t.events
+trace_lines t = header t.version ∷ cache_line t.cache ∷ map (slot_line t.version) t.slots ++ map event_line t.events
 
 -- lines as a text, each ended by a line feed
 abbrev pub ended : List ℕ → List ℕ
@@ -94,5 +98,9 @@ abbrev pub text : {A : Type 0} → Content A → List ℕ
 text t = joined (trace_lines t)
 
 -- its first two lines
-abbrev pub front_text : ℕ → List ℕ
-front_text cache = ended header ++ ended (cache_line cache)
+abbrev pub front_text : ℕ → ℕ → List ℕ
+front_text version cache = ended (header version) ++ ended (cache_line cache)
+
+-- the same trace as one of version 2
+abbrev pub as_version_2 : {A : Type 0} → Content A → Content A
+as_version_2 t = record t { version = 2 }

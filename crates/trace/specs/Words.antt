@@ -4,6 +4,7 @@ use Rattle.mmio_window.specs.declared.device_kind.DeviceKind.{DeviceKind}
 use Rattle.trace.specs.declared.word.Word.{Word}
 use Rattle.trace.specs.declared.word.Word.TheVariants.{Cache, Slot, Read, Write, MemRead, MemWrite, Input, Resize}
 use Rattle.trace.specs.Spelling.{digit, num, fixed, bytes, window, width_digit, mode}
+use Rattle.trace.specs.Version.{in_version_2}
 
 -- the field is a number of that many bits, without leading zeros
 pub record IsNum (bits : ℕ) (field : List ℕ) (n : ℕ) : Type 0 where
@@ -29,6 +30,11 @@ pub record IsBytesField (field bs : List ℕ) : Type 0 where
   pub fits : All (λ b. b < 2 ^ 8) bs
   pub spelled : field ≡ bytes bs
 
+-- the field is an identity (5.2.6): exactly 20 bytes
+pub record IsIdentityField (field bs : List ℕ) : Type 0 where
+  pub bytes_are : IsBytesField field bs
+  pub twenty : length bs ≡ 20
+
 -- a byte that is a lower case hexadecimal digit
 pub record IsDigit (c : ℕ) : Type 0 where
   pub value : ℕ
@@ -50,6 +56,7 @@ pub data Shape : Type 0 where
   Value : (width_field : List ℕ) → Shape
   Mode : Shape
   Bytes : Shape
+  Identity : Shape
 
 -- The field has a shape where some value of it is spelled so. A value has two digits for each byte of its
 -- width; where there is no such width, any field may be one.
@@ -61,6 +68,7 @@ Says Width field = (width : ℕ) × IsWidthField field width
 Says (Value width_field) field = (width : ℕ) → IsWidthField width_field width → (n : ℕ) × IsFixed (2 * width) field n
 Says Mode field = (read_only : Bool) × (field ≡ mode read_only)
 Says Bytes field = (bs : List ℕ) × IsBytesField field bs
+Says Identity field = (bs : List ℕ) × IsIdentityField field bs
 
 -- how each word is spelled
 abbrev pub spelled : Word → List ℕ
@@ -73,13 +81,14 @@ spelled MemWrite = codes "mw"
 spelled Input = codes "in"
 spelled Resize = codes "sz"
 
--- the shapes of the fields after each word, where these are the fields
-abbrev pub shapes : Word → List (List ℕ) → List Shape
-shapes Cache fields = Num 32 ∷ []
-shapes Slot fields = Num 64 ∷ Num 64 ∷ Num 64 ∷ Num 64 ∷ Mode ∷ Num 16 ∷ Num 16 ∷ []
-shapes Read fields = Num 8 ∷ Window ∷ Offset ∷ Width ∷ []
-shapes Write fields = Num 8 ∷ Window ∷ Offset ∷ Width ∷ Value (slice_index_or fields 3 []) ∷ []
-shapes MemRead fields = Num 8 ∷ Num 64 ∷ Num 32 ∷ []
-shapes MemWrite fields = Num 8 ∷ Num 64 ∷ Bytes ∷ []
-shapes Input fields = Num 8 ∷ Bytes ∷ []
-shapes Resize fields = Num 8 ∷ Num 16 ∷ Num 16 ∷ []
+-- the shapes of the fields after each word, in a version, where these are the fields
+abbrev pub shapes : ℕ → Word → List (List ℕ) → List Shape
+shapes version Cache fields = Num 32 ∷ []
+shapes version Slot fields =
+    Num 64 ∷ Num 64 ∷ Num 64 ∷ Num 64 ∷ Mode ∷ Num 16 ∷ Num 16 ∷ in_version_2 version (Identity ∷ [])
+shapes version Read fields = Num 8 ∷ Window ∷ Offset ∷ Width ∷ []
+shapes version Write fields = Num 8 ∷ Window ∷ Offset ∷ Width ∷ Value (slice_index_or fields 3 []) ∷ []
+shapes version MemRead fields = Num 8 ∷ Num 64 ∷ Num 32 ∷ []
+shapes version MemWrite fields = Num 8 ∷ Num 64 ∷ Bytes ∷ []
+shapes version Input fields = Num 8 ∷ Bytes ∷ []
+shapes version Resize fields = Num 8 ∷ Num 16 ∷ Num 16 ∷ []

@@ -1,7 +1,7 @@
 //! Fields that spell bytes.
 
-ghost use Rattle.std.specs.Prelude.{◌≡◌, ◌∷◌, [], ◌↔◌, All, IsTrue, IfOk, IfErr, OnOk};
-ghost use Rattle.trace.specs.Words.{ArePairs, IsBytesField, IsDigit, Says, Bytes as ByBytes};
+ghost use Rattle.std.specs.Prelude.{◌≡◌, ◌∷◌, [], ◌↔◌, All, IsTrue, IfOk, IfErr, IfNone, IfSome, OnOk};
+ghost use Rattle.trace.specs.Words.{ArePairs, IsBytesField, IsDigit, IsIdentityField, Says, Bytes as ByBytes, Identity};
 ghost use Rattle.trace.specs.Refusals.{RefusesBytes};
 
 use crate::fault::FaultKind;
@@ -59,4 +59,20 @@ pub(crate) fn bytes_of<A: Allocator>(alloc: A, field: &[u8]) -> Result<Bytes<A>,
     };
     read_pairs(field, bytes.as_mut_slice());
     Ok(Bytes::from(bytes))
+}
+
+/// How many bytes an identity has (5.2.6).
+const IDENTITY_LEN: usize = 20;
+
+/// The identity that a field spells by two digits for each of its bytes.
+pub(crate) fn identity_of(field: &[u8]) -> Option<[u8; IDENTITY_LEN]>
+    ensures some { IfSome result (λ bs. IsIdentityField field.now bs) }
+    ensures none { IfNone result (¬ Says Identity field.now) }
+{
+    if field.len() != 2 * IDENTITY_LEN || !are_digits(field) {
+        return None;
+    }
+    let mut identity = [0; IDENTITY_LEN];
+    read_pairs(field, &mut identity);
+    Some(identity)
 }

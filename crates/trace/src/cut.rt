@@ -62,8 +62,11 @@ pub(crate) fn three(rest: Option<&[u8]>) -> Option<(&[u8], &[u8], &[u8])>
     Some((a, b, c))
 }
 
+/// Four fields in their order.
+type Four<'a> = (&'a [u8], &'a [u8], &'a [u8], &'a [u8]);
+
 /// The fields that are left of a line, where they are four.
-pub(crate) fn four(rest: Option<&[u8]>) -> Option<(&[u8], &[u8], &[u8], &[u8])>
+pub(crate) fn four(rest: Option<&[u8]>) -> Option<Four<'_>>
     ensures some { IfSome result (λ f. fields_left (option_copied rest.entry) ≡ f.0.now ∷ f.1.now ∷ f.2.now ∷ f.3.now ∷ []) }
     ensures none { IfNone result (length (fields_left (option_copied rest.entry)) ≢ 4) }
 {
@@ -86,10 +89,7 @@ pub(crate) fn five(rest: Option<&[u8]>) -> Option<Five<'_>>
 }
 
 /// Seven fields in their order: the first three, and the last four.
-type Seven<'a> = (
-    (&'a [u8], &'a [u8], &'a [u8]),
-    (&'a [u8], &'a [u8], &'a [u8], &'a [u8]),
-);
+type Seven<'a> = ((&'a [u8], &'a [u8], &'a [u8]), Four<'a>);
 
 /// The fields that are left of a line, where they are seven.
 pub(crate) fn seven(rest: Option<&[u8]>) -> Option<Seven<'_>>
@@ -101,4 +101,17 @@ pub(crate) fn seven(rest: Option<&[u8]>) -> Option<Seven<'_>>
     let (c, rest) = take_field(rest?);
     let last = four(rest)?;
     Some(((a, b, c), last))
+}
+
+/// The fields that are left of a line, where they are eight: the first four, and the last four.
+pub(crate) fn eight(rest: Option<&[u8]>) -> Option<(Four<'_>, Four<'_>)>
+    ensures some { IfSome result (λ f. fields_left (option_copied rest.entry) ≡ f.0.0.now ∷ f.0.1.now ∷ f.0.2.now ∷ f.0.3.now ∷ f.1.0.now ∷ f.1.1.now ∷ f.1.2.now ∷ f.1.3.now ∷ []) }
+    ensures none { IfNone result (length (fields_left (option_copied rest.entry)) ≢ 8) }
+{
+    let (a, rest) = take_field(rest?);
+    let (b, rest) = take_field(rest?);
+    let (c, rest) = take_field(rest?);
+    let (d, rest) = take_field(rest?);
+    let last = four(rest)?;
+    Some(((a, b, c, d), last))
 }

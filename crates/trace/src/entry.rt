@@ -5,16 +5,18 @@
 ghost use Rattle.std.specs.Prelude.{◌≡◌, ◌∷◌, IfOk, IfErr};
 ghost use Rattle.std.specs.Option.{option_copied};
 ghost use Rattle.trace.specs.Cuts.{fields_left, fields_of};
-ghost use Rattle.trace.specs.Printable.{SlotInRange};
-ghost use Rattle.trace.specs.Refusals.{RefusesFields, RefusesLine, IsFine, IsFineEntry, entry_fields};
+ghost use Rattle.trace.specs.Refusals.{RefusesFields, RefusesFieldsOf, RefusesLine, IsFine, IsFineEntry, IsFineSlot, entry_fields};
 ghost use Rattle.trace.specs.Text.{event_fields, slot_fields};
+ghost use Rattle.trace.specs.Version.{IsVersion};
 ghost use Rattle.trace.specs.Words.{spelled};
 
-use crate::cut::{five, four, seven, take_field, three, two};
+use crate::bytes::identity_of;
+use crate::cut::{eight, five, four, seven, take_field, three, two};
 use crate::fault::FaultKind;
 use crate::fields::{input_of, mem_read_of, mem_write_of, read_of, resize_of, slot_of, write_of};
 use crate::frequent::frequent;
 use crate::no_memory::NoMemory;
+use crate::version::VERSION_1;
 use crate::word::{Word, word_of};
 use board::{Event, SlotSpec};
 use std::alloc::Allocator;
@@ -26,28 +28,36 @@ pub(crate) enum Entry<A: Allocator> {
     Event(Event<A>),
 }
 
-/// The slot or the event that a line is, where events may have `begun` before it.
+/// The slot or the event that a line is in a version, where events may have `begun` before it.
 pub(crate) fn entry_of<A: Allocator + Copy>(
     alloc: A,
+    version: u8,
     line: &[u8],
     begun: bool,
 ) -> Result<Entry<A>, FaultKind>
-    ensures ok { IfOk result (λ entry. fields_of line.now ≡ entry_fields entry) }
-    ensures fine { IfOk result (IsFineEntry begun) }
-    ensures err { IfErr result (λ fault. RefusesLine begun line.now fault) }
+    requires { IsVersion version }
+    ensures ok { IfOk result (λ entry. fields_of line.now ≡ entry_fields version entry) }
+    ensures fine { IfOk result (IsFineEntry version begun) }
+    ensures err { IfErr result (λ fault. RefusesLine version begun line.now fault) }
 {
     match frequent(alloc, line) {
         Ok(Some(event)) => Ok(Entry::Event(event)),
-        Ok(None) => by_fields(alloc, line, begun),
+        Ok(None) => by_fields(alloc, version, line, begun),
         Err(NoMemory) => Err(FaultKind::NoMemory),
     }
 }
 
 // The same of any line, field by field.
-fn by_fields<A: Allocator>(alloc: A, line: &[u8], begun: bool) -> Result<Entry<A>, FaultKind>
-    ensures ok { IfOk result (λ entry. fields_of line.now ≡ entry_fields entry) }
-    ensures fine { IfOk result (IsFineEntry begun) }
-    ensures err { IfErr result (λ fault. RefusesLine begun line.now fault) }
+fn by_fields<A: Allocator>(
+    alloc: A,
+    version: u8,
+    line: &[u8],
+    begun: bool,
+) -> Result<Entry<A>, FaultKind>
+    requires { IsVersion version }
+    ensures ok { IfOk result (λ entry. fields_of line.now ≡ entry_fields version entry) }
+    ensures fine { IfOk result (IsFineEntry version begun) }
+    ensures err { IfErr result (λ fault. RefusesLine version begun line.now fault) }
 {
     let (first, rest) = take_field(line);
     let Some(word) = word_of(first) else {
@@ -56,7 +66,7 @@ fn by_fields<A: Allocator>(alloc: A, line: &[u8], begun: bool) -> Result<Entry<A
     match word {
         Word::Cache => Err(FaultKind::Word),
         Word::Slot if begun => Err(FaultKind::Order),
-        Word::Slot => Ok(Entry::Slot(slot_in(rest)?)),
+        Word::Slot => Ok(Entry::Slot(slot_in(version, rest)?)),
         Word::Read => Ok(Entry::Event(read_in(rest)?)),
         Word::Write => Ok(Entry::Event(write_in(rest)?)),
         Word::MemRead => Ok(Entry::Event(mem_read_in(rest)?)),
@@ -66,11 +76,24 @@ fn by_fields<A: Allocator>(alloc: A, line: &[u8], begun: bool) -> Result<Entry<A
     }
 }
 
-// The slot that the fields after its word say.
-fn slot_in(rest: Option<&[u8]>) -> Result<SlotSpec, FaultKind>
-    ensures ok { IfOk result (λ s. slot_fields s ≡ spelled Word.Slot ∷ fields_left (option_copied rest.entry)) }
-    ensures fine { IfOk result SlotInRange }
-    ensures err { IfErr result (λ fault. RefusesFields Word.Slot (fields_left (option_copied rest.entry)) fault) }
+// The slot that the fields after its word say in a version.
+fn slot_in(version: u8, rest: Option<&[u8]>) -> Result<SlotSpec, FaultKind>
+    requires { IsVersion version }
+    ensures ok { IfOk result (λ s. slot_fields version s ≡ spelled Word.Slot ∷ fields_left (option_copied rest.entry)) }
+    ensures fine { IfOk result (IsFineSlot version) }
+    ensures err { IfErr result (λ fault. RefusesFields version Word.Slot (fields_left (option_copied rest.entry)) fault) }
+{
+    match version {
+        VERSION_1 => slot_without_identity(rest),
+        _ => slot_with_identity(rest),
+    }
+}
+
+// The same in version 1.
+fn slot_without_identity(rest: Option<&[u8]>) -> Result<SlotSpec, FaultKind>
+    ensures ok { IfOk result (λ s. slot_fields 1 s ≡ spelled Word.Slot ∷ fields_left (option_copied rest.entry)) }
+    ensures fine { IfOk result (IsFineSlot 1) }
+    ensures err { IfErr result (λ fault. RefusesFields 1 Word.Slot (fields_left (option_copied rest.entry)) fault) }
 {
     let Some(((base, len, start), (count, mode, cols, rows))) = seven(rest) else {
         return Err(FaultKind::Fields);
@@ -78,11 +101,27 @@ fn slot_in(rest: Option<&[u8]>) -> Result<SlotSpec, FaultKind>
     slot_of(base, len, start, count, mode, cols, rows)
 }
 
+// The same in version 2, where the identity is the last field.
+fn slot_with_identity(rest: Option<&[u8]>) -> Result<SlotSpec, FaultKind>
+    ensures ok { IfOk result (λ s. slot_fields 2 s ≡ spelled Word.Slot ∷ fields_left (option_copied rest.entry)) }
+    ensures fine { IfOk result (IsFineSlot 2) }
+    ensures err { IfErr result (λ fault. RefusesFields 2 Word.Slot (fields_left (option_copied rest.entry)) fault) }
+{
+    let Some(((base, len, start, count), (mode, cols, rows, identity))) = eight(rest) else {
+        return Err(FaultKind::Fields);
+    };
+    let slot = slot_of(base, len, start, count, mode, cols, rows)?;
+    let Some(identity) = identity_of(identity) else {
+        return Err(FaultKind::Bytes);
+    };
+    Ok(SlotSpec { identity, ..slot })
+}
+
 // The event that the fields after its word say.
 fn read_in<A: Allocator>(rest: Option<&[u8]>) -> Result<Event<A>, FaultKind>
     ensures ok { IfOk result (λ e. event_fields e ≡ spelled Word.Read ∷ fields_left (option_copied rest.entry)) }
     ensures fine { IfOk result IsFine }
-    ensures err { IfErr result (λ fault. RefusesFields Word.Read (fields_left (option_copied rest.entry)) fault) }
+    ensures err { IfErr result (λ fault. RefusesFieldsOf Word.Read (fields_left (option_copied rest.entry)) fault) }
 {
     let Some((slot, window, offset, width)) = four(rest) else {
         return Err(FaultKind::Fields);
@@ -93,7 +132,7 @@ fn read_in<A: Allocator>(rest: Option<&[u8]>) -> Result<Event<A>, FaultKind>
 fn write_in<A: Allocator>(rest: Option<&[u8]>) -> Result<Event<A>, FaultKind>
     ensures ok { IfOk result (λ e. event_fields e ≡ spelled Word.Write ∷ fields_left (option_copied rest.entry)) }
     ensures fine { IfOk result IsFine }
-    ensures err { IfErr result (λ fault. RefusesFields Word.Write (fields_left (option_copied rest.entry)) fault) }
+    ensures err { IfErr result (λ fault. RefusesFieldsOf Word.Write (fields_left (option_copied rest.entry)) fault) }
 {
     let Some((slot, window, offset, width, value)) = five(rest) else {
         return Err(FaultKind::Fields);
@@ -104,7 +143,7 @@ fn write_in<A: Allocator>(rest: Option<&[u8]>) -> Result<Event<A>, FaultKind>
 fn mem_read_in<A: Allocator>(rest: Option<&[u8]>) -> Result<Event<A>, FaultKind>
     ensures ok { IfOk result (λ e. event_fields e ≡ spelled Word.MemRead ∷ fields_left (option_copied rest.entry)) }
     ensures fine { IfOk result IsFine }
-    ensures err { IfErr result (λ fault. RefusesFields Word.MemRead (fields_left (option_copied rest.entry)) fault) }
+    ensures err { IfErr result (λ fault. RefusesFieldsOf Word.MemRead (fields_left (option_copied rest.entry)) fault) }
 {
     let Some((slot, addr, len)) = three(rest) else {
         return Err(FaultKind::Fields);
@@ -115,7 +154,7 @@ fn mem_read_in<A: Allocator>(rest: Option<&[u8]>) -> Result<Event<A>, FaultKind>
 fn mem_write_in<A: Allocator>(alloc: A, rest: Option<&[u8]>) -> Result<Event<A>, FaultKind>
     ensures ok { IfOk result (λ e. event_fields e ≡ spelled Word.MemWrite ∷ fields_left (option_copied rest.entry)) }
     ensures fine { IfOk result IsFine }
-    ensures err { IfErr result (λ fault. RefusesFields Word.MemWrite (fields_left (option_copied rest.entry)) fault) }
+    ensures err { IfErr result (λ fault. RefusesFieldsOf Word.MemWrite (fields_left (option_copied rest.entry)) fault) }
 {
     let Some((slot, addr, bytes)) = three(rest) else {
         return Err(FaultKind::Fields);
@@ -126,7 +165,7 @@ fn mem_write_in<A: Allocator>(alloc: A, rest: Option<&[u8]>) -> Result<Event<A>,
 fn input_in<A: Allocator>(alloc: A, rest: Option<&[u8]>) -> Result<Event<A>, FaultKind>
     ensures ok { IfOk result (λ e. event_fields e ≡ spelled Word.Input ∷ fields_left (option_copied rest.entry)) }
     ensures fine { IfOk result IsFine }
-    ensures err { IfErr result (λ fault. RefusesFields Word.Input (fields_left (option_copied rest.entry)) fault) }
+    ensures err { IfErr result (λ fault. RefusesFieldsOf Word.Input (fields_left (option_copied rest.entry)) fault) }
 {
     let Some((slot, bytes)) = two(rest) else {
         return Err(FaultKind::Fields);
@@ -137,7 +176,7 @@ fn input_in<A: Allocator>(alloc: A, rest: Option<&[u8]>) -> Result<Event<A>, Fau
 fn resize_in<A: Allocator>(rest: Option<&[u8]>) -> Result<Event<A>, FaultKind>
     ensures ok { IfOk result (λ e. event_fields e ≡ spelled Word.Resize ∷ fields_left (option_copied rest.entry)) }
     ensures fine { IfOk result IsFine }
-    ensures err { IfErr result (λ fault. RefusesFields Word.Resize (fields_left (option_copied rest.entry)) fault) }
+    ensures err { IfErr result (λ fault. RefusesFieldsOf Word.Resize (fields_left (option_copied rest.entry)) fault) }
 {
     let Some((slot, cols, rows)) = three(rest) else {
         return Err(FaultKind::Fields);

@@ -17,7 +17,7 @@ pub enum FaultKind {
     /// The text ends before the line's line feed, or where the first or the second line is owed.
     #[error("the text is cut off")]
     Cut,
-    /// The first line isn't `vreplay 1`.
+    /// The first line is neither `vreplay 1` nor `vreplay 2`.
     #[error("the first line is another one")]
     Header,
     /// The first field isn't a word that may stand there.

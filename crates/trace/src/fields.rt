@@ -4,16 +4,16 @@
 //! that is answered is the first in the order of the checks.
 
 ghost use Rattle.std.specs.Prelude.{◌≡◌, ◌∷◌, [], IfOk, IfErr};
-ghost use Rattle.trace.specs.Printable.{SlotInRange};
 ghost use Rattle.trace.specs.Text.{event_fields, slot_fields};
 ghost use Rattle.trace.specs.Words.{spelled};
-ghost use Rattle.trace.specs.Refusals.{RefusesFields, IsFine};
+ghost use Rattle.trace.specs.Refusals.{RefusesFields, RefusesFieldsOf, IsFine, IsFineSlot};
 
 use crate::bytes::bytes_of;
 use crate::choice::{mode_of, width_of, window_of};
 use crate::fault::FaultKind;
 use crate::number::{number, number_u8, number_u16, number_u32, offset_of};
 use crate::value::width_and_value;
+use crate::version::identity_in_version_1;
 use crate::word::Word;
 use board::{Event, EventKind, Extent, SlotSpec};
 use std::alloc::Allocator;
@@ -27,7 +27,7 @@ pub(crate) fn read_of<A: Allocator>(
 ) -> Result<Event<A>, FaultKind>
     ensures ok { IfOk result (λ e. event_fields e ≡ spelled Word.Read ∷ slot.now ∷ window.now ∷ offset.now ∷ width.now ∷ []) }
     ensures fine { IfOk result IsFine }
-    ensures err { IfErr result (λ fault. RefusesFields Word.Read (slot.now ∷ window.now ∷ offset.now ∷ width.now ∷ []) fault) }
+    ensures err { IfErr result (λ fault. RefusesFieldsOf Word.Read (slot.now ∷ window.now ∷ offset.now ∷ width.now ∷ []) fault) }
 {
     let Some(slot) = number_u8(slot) else {
         return Err(FaultKind::Number);
@@ -59,7 +59,7 @@ pub(crate) fn write_of<A: Allocator>(
 ) -> Result<Event<A>, FaultKind>
     ensures ok { IfOk result (λ e. event_fields e ≡ spelled Word.Write ∷ slot.now ∷ window.now ∷ offset.now ∷ width.now ∷ value.now ∷ []) }
     ensures fine { IfOk result IsFine }
-    ensures err { IfErr result (λ fault. RefusesFields Word.Write (slot.now ∷ window.now ∷ offset.now ∷ width.now ∷ value.now ∷ []) fault) }
+    ensures err { IfErr result (λ fault. RefusesFieldsOf Word.Write (slot.now ∷ window.now ∷ offset.now ∷ width.now ∷ value.now ∷ []) fault) }
 {
     let Some(slot) = number_u8(slot) else {
         return Err(FaultKind::Number);
@@ -91,7 +91,7 @@ pub(crate) fn mem_read_of<A: Allocator>(
 ) -> Result<Event<A>, FaultKind>
     ensures ok { IfOk result (λ e. event_fields e ≡ spelled Word.MemRead ∷ slot.now ∷ addr.now ∷ len.now ∷ []) }
     ensures fine { IfOk result IsFine }
-    ensures err { IfErr result (λ fault. RefusesFields Word.MemRead (slot.now ∷ addr.now ∷ len.now ∷ []) fault) }
+    ensures err { IfErr result (λ fault. RefusesFieldsOf Word.MemRead (slot.now ∷ addr.now ∷ len.now ∷ []) fault) }
 {
     let Some(slot) = number_u8(slot) else {
         return Err(FaultKind::Number);
@@ -115,7 +115,7 @@ pub(crate) fn mem_write_of<A: Allocator>(
 ) -> Result<Event<A>, FaultKind>
     ensures ok { IfOk result (λ e. event_fields e ≡ spelled Word.MemWrite ∷ slot.now ∷ addr.now ∷ bytes.now ∷ []) }
     ensures fine { IfOk result IsFine }
-    ensures err { IfErr result (λ fault. RefusesFields Word.MemWrite (slot.now ∷ addr.now ∷ bytes.now ∷ []) fault) }
+    ensures err { IfErr result (λ fault. RefusesFieldsOf Word.MemWrite (slot.now ∷ addr.now ∷ bytes.now ∷ []) fault) }
 {
     let Some(slot) = number_u8(slot) else {
         return Err(FaultKind::Number);
@@ -140,7 +140,7 @@ pub(crate) fn input_of<A: Allocator>(
 ) -> Result<Event<A>, FaultKind>
     ensures ok { IfOk result (λ e. event_fields e ≡ spelled Word.Input ∷ slot.now ∷ bytes.now ∷ []) }
     ensures fine { IfOk result IsFine }
-    ensures err { IfErr result (λ fault. RefusesFields Word.Input (slot.now ∷ bytes.now ∷ []) fault) }
+    ensures err { IfErr result (λ fault. RefusesFieldsOf Word.Input (slot.now ∷ bytes.now ∷ []) fault) }
 {
     let Some(slot) = number_u8(slot) else {
         return Err(FaultKind::Number);
@@ -162,7 +162,7 @@ pub(crate) fn resize_of<A: Allocator>(
 ) -> Result<Event<A>, FaultKind>
     ensures ok { IfOk result (λ e. event_fields e ≡ spelled Word.Resize ∷ slot.now ∷ cols.now ∷ rows.now ∷ []) }
     ensures fine { IfOk result IsFine }
-    ensures err { IfErr result (λ fault. RefusesFields Word.Resize (slot.now ∷ cols.now ∷ rows.now ∷ []) fault) }
+    ensures err { IfErr result (λ fault. RefusesFieldsOf Word.Resize (slot.now ∷ cols.now ∷ rows.now ∷ []) fault) }
 {
     let Some(slot) = number_u8(slot) else {
         return Err(FaultKind::Number);
@@ -177,7 +177,7 @@ pub(crate) fn resize_of<A: Allocator>(
     Ok(Event { slot, what })
 }
 
-/// A slot: its memory, its extent, its mode and its console's size.
+/// A slot of version 1: its memory, its extent, its mode and its console's size.
 pub(crate) fn slot_of(
     base: &[u8],
     len: &[u8],
@@ -187,9 +187,9 @@ pub(crate) fn slot_of(
     cols: &[u8],
     rows: &[u8],
 ) -> Result<SlotSpec, FaultKind>
-    ensures ok { IfOk result (λ s. slot_fields s ≡ spelled Word.Slot ∷ base.now ∷ len.now ∷ start.now ∷ count.now ∷ mode.now ∷ cols.now ∷ rows.now ∷ []) }
-    ensures fine { IfOk result SlotInRange }
-    ensures err { IfErr result (λ fault. RefusesFields Word.Slot (base.now ∷ len.now ∷ start.now ∷ count.now ∷ mode.now ∷ cols.now ∷ rows.now ∷ []) fault) }
+    ensures ok { IfOk result (λ s. slot_fields 1 s ≡ spelled Word.Slot ∷ base.now ∷ len.now ∷ start.now ∷ count.now ∷ mode.now ∷ cols.now ∷ rows.now ∷ []) }
+    ensures fine { IfOk result (IsFineSlot 1) }
+    ensures err { IfErr result (λ fault. RefusesFields 1 Word.Slot (base.now ∷ len.now ∷ start.now ∷ count.now ∷ mode.now ∷ cols.now ∷ rows.now ∷ []) fault) }
 {
     let Some(base) = number(base) else {
         return Err(FaultKind::Number);
@@ -220,5 +220,6 @@ pub(crate) fn slot_of(
         read_only,
         cols,
         rows,
+        identity: identity_in_version_1(),
     })
 }

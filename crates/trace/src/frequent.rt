@@ -1,9 +1,9 @@
-//! The lines that come most often: accesses to registers and to memory, of a slot that has one digit.
+//! The lines that come most often: accesses to registers and to memory.
 //!
 //! Each is read from its front to its end, and no fault is looked for. What isn't spelled so is `None` here, and
 //! `entry` reads it field by field: it may have a fault, or be a line of another kind.
 
-ghost use Rattle.std.specs.Prelude.{◌≡◌, ◌++◌, ◌∷◌, ◌^◌, ◌<◌, Bool, IfOk, IfSome, OnErr};
+ghost use Rattle.std.specs.Prelude.{◌≡◌, ◌++◌, ◌∷◌, ◌^◌, ◌<◌, ℕ, Bool, IfOk, IfSome, OnErr};
 ghost use Rattle.trace.specs.Refusals.{IsFine, RefusesLine};
 ghost use Rattle.trace.specs.Spelling.{fixed, num, width_digit, window};
 ghost use Rattle.trace.specs.Text.{event_line};
@@ -22,7 +22,7 @@ use std::alloc::Allocator;
 pub(crate) fn frequent<A: Allocator>(alloc: A, line: &[u8]) -> Result<Option<Event<A>>, NoMemory>
     ensures line { IfOk result (λ found. IfSome found (λ e. line.now ≡ event_line e)) }
     ensures fine { IfOk result (λ found. IfSome found IsFine) }
-    ensures err { OnErr result ((begun : Bool) → RefusesLine begun line.now FaultKind.NoMemory) }
+    ensures err { OnErr result ((version : ℕ) (begun : Bool) → RefusesLine version begun line.now FaultKind.NoMemory) }
 {
     match line {
         [b'r', b' ', rest @ ..] => Ok(read_in(rest)),
@@ -85,7 +85,7 @@ fn mem_read_in<A: Allocator>(rest: &[u8]) -> Option<Event<A>>
 fn mem_write_in<A: Allocator>(alloc: A, rest: &[u8]) -> Result<Option<Event<A>>, NoMemory>
     ensures line { IfOk result (λ found. IfSome found (λ e. spelled Word.MemWrite ++ 32 ∷ rest.now ≡ event_line e)) }
     ensures fine { IfOk result (λ found. IfSome found IsFine) }
-    ensures err { OnErr result ((begun : Bool) → RefusesLine begun (spelled Word.MemWrite ++ 32 ∷ rest.now) FaultKind.NoMemory) }
+    ensures err { OnErr result ((version : ℕ) (begun : Bool) → RefusesLine version begun (spelled Word.MemWrite ++ 32 ∷ rest.now) FaultKind.NoMemory) }
 {
     let Some((slot, addr, bytes)) = place(rest) else {
         return Ok(None);
@@ -100,31 +100,41 @@ fn mem_write_in<A: Allocator>(alloc: A, rest: &[u8]) -> Result<Option<Event<A>>,
     }
 }
 
-/// The slot, the window, the offset and the width of a register access, which stand in fixed columns, and what
-/// follows the width.
+/// The slot, the window, the offset and the width of a register access, of which the last three stand in fixed
+/// columns, and what follows the width.
 fn access(line: &[u8]) -> Option<(u8, DeviceKind, u16, u8, &[u8])>
     ensures line { IfSome result (λ x. line.now ≡ num x.0 ++ 32 ∷ window x.1 ++ 32 ∷ fixed 3 x.2 ++ 32 ∷ width_digit x.3 ++ x.4.now) }
     ensures offset { IfSome result (λ x. x.2 < 16 ^ 3) }
     ensures width { IfSome result (λ x. IsWidth x.3) }
 {
-    if line.len() < 9 || line[1] != b' ' || line[3] != b' ' || line[7] != b' ' {
+    let (slot, line) = take_slot(line)?;
+    if line.len() < 7 || line[1] != b' ' || line[5] != b' ' {
         return None;
     }
-    let slot = number_u8(&line[..1])?;
-    let window = window_of(&line[2..3])?;
-    let offset = offset_of(&line[4..7])?;
-    let width = width_of(&line[8..9])?;
-    Some((slot, window, offset, width, &line[9..]))
+    let window = window_of(&line[..1])?;
+    let offset = offset_of(&line[2..5])?;
+    let width = width_of(&line[6..7])?;
+    Some((slot, window, offset, width, &line[7..]))
 }
 
 /// The slot and the address of an access to memory, and the field after them.
 fn place(line: &[u8]) -> Option<(u8, u64, &[u8])>
     ensures { IfSome result (λ x. line.now ≡ num x.0 ++ 32 ∷ num x.1 ++ 32 ∷ x.2.now) }
 {
-    if line.len() < 2 || line[1] != b' ' {
-        return None;
-    }
-    let slot = number_u8(&line[..1])?;
-    let (addr, rest) = take_number(&line[2..])?;
+    let (slot, line) = take_slot(line)?;
+    let (addr, rest) = take_number(line)?;
     Some((slot, addr, rest))
+}
+
+/// The slot at the front of a line, and what follows the space after it.
+fn take_slot(line: &[u8]) -> Option<(u8, &[u8])>
+    ensures { IfSome result (λ x. line.now ≡ num x.0 ++ 32 ∷ x.1.now) }
+{
+    let digits = match line {
+        [_, b' ', ..] => 1,
+        [_, _, b' ', ..] => 2,
+        _ => return None,
+    };
+    let slot = number_u8(&line[..digits])?;
+    Some((slot, &line[digits + 1..]))
 }

@@ -2,7 +2,7 @@
 //!
 //! A trace says which board there is and what its guests do. It is ASCII text of lines, and each trace has
 //! one text. `read` has the way from a text to its trace: `cut` takes lines and fields off, `word` says
-//! what a line is, `entry` and `fields` read one line, `frequent` those that come most often, and `number`, `choice`,
+//! what a line is, `version` what the first one says, `entry` and `fields` read one line, `frequent` those that come most often, and `number`, `choice`,
 //! `value` and `bytes` one field. `print` has the way back, with `push` for one field and `range` for the bounds of its numbers, and
 //! `round_trip` goes both ways. `digit` is one digit, and `pairs` the two that spell a byte, there and back.
 //! `fault` has what is answered for a text that isn't a trace, and `laws` says that a text has one meaning or one
@@ -36,13 +36,14 @@ mod replaying;
 mod round_trip;
 mod trace;
 mod value;
+mod version;
 mod word;
 mod write;
 
 pub use fault::{FaultKind, TraceFault};
 pub use input::gather;
 pub use last_line::finish;
-pub use laws::{a_trace_has_no_fault, one_fault, one_trace};
+pub use laws::{a_trace_has_no_fault, one_fault, one_trace, the_version_changes_no_replay};
 pub use no_memory::NoMemory;
 pub use print::{is_printable, print_trace};
 pub use read::read_trace;
@@ -50,7 +51,7 @@ pub use records::print_records;
 pub use replay_fault::ReplayFault;
 pub use replaying::{replay, replay_text};
 pub use round_trip::read_back;
-pub use trace::Trace;
+pub use trace::{Trace, to_version_2};
 pub use write::write_whole;
 
 #[cfg(test)]

@@ -1,27 +1,60 @@
 //! Writing a whole trace.
 
 ghost use Rattle.std.specs.Prelude.{◌≡◌, ◌*◌, ◌^◌, ◌<◌, ◌↔◌, ◌++◌, ◌∷◌, [], All, IsTrue, IfOk, OnOk, map};
-ghost use Rattle.trace.specs.Printable.{InRange, IsAccess, IsPrintable, IsPrintableKind, IsWriteAccess};
+ghost use Rattle.trace.specs.Printable.{InRange, IsAccess, IsPrintable, IsPrintableKind, IsPrintableSlot, IsWriteAccess};
 ghost use Rattle.trace.specs.Spelling.{fixed, mode, num, width_digit, window as window_name};
-ghost use Rattle.trace.specs.Text.{content, text as text_of, ended, event_line, front_text, input_fields, joined, line, mem_read_fields, mem_write_fields, read_fields, resize_fields, slot_line, write_fields};
+ghost use Rattle.trace.specs.Text.{content, text as text_of, cache_line, ended, event_line, front_text, header, input_fields, joined, line, mem_read_fields, mem_write_fields, read_fields, resize_fields, slot_line, write_fields};
+ghost use Rattle.trace.specs.Version.{IsVersion};
 ghost use Rattle.trace.specs.Words.{IsWidth};
 
 use crate::no_memory::NoMemory;
 use crate::push::{push_bytes, push_fixed, push_num};
 use crate::range::in_range;
 use crate::trace::Trace;
+use crate::version::{VERSION_1, VERSION_2, header_of, identity_in_version_1};
 use board::{DeviceKind, Event, EventKind, SlotSpec};
 use std::alloc::{AllocError, Allocator};
 
-/// Whether the trace has a text: the offset of each register access has three digits, its width is 1, 2
-/// or 4, and a value that is written is within that width. Each trace that was read has one.
+/// Whether the trace has a text: its version is 1 or 2, in version 1 each slot has the identity of that version, the
+/// offset of each register access has three digits, its width is 1, 2 or 4, and a value that is written is within that
+/// width. Each trace that was read has one.
 pub fn is_printable<A: Allocator>(trace: &Trace<A>) -> bool
     ensures { IsTrue result ↔ IsPrintable (content trace.now) }
 {
-    trace.events.iter().all(|event| has_line(&event.what))
+    is_version(trace.version)
+        && slots_have_lines(trace.version, &trace.slots)
+        && events_have_lines(&trace.events)
 }
 
-// Whether there is a line for it.
+// Whether there is such a version.
+fn is_version(version: u8) -> bool
+    ensures { IsTrue result ↔ IsVersion version }
+{
+    version == VERSION_1 || version == VERSION_2
+}
+
+// Whether there is a line for each slot in a version.
+fn slots_have_lines(version: u8, slots: &[SlotSpec]) -> bool
+    ensures { IsTrue result ↔ All (IsPrintableSlot version) slots.now }
+{
+    slots.iter().all(|slot| slot_has_line(version, slot))
+}
+
+// Whether there is one for the slot.
+fn slot_has_line(version: u8, slot: &SlotSpec) -> bool
+    ensures { IsTrue result ↔ IsPrintableSlot version slot.now }
+{
+    version != VERSION_1 || slot.identity == identity_in_version_1()
+}
+
+// Whether there is a line for each event.
+fn events_have_lines<A: Allocator>(events: &[Event<A>]) -> bool
+    ensures { IsTrue result ↔ All (λ event. IsPrintableKind event.what) events.now }
+{
+    events.iter().all(|event| has_line(&event.what))
+}
+
+// Whether there is one for what it is.
 fn has_line<A: Allocator>(what: &EventKind<A>) -> bool
     ensures { IsTrue result ↔ IsPrintableKind what.now }
 {
@@ -68,18 +101,22 @@ pub fn print_trace<A: Allocator>(alloc: A, trace: &Trace<A>) -> Result<Vec<u8, A
 {
     in_range(trace);
     let mut out = Vec::new(alloc);
-    push_front(&mut out, trace.cache)?;
-    push_slots(&mut out, &trace.slots)?;
+    push_front(&mut out, trace.version, trace.cache)?;
+    push_slots(&mut out, trace.version, &trace.slots)?;
     push_events(&mut out, &trace.events)?;
     Ok(out)
 }
 
 // Appends the lines of the slots.
-fn push_slots<A: Allocator>(out: &mut Vec<u8, A>, slots: &[SlotSpec]) -> Result<(), AllocError>
-    ensures { OnOk result (out.new.items ≡ out.old.items ++ joined (map slot_line slots.now)) }
+fn push_slots<A: Allocator>(
+    out: &mut Vec<u8, A>,
+    version: u8,
+    slots: &[SlotSpec],
+) -> Result<(), AllocError>
+    ensures { OnOk result (out.new.items ≡ out.old.items ++ joined (map (slot_line version) slots.now)) }
 {
     for slot in slots {
-        push_slot(out, slot)?;
+        push_slot(out, version, slot)?;
     }
     Ok(())
 }
@@ -113,11 +150,31 @@ fn push_pair<A: Allocator>(out: &mut Vec<u8, A>, a: u64, b: u64) -> Result<(), A
 }
 
 // Appends the first two lines.
-#[tactic(auto, unfolding(crate::specs::Text::cache_line))]
-fn push_front<A: Allocator>(out: &mut Vec<u8, A>, cache: u32) -> Result<(), AllocError>
-    ensures { OnOk result (out.new.items ≡ out.old.items ++ front_text cache) }
+fn push_front<A: Allocator>(out: &mut Vec<u8, A>, version: u8, cache: u32) -> Result<(), AllocError>
+    requires { IsVersion version }
+    ensures { OnOk result (out.new.items ≡ out.old.items ++ front_text version cache) }
 {
-    out.extend_from_slice(b"vreplay 1\ncache")?;
+    push_header(out, version)?;
+    push_cache(out, cache)?;
+    Ok(())
+}
+
+// Appends the first line.
+fn push_header<A: Allocator>(out: &mut Vec<u8, A>, version: u8) -> Result<(), AllocError>
+    requires { IsVersion version }
+    ensures { OnOk result (out.new.items ≡ out.old.items ++ ended (header version)) }
+{
+    out.extend_from_slice(header_of(version))?;
+    out.push(b'\n')?;
+    Ok(())
+}
+
+// Appends the line of the cache.
+#[tactic(auto, unfolding(crate::specs::Text::cache_line))]
+fn push_cache<A: Allocator>(out: &mut Vec<u8, A>, cache: u32) -> Result<(), AllocError>
+    ensures { OnOk result (out.new.items ≡ out.old.items ++ ended (cache_line cache)) }
+{
+    out.extend_from_slice(b"cache")?;
     push_next(out, u64::from(cache))?;
     out.push(b'\n')?;
     Ok(())
@@ -125,29 +182,37 @@ fn push_front<A: Allocator>(out: &mut Vec<u8, A>, cache: u32) -> Result<(), Allo
 
 // Appends the line of a slot.
 #[tactic(auto, unfolding(crate::specs::Text::slot_line))]
-fn push_slot<A: Allocator>(out: &mut Vec<u8, A>, slot: &SlotSpec) -> Result<(), AllocError>
-    ensures { OnOk result (out.new.items ≡ out.old.items ++ ended (slot_line slot.now)) }
+fn push_slot<A: Allocator>(
+    out: &mut Vec<u8, A>,
+    version: u8,
+    slot: &SlotSpec,
+) -> Result<(), AllocError>
+    ensures { OnOk result (out.new.items ≡ out.old.items ++ ended (slot_line version slot.now)) }
 {
     out.extend_from_slice(b"slot")?;
     push_pair(out, slot.base, slot.len)?;
     push_pair(out, slot.extent.start, slot.extent.count)?;
     push_device(out, slot.read_only, slot.cols, slot.rows)?;
+    if version == VERSION_2 {
+        out.push(b' ')?;
+        push_bytes(out, &slot.identity)?;
+    }
+    out.push(b'\n')?;
     Ok(())
 }
 
-// Appends the end of such a line: the mode, and the size of the console.
+// Appends the mode, and the size of the console, each after a space.
 fn push_device<A: Allocator>(
     out: &mut Vec<u8, A>,
     read_only: bool,
     cols: u16,
     rows: u16,
 ) -> Result<(), AllocError>
-    ensures { OnOk result (out.new.items ≡ out.old.items ++ 32 ∷ (mode read_only ++ 32 ∷ (num cols ++ 32 ∷ (num rows ++ 10 ∷ [])))) }
+    ensures { OnOk result (out.new.items ≡ out.old.items ++ 32 ∷ (mode read_only ++ 32 ∷ (num cols ++ 32 ∷ num rows))) }
 {
     out.extend_from_slice(if read_only { b" ro" } else { b" rw" })?;
     push_next(out, u64::from(cols))?;
     push_next(out, u64::from(rows))?;
-    out.push(b'\n')?;
     Ok(())
 }
 

@@ -37,6 +37,7 @@ fn slot_in_range(slot: &SlotSpec)
     let _count = slot.extent.count;
     let _cols = slot.cols;
     let _rows = slot.rows;
+    bytes_in_range(&slot.identity);
 }
 
 fn events_in_range<A: Allocator>(events: &[Event<A>])

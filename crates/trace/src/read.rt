@@ -1,38 +1,33 @@
 //! Reading a whole trace.
 
-ghost use Rattle.std.specs.Prelude.{◌≡◌, ◌≢◌, ◌≤◌, ◌++◌, ◌∷◌, ◌↔◌, IsTrue, IfOk, IfErr, OnOk};
+ghost use Rattle.std.specs.Prelude.{◌≡◌, ◌≢◌, ◌≤◌, IfOk, IfErr, OnOk};
 ghost use Rattle.trace.specs.Faults.{IsFault, IsCleanBefore};
-ghost use Rattle.trace.specs.Text.{Content, content, text as text_of, header};
+ghost use Rattle.trace.specs.Text.{Content, content, text as text_of};
 ghost use Rattle.trace.specs.Printable.{InRange, IsPrintable};
-ghost use Rattle.trace.specs.Refusals.{RefusesHead, IsSecond, RefusesSecond, AddsLine, RefusesLine, has_begun};
+ghost use Rattle.trace.specs.Refusals.{RefusesHead, IsFirst, IsSecond, RefusesSecond, AddsLine, RefusesLine, has_begun};
+ghost use Rattle.trace.specs.Version.{IsVersion};
 
 use crate::cut::{one, take_field, take_line};
 use crate::entry::entry_of;
 use crate::fault::{FaultKind, TraceFault};
 use crate::number::number_u32;
 use crate::trace::Trace;
+use crate::version::version_of;
 use crate::word::is_cache;
 use std::alloc::Allocator;
 
-/// Whether the line is that of the format and its version.
-fn is_header(line: &[u8]) -> bool
-    ensures { IsTrue result ↔ (line.now ≡ header) }
-{
-    matches!(line, b"vreplay 1")
-}
-
-/// What follows the first line, which is the header.
-fn after_header(text: &[u8]) -> Result<&[u8], FaultKind>
-    ensures ok { IfOk result (λ rest. text.now ≡ header ++ 10 ∷ rest.now) }
+/// The version that the first line names, and what follows it.
+fn after_header(text: &[u8]) -> Result<(u8, &[u8]), FaultKind>
+    ensures ok { IfOk result (λ x. IsFirst text.now x.0 x.1.now) }
     ensures err { IfErr result (λ fault. RefusesHead text.now fault) }
 {
     let Some((line, rest)) = take_line(text) else {
         return Err(FaultKind::Cut);
     };
-    if !is_header(line) {
+    let Some(version) = version_of(line) else {
         return Err(FaultKind::Header);
-    }
-    Ok(rest)
+    };
+    Ok((version, rest))
 }
 
 /// The capacity of the cache, from the second line, and what follows it.
@@ -87,15 +82,15 @@ fn read<A: Allocator + Copy>(alloc: A, text: &[u8]) -> Result<Trace<A>, TraceFau
     ensures numbered { IfErr result (λ e. 1 ≤ e.line) }
     ensures clean { IfErr result (λ e. IsCleanBefore text.now e.line) }
 {
-    let rest = match after_header(text) {
-        Ok(rest) => rest,
+    let (version, rest) = match after_header(text) {
+        Ok(found) => found,
         Err(kind) => return Err(TraceFault { line: 1, kind }),
     };
     let (cache, mut rest) = match cache_of(rest) {
         Ok(found) => found,
         Err(kind) => return Err(TraceFault { line: 2, kind }),
     };
-    let mut trace = Trace::new(alloc, cache);
+    let mut trace = Trace::new(alloc, version, cache);
     let mut line = 3;
     while !rest.is_empty() {
         let Some((this, after)) = take_line(rest) else {
@@ -117,11 +112,12 @@ fn add_line<A: Allocator + Copy>(
     trace: &mut Trace<A>,
     line: &[u8],
 ) -> Result<(), FaultKind>
+    requires { IsVersion trace.old.version }
     ensures ok { OnOk result (AddsLine (content trace.old) line.now (content trace.new)) }
-    ensures err { IfErr result (λ fault. RefusesLine (has_begun (content trace.old)) line.now fault) }
+    ensures err { IfErr result (λ fault. RefusesLine trace.old.version (has_begun (content trace.old)) line.now fault) }
 {
     let begun = !trace.events.is_empty();
-    let entry = match entry_of(alloc, line, begun) {
+    let entry = match entry_of(alloc, trace.version, line, begun) {
         Ok(entry) => entry,
         Err(fault) => return Err(fault),
     };

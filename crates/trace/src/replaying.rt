@@ -1,12 +1,14 @@
 //! Replaying a trace: from its text to the text of its records.
 
-ghost use Rattle.std.specs.Prelude.{◌≡◌, ◌≢◌, ◌<◌, [], Some, Err, IfErr, length, map};
+ghost use Rattle.std.specs.Prelude.{◌≡◌, ◌≢◌, ◌<◌, [], Some, Err, IfErr, IfOk, OnOk, length, map};
+ghost use Rattle.board.specs.Fault.{IsAccepted};
 ghost use Rattle.board.specs.Line.{events_done};
 ghost use Rattle.board.specs.Slot.{opened};
 ghost use Rattle.trace.specs.Pieces.{SendsRun};
 ghost use Rattle.trace.specs.declared.replay_fault.ReplayFault.{ReplayFault};
-ghost use Rattle.trace.specs.Replay.{AfterRun, EndsReading, Replays};
+ghost use Rattle.trace.specs.Replay.{AfterRun, EndsReading, HasTooMany, RefusesBoardOf, Replays};
 ghost use Rattle.trace.specs.Sends.{waiting};
+ghost use Rattle.trace.specs.Text.{content};
 
 use crate::buffer::Buffer;
 use crate::fault::{FaultKind, TraceFault};
@@ -15,7 +17,8 @@ use crate::read::read_trace;
 use crate::records::put_records;
 use crate::replay_fault::ReplayFault;
 use crate::trace::Trace;
-use board::{Board, Event, Record, RunStop};
+use crate::version::VERSION_1;
+use board::{Board, BoardFault, Event, Record, RunStop};
 use sector_cache::{Image, Refused};
 use std::alloc::Allocator;
 use std::io::{Read, Write};
@@ -28,6 +31,9 @@ const NO_ROOM: TraceFault = TraceFault {
 
 /// How many bytes of text wait for the writer at most.
 const TEXT_ROOM: usize = 65536;
+
+/// How many slots a trace of version 1 has at most.
+const MOST_SLOTS_IN_VERSION_1: usize = 16;
 
 /// How many events are run before the text of their records is sent.
 const PIECE: usize = 16;
@@ -64,10 +70,29 @@ pub fn replay_text<W: Write, I: Image, A: Allocator + Copy>(
         Ok(trace) => trace,
         Err(fault) => return (image, Err(ReplayFault::Trace(fault))),
     };
-    match Board::new(alloc, &trace.slots, image, trace.cache) {
+    match board_of(alloc, &trace, image) {
         Ok(board) => run_trace(alloc, board, &trace, writer),
         Err(Refused { image, why }) => (image, Err(ReplayFault::Board(why))),
     }
+}
+
+// The board of a trace over an image.
+fn board_of<I: Image, A: Allocator + Copy>(
+    alloc: A,
+    trace: &Trace<A>,
+    image: I,
+) -> Result<Board<I, A>, Refused<I, BoardFault>>
+    ensures made { IfOk result (λ board. board ≡ record { slots = map opened trace.now.slots.items; image = image }) }
+    ensures few { OnOk result (¬ HasTooMany (content trace.now)) }
+    ensures accepted { OnOk result (IsAccepted (I.disk image).sector_count trace.now.slots.items trace.now.cache) }
+    ensures fault { IfErr result (λ refused. RefusesBoardOf (I.disk image).sector_count (content trace.now) refused.why) }
+    ensures returned { IfErr result (λ refused. refused.image ≡ image) }
+{
+    if trace.version == VERSION_1 && trace.slots.len() > MOST_SLOTS_IN_VERSION_1 {
+        let why = BoardFault::TooManySlots;
+        return Err(Refused { image, why });
+    }
+    Board::new(alloc, &trace.slots, image, trace.cache)
 }
 
 // Runs the trace's events on its board, which is new, and writes the text of their records.

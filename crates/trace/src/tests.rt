@@ -13,6 +13,7 @@ mod refused_chain;
 mod replayed;
 mod spellings;
 mod two_guests;
+mod versions;
 
 use crate::{FaultKind, TraceFault, is_printable, print_trace, read_trace};
 use std::fmt::Debug;

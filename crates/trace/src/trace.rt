@@ -1,10 +1,12 @@
 //! What a trace is made of.
 
 ghost use Rattle.std.specs.Prelude.{◌≡◌, [], OnOk};
-ghost use Rattle.trace.specs.Text.{content};
+ghost use Rattle.trace.specs.Text.{as_version_2, content};
+ghost use Rattle.trace.specs.Printable.{IsPrintable};
 ghost use Rattle.trace.specs.Refusals.{with_entry};
 
 use crate::entry::Entry;
+use crate::version::VERSION_2;
 use board::{Event, SlotSpec};
 use std::alloc::{AllocError, Allocator, Global};
 
@@ -12,6 +14,8 @@ use std::alloc::{AllocError, Allocator, Global};
 #[derive(Drop)]
 #[derive_where(Debug)]
 pub struct Trace<A: Allocator = Global> {
+    /// The version of its text: 1 or 2.
+    pub version: u8,
     /// The capacity of the cache, in sectors.
     pub cache: u32,
     /// The slots, numbered from 0 in their order.
@@ -22,10 +26,11 @@ pub struct Trace<A: Allocator = Global> {
 
 impl<A: Allocator + Copy> Trace<A> {
     /// A trace with no slot and no event. This takes no memory.
-    pub(crate) fn new(alloc: A, cache: u32) -> Trace<A>
-        ensures { content result ≡ record { cache = cache; slots = []; events = [] } }
+    pub(crate) fn new(alloc: A, version: u8, cache: u32) -> Trace<A>
+        ensures { content result ≡ record { version = version; cache = cache; slots = []; events = [] } }
     {
         Trace {
+            version,
             cache,
             slots: Vec::new(alloc),
             events: Vec::new(alloc),
@@ -43,5 +48,16 @@ impl<A: Allocator> Trace<A> {
             Entry::Event(event) => self.events.push(event)?,
         }
         Ok(())
+    }
+}
+
+/// The same trace in version 2, in which each slot's line says the identity that the slot has. This takes no memory.
+pub fn to_version_2<A: Allocator>(trace: Trace<A>) -> Trace<A>
+    ensures same { content result ≡ as_version_2 (content trace) }
+    ensures printable { IsPrintable (content trace) → IsPrintable (content result) }
+{
+    Trace {
+        version: VERSION_2,
+        ..trace
     }
 }

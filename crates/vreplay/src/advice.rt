@@ -3,7 +3,7 @@
 ghost use Rattle.std.specs.Prelude.{◌≡◌, Err};
 
 use crate::fault::Fault;
-use crate::line_table::{Shape, field_at_fault, line_of, row_of};
+use crate::line_table::{Shape, field_at_fault, line_of, row_of, version_of};
 use crate::whose::{slot_at_fault, slot_of};
 use board::BoardFault;
 use guest_memory::MemoryFault;
@@ -35,10 +35,12 @@ pub enum Advice<'a> {
     Unsaved(&'a str),
     /// Standard output that can't be written.
     Output,
-    /// A line of a trace that is refused, and its text.
-    Line(TraceFault, &'a [u8]),
+    /// A line of a trace that is refused, its text, and the trace's version.
+    Line(TraceFault, &'a [u8], u8),
     /// A board that is refused, and the slot at which.
     Board(BoardFault, Option<usize>),
+    /// A trace of version 1 with more slots than that has.
+    ManySlots,
     /// How many calls of an image that was served in place failed, the first, and whose sector that was.
     Failed(&'a str, u64, FileFailure, Option<usize>),
     /// The numbers of the standard streams can't be held.
@@ -103,13 +105,16 @@ impl<'a> Advice<'a> {
             ReplayFault::Read => Advice::Unread("the trace"),
             ReplayFault::Trace(fault) => match fault.kind {
                 FaultKind::NoMemory => Advice::Memory("the trace"),
-                _ => Advice::Line(fault, line_of(text, fault.line)),
+                _ => Advice::Line(fault, line_of(text, fault.line), version_of(text)),
             },
             ReplayFault::Board(
                 BoardFault::NoMemory
                 | BoardFault::Memory(MemoryFault::NoMemory)
                 | BoardFault::Cache(CacheFault::NoMemory),
             ) => Advice::Memory("the board"),
+            ReplayFault::Board(BoardFault::TooManySlots) if version_of(text) == 1 => {
+                Advice::ManySlots
+            }
             ReplayFault::Board(fault) => Advice::Board(fault, None),
             ReplayFault::Run(_) | ReplayFault::NoMemory => Advice::Memory("the records"),
             ReplayFault::Write => Advice::Output,
@@ -162,8 +167,12 @@ impl Display for Advice<'_> {
             Advice::Unmade(name, error) => write!(f, "{name:?} can't be made: {error}"),
             Advice::Unsaved(name) => write!(f, "{name:?} can't be written whole"),
             Advice::Output => write!(f, "standard output can't be written"),
-            Advice::Line(fault, line) => write_line(f, *fault, line),
+            Advice::Line(fault, line, version) => write_line(f, *fault, line, *version),
             Advice::Board(fault, slot) => write_board(f, *fault, *slot),
+            Advice::ManySlots => write!(
+                f,
+                "the trace's board: in version 1 it has sixteen slots at most, in version 2 sixty-four"
+            ),
             Advice::Failed(name, count, first, slot) => {
                 write!(f, "{name:?}: {count} failed of its calls, first ")?;
                 write_failure(f, *first, *slot)
@@ -227,26 +236,31 @@ fn write_words<W: fmt::Write>(f: &mut Formatter<W>, words: &[String]) -> fmt::Re
 }
 
 // Why a line of a trace is refused.
-fn write_line<W: fmt::Write>(f: &mut Formatter<W>, fault: TraceFault, line: &[u8]) -> fmt::Result {
+fn write_line<W: fmt::Write>(
+    f: &mut Formatter<W>,
+    fault: TraceFault,
+    line: &[u8],
+    version: u8,
+) -> fmt::Result {
     let number = fault.line;
     write!(f, "line {number}: ")?;
     let wanted = match fault.kind {
         FaultKind::Cut => "each line ends with a line feed, and the first two are there",
-        FaultKind::Header => "the first line is \"vreplay 1\"",
+        FaultKind::Header => "the first line is \"vreplay 1\" or \"vreplay 2\"",
         FaultKind::Word if number == 2 => "the second line is the cache's, as \"cache 8\"",
         FaultKind::Word => "a line begins with slot, r, w, mr, mw, in or sz",
         FaultKind::Order => "slots stand before all events",
-        FaultKind::Fields => return write_fields(f, line),
-        kind => return write_field(f, kind, line),
+        FaultKind::Fields => return write_fields(f, line, version),
+        kind => return write_field(f, kind, line, version),
     };
     let shown = Shown(line);
     write!(f, "{wanted}; found {shown}")
 }
 
 // How many fields a line has, and how it was found.
-fn write_fields<W: fmt::Write>(f: &mut Formatter<W>, line: &[u8]) -> fmt::Result {
+fn write_fields<W: fmt::Write>(f: &mut Formatter<W>, line: &[u8], version: u8) -> fmt::Result {
     let shown = Shown(line);
-    let Some(row) = row_of(line) else {
+    let Some(row) = row_of(version, line) else {
         return write!(f, "found {shown}");
     };
     let word = row.word;
@@ -259,8 +273,13 @@ fn write_fields<W: fmt::Write>(f: &mut Formatter<W>, line: &[u8]) -> fmt::Result
 }
 
 // How the field is spelled that is at fault, and how it was found.
-fn write_field<W: fmt::Write>(f: &mut Formatter<W>, kind: FaultKind, line: &[u8]) -> fmt::Result {
-    let Some((shape, field)) = field_at_fault(line, kind) else {
+fn write_field<W: fmt::Write>(
+    f: &mut Formatter<W>,
+    kind: FaultKind,
+    line: &[u8],
+    version: u8,
+) -> fmt::Result {
+    let Some((shape, field)) = field_at_fault(version, line, kind) else {
         return write!(f, "{kind}");
     };
     let shown = Shown(field);
@@ -283,6 +302,9 @@ impl Display for Shape {
             Shape::Mode => "a slot is rw or ro",
             Shape::Bytes => {
                 "bytes are two lower case hexadecimal digits each, as 4142, or - for none"
+            }
+            Shape::Identity => {
+                "an identity is 20 bytes by two lower case hexadecimal digits each, so 40 digits"
             }
         };
         write!(f, "{how}")

@@ -17,6 +17,7 @@ pub enum Shape {
     Width,
     Mode,
     Bytes,
+    Identity,
 }
 
 /// How a line looks that begins with a word.
@@ -35,7 +36,7 @@ const COLUMNS: Shape = Shape::Number("a number of columns", 16);
 
 const ROWS: Shape = Shape::Number("a number of rows", 16);
 
-/// The lines from the second on.
+/// The lines from the second on, as they are in version 2.
 static TABLE: [Row; 8] = [
     Row {
         word: "cache",
@@ -52,8 +53,9 @@ static TABLE: [Row; 8] = [
             Shape::Mode,
             COLUMNS,
             ROWS,
+            Shape::Identity,
         ],
-        example: "slot 80000000 1000 0 8 rw 50 19",
+        example: "slot 80000000 1000 0 8 rw 50 19 6469736b2d300000000000000000000000000000",
     },
     Row {
         word: "r",
@@ -93,20 +95,45 @@ static TABLE: [Row; 8] = [
     },
 ];
 
-/// How a line looks that begins as this one.
-pub fn row_of(line: &[u8]) -> Option<Row> {
+/// How a line looks in version 1 that ends in an identity in version 2.
+static SHORT_EXAMPLE: &str = "slot 80000000 1000 0 8 rw 50 19";
+
+/// How a line looks that begins as this one, in a version of the format.
+pub fn row_of(version: u8, line: &[u8]) -> Option<Row> {
     let (word, _) = cut_at(line, b' ');
     for row in &TABLE {
         if row.word.as_bytes() == word {
-            return Some(*row);
+            return Some(row.in_version(version));
         }
     }
     None
 }
 
+impl Row {
+    // The line as it is in a version: the first leaves the identity out.
+    fn in_version(self, version: u8) -> Row {
+        match self.shapes {
+            [shapes @ .., Shape::Identity] if version == 1 => Row {
+                shapes,
+                example: SHORT_EXAMPLE,
+                ..self
+            },
+            _ => self,
+        }
+    }
+}
+
+/// The version that a text's first line names, where it names one.
+pub fn version_of(text: &[u8]) -> u8 {
+    match line_of(text, 1) {
+        b"vreplay 1" => 1,
+        _ => 2,
+    }
+}
+
 /// The first field of the line that has a fault of this kind, and how it is to be spelled.
-pub fn field_at_fault(line: &[u8], kind: FaultKind) -> Option<(Shape, &[u8])> {
-    let row = row_of(line)?;
+pub fn field_at_fault(version: u8, line: &[u8], kind: FaultKind) -> Option<(Shape, &[u8])> {
+    let row = row_of(version, line)?;
     let (_, mut rest) = cut_at(line, b' ');
     for shape in row.shapes {
         let (field, after) = cut_at(rest?, b' ');
@@ -151,7 +178,7 @@ impl Shape {
         match self {
             Shape::Number(..) | Shape::Offset | Shape::Value => FaultKind::Number,
             Shape::Window | Shape::Width | Shape::Mode => FaultKind::Choice,
-            Shape::Bytes => FaultKind::Bytes,
+            Shape::Bytes | Shape::Identity => FaultKind::Bytes,
         }
     }
 
@@ -162,7 +189,7 @@ impl Shape {
             Shape::Number(_, bits) => is_number(field, bits / 4),
             Shape::Offset => field.len() == 3 && are_digits(field),
             Shape::Window => matches!(field, b"b" | b"c"),
-            Shape::Value | Shape::Width | Shape::Mode | Shape::Bytes => false,
+            Shape::Value | Shape::Width | Shape::Mode | Shape::Bytes | Shape::Identity => false,
         }
     }
 }

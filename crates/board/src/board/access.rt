@@ -23,7 +23,7 @@ use sector_cache::Image;
 use std::alloc::Allocator;
 
 impl<I: Image, A: Allocator> Board<I, A> {
-    /// How many slots the board has, from 1 to 16. They are numbered from 0.
+    /// How many slots the board has, from 1 to 64. They are numbered from 0.
     pub fn slots(&self) -> usize
         ensures { result ≡ length self.now.slots }
     {

@@ -20,9 +20,9 @@ fn the_image_comes_back(rt: HostRuntime) -> Result<(), Fail> {
 type Numbered = (u8, bool);
 
 #[test]
-fn sixteen_slots_without_sectors_are_accepted(rt: HostRuntime) -> Result<(), Fail> {
-    let mut board = board(rt.alloc(), rt.alloc(), &[slot(0x1000, 3, 0); 16])?;
-    for numbered in &[(0, true), (15, true), (16, false)] {
+fn sixty_four_slots_without_sectors_are_accepted(rt: HostRuntime) -> Result<(), Fail> {
+    let mut board = board(rt.alloc(), rt.alloc(), &[slot(0x1000, 3, 0); 64])?;
+    for numbered in &[(0, true), (15, true), (16, true), (63, true), (64, false)] {
         check_there(&rt, rt.alloc(), &mut board, numbered)?;
     }
     Ok(())
@@ -63,7 +63,7 @@ fn each_fault_hands_the_image_back(rt: HostRuntime) -> Result<(), Fail> {
     let rest = slot(0x1000, 4, 4);
     for refused in &[
         (&[][..], 1, BoardFault::NoSlots),
-        (&[good; 17], 1, BoardFault::TooManySlots),
+        (&[good; 65], 1, BoardFault::TooManySlots),
         (&[slot(0x1800, 0, 4)], 1, BAD_SIZE),
         (&[odd], 1, BAD_BASE),
         (&[slot(0x1000, 4, 5)], 1, BoardFault::ExtentOutside),

@@ -82,7 +82,7 @@ impl<A: Allocator> Session<A> {
         self.board.memory(slot).map(|_| false)
     }
 
-    /// How many slots there are, from 1 to 16. They are numbered from 0.
+    /// How many slots there are, from 1 to 64. They are numbered from 0.
     pub fn slots(&self) -> usize
         ensures { result ≡ length self.now.slots }
     {

@@ -47,6 +47,10 @@ impl Image for BlindImage {
         4
     }
 
+    fn lend_sector(&self, _sector: u64) -> Option<&[u8; 512]> {
+        None
+    }
+
     fn read_sector(&mut self, _sector: u64, _into: &mut [u8; 512]) -> Result<(), ImageError> {
         if self.call_fails() {
             return Err(ImageError);

@@ -2,7 +2,7 @@
 
 use crate::tests::same;
 use crate::tests::sectors::{Call, Numbers, call_of, eight_sectors};
-use crate::{CacheFault, ScriptedImage, SectorCache};
+use crate::{CacheFault, Image, ScriptedImage, SectorCache};
 use refusing::RefusingHeap;
 use std::alloc::Global;
 use std::process::Abort;
@@ -43,9 +43,12 @@ fn each_request_of_new_is_refused(rt: HostRuntime) -> Result<(), Fail> {
     Ok(())
 }
 
-/// How many requests a cache of this capacity makes over an image of eight sectors.
-fn requests_of(alloc: Global, heap: &RefusingHeap, capacity: u32) -> Result<u64, Fail> {
-    let image = eight_sectors(alloc, &[])?;
+/// How many requests a cache of this capacity makes over an image.
+pub fn requests_of<I: Image + Drop>(
+    heap: &RefusingHeap,
+    image: I,
+    capacity: u32,
+) -> Result<u64, Fail> {
     heap.refuse_from(0);
     let _cache = SectorCache::new(heap, image, capacity).map_err(|refused| refused.why)?;
     Ok(heap.requests())
@@ -55,9 +58,9 @@ fn requests_of(alloc: Global, heap: &RefusingHeap, capacity: u32) -> Result<u64,
 #[test]
 fn room_is_for_the_sectors_that_there_are(rt: HostRuntime) -> Result<(), Fail> {
     let heap = RefusingHeap::new(rt.alloc());
-    let seven = requests_of(rt.alloc(), &heap, 7)?;
-    let eight = requests_of(rt.alloc(), &heap, 8)?;
-    let most = requests_of(rt.alloc(), &heap, 65536)?;
+    let seven = requests_of(&heap, eight_sectors(rt.alloc(), &[])?, 7)?;
+    let eight = requests_of(&heap, eight_sectors(rt.alloc(), &[])?, 8)?;
+    let most = requests_of(&heap, eight_sectors(rt.alloc(), &[])?, 65536)?;
     same(
         &rt,
         &"7, 8 and 65536",

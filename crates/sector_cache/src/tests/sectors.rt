@@ -1,7 +1,7 @@
 //! An image of sectors that tell their numbers, and calls of a cache over an image as plain values.
 
 use crate::{Image, ScriptedImage, SectorCache};
-use std::alloc::{Allocator, Global};
+use std::alloc::{AllocError, Allocator, Global};
 use std::test::Fail;
 
 /// A sector of one byte again and again.
@@ -9,14 +9,18 @@ pub fn filled(byte: u8) -> [u8; 512] {
     [byte; 512]
 }
 
-/// An image of eight sectors, of which each byte is 10 (hexadecimal) and the sector's number. The calls
-/// with these numbers fail.
-pub fn eight_sectors(alloc: Global, failing: &[u64]) -> Result<ScriptedImage, Fail> {
+/// The bytes of eight sectors, of which each byte is 10 (hexadecimal) and the sector's number.
+pub fn eight_bytes(alloc: Global) -> Result<Vec<u8>, AllocError> {
     let mut bytes = Vec::new(alloc);
     for byte in 0x10..0x18 {
         bytes.extend_from_slice(&filled(byte))?;
     }
-    Ok(ScriptedImage::new(bytes, failing.to_vec(alloc)?)?)
+    Ok(bytes)
+}
+
+/// An image of them. The calls with these numbers fail.
+pub fn eight_sectors(alloc: Global, failing: &[u64]) -> Result<ScriptedImage, Fail> {
+    Ok(ScriptedImage::new(eight_bytes(alloc)?, failing.to_vec(alloc)?)?)
 }
 
 /// A call of a cache; a write is of one byte over the whole sector.

@@ -49,6 +49,10 @@ impl Image for SwitchedImage {
         self.memory.sectors()
     }
 
+    fn lend_sector(&self, _sector: u64) -> Option<&[u8; 512]> {
+        None
+    }
+
     fn read_sector(&mut self, sector: u64, into: &mut [u8; 512]) -> Result<(), ImageError> {
         if self.call_fails() {
             return Err(ImageError);

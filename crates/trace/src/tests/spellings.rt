@@ -74,6 +74,9 @@ fn event_of(alloc: Global, slot: u8, what: What<'_>) -> Result<Event, AllocError
     Ok(Event { slot, what })
 }
 
+/// The identity that each slot of version 1 has.
+const IDENTITY: [u8; 20] = *b"vreplay-block\0\0\0\0\0\0\0";
+
 /// The slots that the text says.
 const SLOTS: [SlotSpec; 2] = [
     SlotSpec {
@@ -83,6 +86,7 @@ const SLOTS: [SlotSpec; 2] = [
         read_only: false,
         cols: 80,
         rows: 25,
+        identity: IDENTITY,
     },
     SlotSpec {
         base: u64::MAX,
@@ -94,6 +98,7 @@ const SLOTS: [SlotSpec; 2] = [
         read_only: true,
         cols: 65535,
         rows: 0,
+        identity: IDENTITY,
     },
 ];
 
@@ -150,7 +155,7 @@ const UNSPELLED: [What<'static>; 7] = [
 #[test]
 fn what_has_no_text(rt: HostRuntime) -> Result<(), Fail> {
     for what in UNSPELLED {
-        let mut trace = Trace::new(rt.alloc(), 1);
+        let mut trace = Trace::new(rt.alloc(), 1, 1);
         assert!(rt; is_printable(&trace));
         trace.events.push(event_of(rt.alloc(), 0, what)?)?;
         assert!(rt; !is_printable(&trace));

@@ -128,7 +128,7 @@ type Refused = (&'static [u8], &'static [u8]);
 /// Each kind of fault of a trace, and of its board.
 static REFUSED: [Refused; 16] = [
     (b"vreplay 1", b"fault trace 1 Cut\n"),
-    (b"vreplay 2\ncache 1\n", b"fault trace 1 Header\n"),
+    (b"vreplay 3\ncache 1\n", b"fault trace 1 Header\n"),
     (NO_TEXT, b"fault trace 2 Word\n"),
     (b"vreplay 1\ncache 1\nx\n", b"fault trace 3 Word\n"),
     (

@@ -15,7 +15,7 @@ fn expect_told(rt: &(impl Abort + AllocGlobal), call: Call<'_>, line: &str) -> R
 /// A trace of a call without words, and what is told of it.
 type Text = (&'static [u8], &'static str);
 
-static TEXTS: [Text; 13] = [
+static TEXTS: [Text; 23] = [
     (TRACE, ""),
     (
         b"",
@@ -26,12 +26,12 @@ static TEXTS: [Text; 13] = [
         "line 3: each line ends with a line feed, and the first two are there; found \"r 0 c 00\"\n",
     ),
     (
-        b"vreplay 2\n",
-        "line 1: the first line is \"vreplay 1\"; found \"vreplay 2\"\n",
+        b"vreplay 3\n",
+        "line 1: the first line is \"vreplay 1\" or \"vreplay 2\"; found \"vreplay 3\"\n",
     ),
     (
         b"\x7fELF\"\\\r\n",
-        "line 1: the first line is \"vreplay 1\"; found \"\\x7fELF\\\"\\\\\\x0d\"\n",
+        "line 1: the first line is \"vreplay 1\" or \"vreplay 2\"; found \"\\x7fELF\\\"\\\\\\x0d\"\n",
     ),
     (
         b"vreplay 1\nslot 0 1000 0 1 rw 50 19\n",
@@ -65,7 +65,56 @@ static TEXTS: [Text; 13] = [
         b"vreplay 1\ncache 0\nslot 0 1000 0 1 rw 50 19\n",
         "the trace's board: the cache: the capacity of the cache is not in 1..=65536 sectors\n",
     ),
+    // a slot line of each version
+    (
+        b"vreplay 1\ncache 1\nslot 0 1000 0 1 rw 50 19 6469736b2d300000000000000000000000000000\n",
+        "line 3: slot has 7 fields after it, each after one space, as \"slot 80000000 1000 0 8 rw 50 19\"; found \"slot 0 1000 0 1 rw 50 19 6469736b2d30000\"..\n",
+    ),
+    (
+        b"vreplay 2\ncache 1\nslot 0 1000 0 1 rw 50 19\n",
+        "line 3: slot has 8 fields after it, each after one space, as \"slot 80000000 1000 0 8 rw 50 19 6469736b2d300000000000000000000000000000\"; found \"slot 0 1000 0 1 rw 50 19\"\n",
+    ),
+    (
+        b"vreplay 2\ncache 1\nslot 0 1000 0 1 rw 50 19 -\n",
+        "line 3: an identity is 20 bytes by two lower case hexadecimal digits each, so 40 digits; found \"-\"\n",
+    ),
+    (
+        b"vreplay 2\ncache 1\nslot 0 1000 0 1 rw 50 19 6469736b2d30\n",
+        "line 3: an identity is 20 bytes by two lower case hexadecimal digits each, so 40 digits; found \"6469736b2d30\"\n",
+    ),
+    (
+        b"vreplay 2\ncache 1\nslot 0 1000 0 1 wr 50 19 -\n",
+        "line 3: a slot is rw or ro; found \"wr\"\n",
+    ),
+    (
+        b"vreplay 2\ncache 1\nslot 0 1000 0 1 wr 50 019 -\n",
+        "line 3: a number of rows is lower case hexadecimal digits without zeros in front, of 16 bits at most, as 1f; found \"019\"\n",
+    ),
+    (
+        b"vreplay 2\ncache 1\nin 0 6c7\n",
+        "line 3: bytes are two lower case hexadecimal digits each, as 4142, or - for none; found \"6c7\"\n",
+    ),
+    (
+        b"vreplay 2\ncache 1\nslot 0 1000 0 9 rw 50 19 6469736b2d300000000000000000000000000000\n",
+        "slot 0 (line 3): an extent passes the end of the image\n",
+    ),
+    (
+        SEVENTEEN,
+        "the trace's board: in version 1 it has sixteen slots at most, in version 2 sixty-four\n",
+    ),
+    (
+        b"vreplay 2\ncache 1\n",
+        "the trace's board: a board needs a slot\n",
+    ),
 ];
+
+/// Version 1 with seventeen slots.
+const SEVENTEEN: &[u8] = b"vreplay 1\ncache 1\n\
+slot 0 1000 0 0 rw 0 0\nslot 0 1000 0 0 rw 0 0\nslot 0 1000 0 0 rw 0 0\nslot 0 1000 0 0 rw 0 0\n\
+slot 0 1000 0 0 rw 0 0\nslot 0 1000 0 0 rw 0 0\nslot 0 1000 0 0 rw 0 0\nslot 0 1000 0 0 rw 0 0\n\
+slot 0 1000 0 0 rw 0 0\nslot 0 1000 0 0 rw 0 0\nslot 0 1000 0 0 rw 0 0\nslot 0 1000 0 0 rw 0 0\n\
+slot 0 1000 0 0 rw 0 0\nslot 0 1000 0 0 rw 0 0\nslot 0 1000 0 0 rw 0 0\nslot 0 1000 0 0 rw 0 0\n\
+slot 0 1000 0 0 rw 0 0\n";
 
 #[test]
 fn of_a_trace(rt: HostRuntime) -> Result<(), Fail> {
@@ -309,7 +358,7 @@ fn expect_told_of_files(rt: &(impl Abort + AllocGlobal), row: &Words) -> Result<
 type Silent = (&'static [&'static str], &'static [u8], End<'static>);
 
 static SILENT: [Silent; 4] = [
-    (&[], b"vreplay 2\n", (b"fault trace 1 Header\n", 1, 0)),
+    (&[], b"vreplay 3\n", (b"fault trace 1 Header\n", 1, 0)),
     (&["trace"], TRACE, (b"fault usage\n", 2, 0)),
     (&["trace", "none"], TRACE, (b"fault input\n", 3, 1)),
     (

@@ -134,7 +134,8 @@ fn guest(board: &mut Board) -> Result<(), Error> {
 fn main() -> Result<(), Box<dyn error::Error>> {
     let mut image = vec![0; 2 * 512];
     image[512..532].copy_from_slice(b"hello from sector 1\n");
-    let mut board = Board::new(&[Slot::new(MEMORY, 0x1_0000, 0..2)], &image, 8)?;
+    let slot = Slot::new(MEMORY, 0x1_0000, 0..2).identity("a disk of two".parse()?);
+    let mut board = Board::new(&[slot], &image, 8)?;
     thread::scope(|cpus| {
         cpus.spawn(|| guest(&mut board))
             .join()

@@ -9,5 +9,5 @@ loop-slot-init g c = sym (append-nil c.args.out.now.items) ∙ ap (λ (t : List 
 
 pub loop-slot-preserved : goal.loop-slot-preserved
 loop-slot-preserved g c =
-    c.in_ok-push_slot.ensures ∙ ap (λ (t : List ℕ). t ++ ended (slot_line (get_or c.args.slots.now c.loop-slot.slot-index no_slot))) c.loop-slot.invariant
-    ∙ joined_at slot_line c.args.out.now.items c.args.slots.now c.loop-slot.slot-index no_slot (omega arith)
+    c.in_ok-push_slot.ensures ∙ ap (λ (t : List ℕ). t ++ ended (slot_line c.args.version (get_or c.args.slots.now c.loop-slot.slot-index no_slot))) c.loop-slot.invariant
+    ∙ joined_at (slot_line c.args.version) c.args.out.now.items c.args.slots.now c.loop-slot.slot-index no_slot (omega arith)

@@ -1,25 +1,25 @@
 use Rattle.std.proofs.Common.{length, sym, ap, subst, arith}
-use Rattle.std.proofs.lemmas.Bool.{eqb-false, ltb-false, ltb-true}
+use Rattle.std.proofs.lemmas.Bool.{eqb-false, eqb-true, ltb-false, ltb-true}
 use Rattle.trace.specs.Text.{content}
 use Rattle.trace.specs.Refusals.{has_begun}
 use Rattle.trace.proofs.Heads.{head_clean, head_fault, second_fault}
-use Rattle.trace.proofs.Sofar.{Sofar, begun_so, clean, entry_read, is_cut, is_refused, numbered}
+use Rattle.trace.proofs.Sofar.{Sofar, all_read, begun_so, clean, entry_read, is_cut, is_refused, numbered}
 use Rattle.trace.proofs.read.read.Goals as goal
 
 pub returns-in-Err-clause-fault : goal.returns-in-Err-clause-fault
 returns-in-Err-clause-fault g c known = head_fault c.args.text.now c.in-Err.kind c.in-Err.ensures.err
 
 pub returns-in-Err-cache_of-clause-fault : goal.returns-in-Err-cache_of-clause-fault
-returns-in-Err-cache_of-clause-fault g c known = second_fault c.args.text.now c.in-Ok.rest.now c.in-Ok.ensures.ok c.in-Err-cache_of.kind c.in-Err-cache_of.ensures.err known
+returns-in-Err-cache_of-clause-fault g c known = second_fault c.in-Ok.found.0 c.args.text.now c.in-Ok.found.1.now c.in-Ok.ensures.ok.one_of c.in-Ok.ensures.ok.ended c.in-Err-cache_of.kind c.in-Err-cache_of.ensures.err known
 
 pub returns-in-Err-cache_of-clause-clean : goal.returns-in-Err-cache_of-clause-clean
-returns-in-Err-cache_of-clause-clean g c = head_clean c.args.text.now c.in-Ok.rest.now c.in-Ok.ensures.ok
+returns-in-Err-cache_of-clause-clean g c = head_clean c.in-Ok.found.0 c.args.text.now c.in-Ok.found.1.now c.in-Ok.ensures.ok.one_of c.in-Ok.ensures.ok.ended
 
 pub loop-rest-init : goal.loop-rest-init
 loop-rest-init g c =
     let second = c.in-Ok-cache_of.ensures.ok in
     subst (λ x. Sofar c.args.text.now x 3 c.in-Ok-cache_of.found.1.now) (sym c.new-trace.ensures)
-    (begun_so c.args.text.now c.in-Ok-cache_of.found.0 c.in-Ok.rest.now second.line c.in-Ok-cache_of.found.1.now c.in-Ok.ensures.ok second.ended second.fields second.fits)
+    (begun_so c.args.text.now c.in-Ok.found.0 c.in-Ok-cache_of.found.0 c.in-Ok.found.1.now second.line c.in-Ok-cache_of.found.1.now c.in-Ok.ensures.ok.one_of c.in-Ok.ensures.ok.ended second.ended second.fields second.fits)
 
 pub returns-in_default-clause-fault : goal.returns-in_default-clause-fault
 returns-in_default-clause-fault g c known =
@@ -49,3 +49,7 @@ overflow_add-line g c = let n = numbered c.args.text.now (content c.loop-rest.tr
 pub loop-rest-preserved : goal.loop-rest-preserved
 loop-rest-preserved g c =
     entry_read c.args.text.now (content c.loop-rest.trace) (content c.add_line.new.trace) c.loop-rest.line c.loop-rest.rest.now c.in-Some.this.now c.in-Some.after.now c.loop-rest.invariant c.in-Some.ensures.ended c.in_default-add_line.ensures.ok
+
+pub returns-clause-found : goal.returns-clause-found
+returns-clause-found g c =
+    all_read c.args.text.now (content c.loop-rest.trace) c.loop-rest.line c.loop-rest.rest.now c.loop-rest.invariant (eqb-true (length c.loop-rest.rest.now) 0 (sym c.loop-rest-test.ensures))

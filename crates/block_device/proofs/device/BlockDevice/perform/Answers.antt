@@ -1,3 +1,4 @@
+use Rattle.std.proofs.Common.{arith}
 use Rattle.block_device.proofs.Answering.{write_fits, zeroes_fit, done_rejected, done_flushed, done_unflushed, done_identity}
 use Rattle.block_device.specs.Extent.{extent_disk}
 use Rattle.block_device.proofs.device.BlockDevice.perform.Goals as goal
@@ -24,4 +25,4 @@ returns-in-Err-clause-done g c =
 
 pub returns-in-GetId-clause-done : goal.returns-in-GetId-clause-done
 returns-in-GetId-clause-done g c =
-    done_identity c.args.request c.args.chain.now c.args.mem.now c.write_at.new.mem (extent_disk c.args.self.now.extent (g.I.Image.disk c.args.cache.now)) c.in-GetId.is c.write_at.ensures.written
+    done_identity c.args.self.now.identity c.args.request c.args.chain.now c.args.mem.now c.write_at.new.mem (extent_disk c.args.self.now.extent (g.I.Image.disk c.args.cache.now)) (omega arith) c.in-GetId.is c.write_at.ensures.written

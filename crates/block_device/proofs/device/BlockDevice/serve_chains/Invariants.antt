@@ -4,7 +4,7 @@ use Rattle.block_device.proofs.device.BlockDevice.serve_chains.Given as goal
 
 abbrev pub invariant-loop-token : goal.invariant-loop-token
 invariant-loop-token g l =
-    IsInCourse l.self l.fn.mem l.mem l.fn.queue l.queue (g.I.Image.disk l.fn.cache) (g.I.Image.disk l.cache) l.failed
+    IsInCourse l.self l.fn.budget l.left l.fn.mem l.mem l.fn.queue l.queue (g.I.Image.disk l.fn.cache) (g.I.Image.disk l.cache) l.failed
 
 abbrev pub decreases-loop-token : goal.decreases-loop-token
 decreases-loop-token g l = left_of l.queue

@@ -13,6 +13,7 @@ slot_of g c = record {
   memory = c.self.inside.memory;
   extent = c.self.inside.block_device.extent;
   read_only = c.self.inside.block_device.read_only;
+  identity = c.self.inside.block_device.identity;
   block = c.self.inside.block;
   console = c.self.inside.console;
   pending = c.self.inside.console_device.pending;

@@ -1,0 +1,163 @@
+//! A piece of a service of the device's queue: opening, chains one after another, and closing.
+
+ghost use Rattle.std.specs.Prelude.{◌≡◌, ◌≤◌, Option, nat_lt};
+ghost use Rattle.guest_memory.specs.Memory.{SameRange};
+ghost use Rattle.mmio_window.specs.Queue.{LiesIn, made_as};
+ghost use Rattle.block_device.specs.Extent.{IsWithin, KeepsOutside};
+ghost use Rattle.block_device.specs.Serving.{BeginsQueue, GoesOnQueue, Stops, site_of};
+
+use crate::device::BlockDevice;
+use chain::{Budget, Chain, Fault};
+use guest_memory::GuestMemory;
+use mmio_window::Queue;
+use sector_cache::{Image, SectorCache};
+use std::alloc::Allocator;
+
+/// Why no more chains are served.
+#[derive(Clone, Copy, Debug, PartialEq, Eq)]
+pub(crate) enum Stop {
+    /// The budget is spent, and a chain is on offer.
+    Pause,
+    /// The service ends, by this fault if there is one.
+    End(Option<Fault>),
+}
+
+/// How a queue is left.
+#[derive(Clone, Copy, Debug, PartialEq, Eq)]
+pub(crate) enum Left {
+    /// Its service pauses.
+    Open,
+    /// Its service has ended.
+    Closed {
+        /// The fault that ended it, if one did.
+        fault: Option<Fault>,
+        /// Whether the driver wants a notification.
+        wanted: bool,
+    },
+}
+
+/// What came of the chains of a piece.
+#[derive(Clone, Copy, Debug, PartialEq, Eq)]
+pub(crate) struct Work {
+    pub(crate) stop: Stop,
+    /// Whether an image call failed.
+    pub(crate) failed: bool,
+}
+
+/// What came of a piece.
+#[derive(Clone, Copy, Debug, PartialEq, Eq)]
+pub(crate) struct Service {
+    pub(crate) left: Left,
+    /// Whether an image call failed.
+    pub(crate) failed: bool,
+}
+
+impl BlockDevice {
+    /// Opens a service and serves its first piece; after a fault of the opening it is closed at once.
+    pub(crate) fn serve_queue<I: Image, M: Allocator, C: Allocator + Copy>(
+        &self,
+        mem: &mut GuestMemory<M>,
+        queue: &mut Queue,
+        cache: &mut SectorCache<I, C>,
+        budget: Budget,
+    ) -> Service
+        requires queue { LiesIn mem.old queue.old }
+        requires lies { IsWithin (I.disk cache.old).sector_count self.now.extent }
+        ensures service { BeginsQueue self.now budget (site_of self.now mem.old queue.old (I.disk cache.old))
+            (site_of self.now mem.new queue.new (I.disk cache.new)) result.left }
+        ensures failed { result.failed ≡ nat_lt (I.disk cache.old).failures (I.disk cache.new).failures }
+        ensures rises { (I.disk cache.old).failures ≤ (I.disk cache.new).failures }
+        ensures outside { KeepsOutside self.now.extent (I.disk cache.old) (I.disk cache.new) }
+        ensures range { SameRange mem.old mem.new }
+        ensures made { made_as queue.new ≡ made_as queue.old }
+    {
+        match queue.open(mem) {
+            Ok(()) => self.serve_open(mem, queue, cache, budget),
+            Err(fault) => Service {
+                left: Left::Closed {
+                    fault: Some(fault),
+                    wanted: queue.close(mem),
+                },
+                failed: false,
+            },
+        }
+    }
+
+    /// Serves a piece of a service whose queue stands open, and closes it at its end.
+    pub(crate) fn serve_open<I: Image, M: Allocator, C: Allocator + Copy>(
+        &self,
+        mem: &mut GuestMemory<M>,
+        queue: &mut Queue,
+        cache: &mut SectorCache<I, C>,
+        budget: Budget,
+    ) -> Service
+        requires queue { LiesIn mem.old queue.old }
+        requires lies { IsWithin (I.disk cache.old).sector_count self.now.extent }
+        ensures service { GoesOnQueue self.now budget (site_of self.now mem.old queue.old (I.disk cache.old))
+            (site_of self.now mem.new queue.new (I.disk cache.new)) result.left }
+        ensures failed { result.failed ≡ nat_lt (I.disk cache.old).failures (I.disk cache.new).failures }
+        ensures rises { (I.disk cache.old).failures ≤ (I.disk cache.new).failures }
+        ensures outside { KeepsOutside self.now.extent (I.disk cache.old) (I.disk cache.new) }
+        ensures range { SameRange mem.old mem.new }
+        ensures made { made_as queue.new ≡ made_as queue.old }
+    {
+        let work = self.serve_chains(mem, queue, cache, budget);
+        let left = match work.stop {
+            Stop::Pause => Left::Open,
+            Stop::End(fault) => Left::Closed {
+                fault,
+                wanted: queue.close(mem),
+            },
+        };
+        Service {
+            left,
+            failed: work.failed,
+        }
+    }
+
+    /// Serves chains until none is on offer, one has a fault, or the budget is spent.
+    fn serve_chains<I: Image, M: Allocator, C: Allocator + Copy>(
+        &self,
+        mem: &mut GuestMemory<M>,
+        queue: &mut Queue,
+        cache: &mut SectorCache<I, C>,
+        budget: Budget,
+    ) -> Work
+        requires queue { LiesIn mem.old queue.old }
+        requires lies { IsWithin (I.disk cache.old).sector_count self.now.extent }
+        ensures stops { Stops self.now budget (site_of self.now mem.old queue.old (I.disk cache.old))
+            (site_of self.now mem.new queue.new (I.disk cache.new)) result.stop }
+        ensures failed { result.failed ≡ nat_lt (I.disk cache.old).failures (I.disk cache.new).failures }
+        ensures rises { (I.disk cache.old).failures ≤ (I.disk cache.new).failures }
+        ensures outside { KeepsOutside self.now.extent (I.disk cache.old) (I.disk cache.new) }
+        ensures range { SameRange mem.old mem.new }
+        ensures queue { LiesIn mem.new queue.new }
+        ensures made { made_as queue.new ≡ made_as queue.old }
+    {
+        let mut chain = Chain::new();
+        let mut left = budget;
+        let mut failed = false;
+        loop {
+            match queue.take(mem, &mut chain) {
+                Ok(Some(token)) => {
+                    if left.is_spent() {
+                        let stop = Stop::Pause;
+                        return Work { stop, failed };
+                    }
+                    left.spend(&chain);
+                    let answer = self.answer(mem, &chain, cache);
+                    queue.give(mem, token, answer.len, answer.wrote);
+                    failed = failed || answer.failed;
+                }
+                Ok(None) => {
+                    let stop = Stop::End(None);
+                    return Work { stop, failed };
+                }
+                Err(fault) => {
+                    let stop = Stop::End(Some(fault));
+                    return Work { stop, failed };
+                }
+            }
+        }
+    }
+}

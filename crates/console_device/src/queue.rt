@@ -1,0 +1,119 @@
+//! A piece of a service of either queue: opening, chains one after another, and closing.
+
+ghost use Rattle.std.specs.Prelude.{◌≡◌, Option};
+ghost use Rattle.guest_memory.specs.Memory.{SameRange};
+ghost use Rattle.mmio_window.specs.Queue.{LiesIn, made_as};
+ghost use Rattle.console_device.specs.Serving.{BeginsQueue, GoesOnQueue, Stops, site_of};
+
+use crate::no_memory::NoMemory;
+use crate::stream::Stream;
+use chain::{Budget, Chain, Fault};
+use guest_memory::GuestMemory;
+use mmio_window::Queue;
+use std::alloc::Allocator;
+
+/// Why no more chains are served.
+#[derive(Clone, Copy, Debug, PartialEq, Eq)]
+pub(crate) enum Stop {
+    /// The budget is spent, and a chain is on offer.
+    Pause,
+    /// The service ends, by this fault if there is one; or there is no memory for the chain on offer.
+    End(Result<Option<Fault>, NoMemory>),
+}
+
+/// How a queue is left.
+#[derive(Clone, Copy, Debug, PartialEq, Eq)]
+pub(crate) enum Left {
+    /// Its service pauses.
+    Open,
+    /// Its service has ended.
+    Closed {
+        /// The fault that ended it, if one did; or there was no memory for the chain on offer.
+        ending: Result<Option<Fault>, NoMemory>,
+        /// Whether the driver wants a notification.
+        wanted: bool,
+    },
+}
+
+/// Opens a service and serves its first piece; after a fault of the opening it is closed at once.
+pub(crate) fn serve_queue<S: Stream, M: Allocator>(
+    stream: &mut S,
+    mem: &mut GuestMemory<M>,
+    queue: &mut Queue,
+    budget: Budget,
+) -> Left
+    requires { LiesIn mem.old queue.old }
+    ensures service { BeginsQueue (S.device (S.limit stream.old)) budget (site_of mem.old queue.old (S.bytes stream.old))
+        (site_of mem.new queue.new (S.bytes stream.new)) result }
+    ensures range { SameRange mem.old mem.new }
+    ensures limit { S.limit stream.new ≡ S.limit stream.old }
+    ensures made { made_as queue.new ≡ made_as queue.old }
+{
+    match queue.open(mem) {
+        Ok(()) => serve_open(stream, mem, queue, budget),
+        Err(fault) => Left::Closed {
+            ending: Ok(Some(fault)),
+            wanted: queue.close(mem),
+        },
+    }
+}
+
+/// Serves a piece of a service whose queue stands open, and closes it at its end.
+pub(crate) fn serve_open<S: Stream, M: Allocator>(
+    stream: &mut S,
+    mem: &mut GuestMemory<M>,
+    queue: &mut Queue,
+    budget: Budget,
+) -> Left
+    requires { LiesIn mem.old queue.old }
+    ensures service { GoesOnQueue (S.device (S.limit stream.old)) budget (site_of mem.old queue.old (S.bytes stream.old))
+        (site_of mem.new queue.new (S.bytes stream.new)) result }
+    ensures range { SameRange mem.old mem.new }
+    ensures limit { S.limit stream.new ≡ S.limit stream.old }
+    ensures made { made_as queue.new ≡ made_as queue.old }
+{
+    match serve_chains(stream, mem, queue, budget) {
+        Stop::Pause => Left::Open,
+        Stop::End(ending) => Left::Closed {
+            ending,
+            wanted: queue.close(mem),
+        },
+    }
+}
+
+/// Serves chains until none is on offer or wanted, one has a fault, there is no memory for one, or the budget is
+/// spent.
+fn serve_chains<S: Stream, M: Allocator>(
+    stream: &mut S,
+    mem: &mut GuestMemory<M>,
+    queue: &mut Queue,
+    budget: Budget,
+) -> Stop
+    requires { LiesIn mem.old queue.old }
+    ensures stops { Stops (S.device (S.limit stream.old)) budget (site_of mem.old queue.old (S.bytes stream.old))
+        (site_of mem.new queue.new (S.bytes stream.new)) result }
+    ensures range { SameRange mem.old mem.new }
+    ensures limit { S.limit stream.new ≡ S.limit stream.old }
+    ensures lies { LiesIn mem.new queue.new }
+    ensures made { made_as queue.new ≡ made_as queue.old }
+{
+    let mut chain = Chain::new();
+    let mut left = budget;
+    while stream.takes() {
+        match queue.take(mem, &mut chain) {
+            Ok(Some(token)) => {
+                if left.is_spent() {
+                    return Stop::Pause;
+                }
+                left.spend(&chain);
+                match stream.serve(mem, &chain) {
+                    Ok(answer) => queue.give(mem, token, answer.len, answer.wrote),
+                    Err(why) => return Stop::End(Err(why)),
+                }
+            }
+            Ok(None) => return Stop::End(Ok(None)),
+            Err(fault) => return Stop::End(Ok(Some(fault))),
+        }
+    }
+    Stop::End(Ok(None))
+}

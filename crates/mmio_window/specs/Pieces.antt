@@ -1,0 +1,77 @@
+-- A service of a queue in pieces as its driver sees it, for any device. In a pause the queue stands open in the window,
+-- which shows nothing of the service yet.
+use Rattle.std.specs.Prelude.{◌≡◌, ℕ, Bool, Option, None, Some}
+use Rattle.guest_memory.specs.Memory.{Memory}
+use Rattle.chain.specs.declared.budget.Budget.{Budget}
+use Rattle.chain.specs.declared.budget.Progress.{Progress}
+use Rattle.chain.specs.declared.budget.Progress.TheVariants.{More, Done}
+use Rattle.chain.specs.Pieces.{IsPart, BeginsWithin, Pauses, EndsWithin, IsServiceWithin}
+use Rattle.chain.specs.Service.{Device, Ending, Spent}
+use Rattle.mmio_window.specs.declared.queue.Queue.{Queue}
+use Rattle.mmio_window.specs.Queue.{queue_kind}
+use Rattle.mmio_window.specs.Serving.{NothingHappens, after_service}
+use Rattle.mmio_window.specs.Window.{WindowState, with_ring}
+
+-- Some chains of this queue were served, in one piece or more, and it stands open.
+pub record IsPaused {State : Type 0} (device : Device State) (q : ℕ) (queue : Queue) (old new : Memory) (before after : WindowState) (s s' : State) : Type 0 where
+  pub last : Queue
+  pub part : IsPart queue_kind device (record { memory = old; ring = queue; state = s }) (record { memory = new; ring = last; state = s' })
+  pub window : after ≡ with_ring q before last
+
+-- The device begins to serve this queue, and pauses.
+pub record PausesIn {State : Type 0} (device : Device State) (budget : Budget) (q : ℕ) (queue : Queue) (old new : Memory) (before after : WindowState) (s s' : State) : Type 0 where
+  pub last : Queue
+  pub begins : BeginsWithin queue_kind device budget (record { memory = old; ring = queue; state = s }) (record { memory = new; ring = last; state = s' })
+  pub window : after ≡ with_ring q before last
+
+-- It goes on with this queue, which stands open, and pauses again.
+pub record GoesOnIn {State : Type 0} (device : Device State) (budget : Budget) (q : ℕ) (queue : Queue) (old new : Memory) (before after : WindowState) (s s' : State) : Type 0 where
+  pub last : Queue
+  pub pauses : Pauses queue_kind device budget (record { memory = old; ring = queue; state = s }) (record { memory = new; ring = last; state = s' })
+  pub window : after ≡ with_ring q before last
+
+-- It goes on with this queue to the end of its service.
+pub record EndsIn {State : Type 0} (device : Device State) (budget : Budget) (q : ℕ) (queue : Queue) (ending : Ending) (old new : Memory) (before after : WindowState) (s s' : State) : Type 0 where
+  pub last : Queue
+  pub wanted : Bool
+  pub ends : EndsWithin queue_kind device budget (record { memory = old; ring = queue; state = s }) (record { memory = new; ring = last; state = s' }) ending wanted
+  pub window : after ≡ after_service ending wanted (with_ring q before last)
+
+-- It serves this queue in one piece.
+pub record ServesWithin {State : Type 0} (device : Device State) (budget : Budget) (q : ℕ) (queue : Queue) (ending : Ending) (old new : Memory) (before after : WindowState) (s s' : State) : Type 0 where
+  pub last : Queue
+  pub wanted : Bool
+  pub service : IsServiceWithin queue_kind device budget (record { memory = old; ring = queue; state = s }) (record { memory = new; ring = last; state = s' }) ending wanted
+  pub window : after ≡ after_service ending wanted (with_ring q before last)
+
+-- What a notification of the queue q does that isn't paused, by the queue that the device may serve. Where there is
+-- none nothing happens.
+abbrev pub NotifiedWithin : {State : Type 0} → Device State → Budget → ℕ → Option Queue → Ending → Memory → Memory → WindowState → WindowState → State → State → Type 0
+NotifiedWithin device budget q None ending old new before after s s' = (ending ≡ Spent) × NothingHappens old new before after s s'
+NotifiedWithin device budget q (Some queue) ending old new before after s s' = ServesWithin device budget q queue ending old new before after s s'
+
+-- What comes of going on to the end, likewise.
+abbrev pub FinishesWithin : {State : Type 0} → Device State → Budget → ℕ → Option Queue → Ending → Memory → Memory → WindowState → WindowState → State → State → Type 0
+FinishesWithin device budget q None ending old new before after s s' = (ending ≡ Spent) × NothingHappens old new before after s s'
+FinishesWithin device budget q (Some queue) ending old new before after s s' = EndsIn device budget q queue ending old new before after s s'
+
+-- The same where nobody is told why the service ended.
+pub record IsNotifiedWithin {State : Type 0} (device : Device State) (budget : Budget) (q : ℕ) (queue : Option Queue) (old new : Memory) (before after : WindowState) (s s' : State) : Type 0 where
+  pub ending : Ending
+  pub notified : NotifiedWithin device budget q queue ending old new before after s s'
+
+pub record IsFinishedWithin {State : Type 0} (device : Device State) (budget : Budget) (q : ℕ) (queue : Option Queue) (old new : Memory) (before after : WindowState) (s s' : State) : Type 0 where
+  pub ending : Ending
+  pub finished : FinishesWithin device budget q queue ending old new before after s s'
+
+-- A notification within a budget, by how it came out.
+abbrev pub BeginsTo : {State : Type 0} → Device State → Budget → ℕ → Option Queue → Progress → Memory → Memory → WindowState → WindowState → State → State → Type 0
+BeginsTo device budget q queue Done old new before after s s' = IsNotifiedWithin device budget q queue old new before after s s'
+BeginsTo device budget q None More old new before after s s' = ⊥
+BeginsTo device budget q (Some queue) More old new before after s s' = PausesIn device budget q queue old new before after s s'
+
+-- Going on within a budget, likewise.
+abbrev pub GoesOnTo : {State : Type 0} → Device State → Budget → ℕ → Option Queue → Progress → Memory → Memory → WindowState → WindowState → State → State → Type 0
+GoesOnTo device budget q queue Done old new before after s s' = IsFinishedWithin device budget q queue old new before after s s'
+GoesOnTo device budget q None More old new before after s s' = ⊥
+GoesOnTo device budget q (Some queue) More old new before after s s' = GoesOnIn device budget q queue old new before after s s'

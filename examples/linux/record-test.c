@@ -1,0 +1,151 @@
+/*
+ * record-test FILE: a host with one guest, whose calls record.c writes to FILE and watch.c looks at. What must stand in
+ * FILE, FILE.records and FILE.mistakes was written by hand: record-test.trace and its neighbours. It is linked to the
+ * library, or to record-stub.c, which answers the same.
+ */
+#include <stdio.h>
+#include <stdlib.h>
+#include <string.h>
+
+#include "record.h"
+#include "watch.h"
+
+enum { BASE = 0x80000000u, LEN = 0x10000, SECTORS = 2, TABLE = 0x1000, AVAILABLE = 0x2000, HEADER = 0x4000 };
+
+static struct kalyubos board;
+static struct kalyubos_pending pending;
+static uint8_t *memory;
+
+static void must(bool holds, const char *what)
+{
+    if (!holds) {
+        fprintf(stderr, "record-test: %s\n", what);
+        exit(1);
+    }
+}
+
+static uint32_t try_to_write(uint8_t window, uint16_t offset, uint8_t width, uint32_t value)
+{
+    struct watch_call call = { WATCH_WRITE, 0, window, offset, width, value };
+    watch_before(&call);
+    uint32_t answer = record_write(&board, 0, window, offset, width, value, &pending);
+    watch_after(&board, &call, record_line());
+    return answer;
+}
+
+static void write_register(uint8_t window, uint16_t offset, uint8_t width, uint32_t value)
+{
+    must(try_to_write(window, offset, width, value) == KALYUBOS_DONE, "a write");
+}
+
+static uint32_t read_register(uint8_t window, uint16_t offset, uint8_t width)
+{
+    uint32_t value = 0;
+    must(record_read(&board, 0, window, offset, width, &value) == KALYUBOS_DONE, "a read");
+    watch_after(&board, &(struct watch_call){ WATCH_READ, 0, window, offset, width, 0 }, record_line());
+    return value;
+}
+
+/* Bytes of its memory change in three places, of which two are near; then its console puts a byte out. */
+static void use_memory_and_console(void)
+{
+    uint8_t taken[4];
+    size_t count = 0, took = 0;
+    memory[0x10] = 1;
+    memory[0x11] = 2;
+    memory[0x14] = 3;
+    memory[0x100] = 4;
+    write_register(KALYUBOS_CONSOLE, 0x108, 1, 0x12e);
+    must(record_take_output(&board, 0, taken, sizeof taken, &count) == KALYUBOS_DONE && count == 1 && taken[0] == '.',
+         "the output");
+    must(record_input(&board, 0, (const uint8_t *)"hi\n", 3, &took, &pending) == KALYUBOS_DONE && took == 3, "input");
+    must(record_resize(&board, 0, 100, 30, &pending) == KALYUBOS_DONE, "a resize");
+}
+
+/* Brings a window up with one split virtqueue of four places, at `areas`. */
+static void bring_up(uint8_t window, uint32_t queue, uint32_t areas)
+{
+    const struct {
+        uint16_t offset;
+        uint32_t value;
+    } writes[] = {
+        { 0x070, 0 },     { 0x070, 1 },     { 0x070, 3 },              { 0x024, 1 },
+        { 0x020, 1 },     { 0x070, 11 },    { 0x030, queue },          { 0x038, 4 },
+        { 0x080, areas }, { 0x090, areas + 0x1000 }, { 0x0a0, areas + 0x2000 }, { 0x044, 1 },
+    };
+    for (size_t i = 0; i < sizeof writes / sizeof *writes; i++)
+        write_register(window, writes[i].offset, 4, writes[i].value);
+}
+
+/* A read of the first sector that isn't there: the header, 512 bytes of data, the status. */
+static void ask_past_the_end(void)
+{
+    static const uint8_t DESCRIPTORS[] = {
+        0x00, 0x40, 0x00, 0x80, 0, 0, 0, 0, 0x10, 0x00, 0, 0, 1, 0, 1, 0,
+        0x00, 0x50, 0x00, 0x80, 0, 0, 0, 0, 0x00, 0x02, 0, 0, 3, 0, 2, 0,
+        0x00, 0x60, 0x00, 0x80, 0, 0, 0, 0, 0x01, 0x00, 0, 0, 2, 0, 0, 0,
+    };
+    memcpy(memory + TABLE, DESCRIPTORS, sizeof DESCRIPTORS);
+    memory[HEADER + 8] = SECTORS;
+    memory[AVAILABLE + 2] = 1;
+    write_register(KALYUBOS_BLOCK, 0x050, 4, 0);
+}
+
+/* The same chain once more, whose last descriptor now goes on to the first. */
+static void ask_in_a_circle(void)
+{
+    memory[TABLE + 0x2c] = 3;
+    memory[AVAILABLE + 2] = 2;
+    write_register(KALYUBOS_BLOCK, 0x050, 4, 0);
+}
+
+/* Two chains of ten bytes, where sixteen may wait: the notify is made twice. */
+static void transmit_more_than_fits(void)
+{
+    static const uint8_t DESCRIPTORS[] = {
+        0x00, 0xb0, 0x00, 0x80, 0, 0, 0, 0, 10, 0, 0, 0, 0, 0, 0, 0,
+        0x0a, 0xb0, 0x00, 0x80, 0, 0, 0, 0, 10, 0, 0, 0, 0, 0, 0, 0,
+    };
+    uint8_t taken[32];
+    size_t count = 0;
+    memcpy(memory + 0x8000, DESCRIPTORS, sizeof DESCRIPTORS);
+    memory[0x9002] = 2;
+    memory[0x9006] = 1;
+    memcpy(memory + 0xb000, "0123456789abcdefghij", 20);
+    must(try_to_write(KALYUBOS_CONSOLE, 0x050, 4, 1) == KALYUBOS_NO_ROOM && pending.output == 10, "a full outlet");
+    must(record_take_output(&board, 0, taken, sizeof taken, &count) == KALYUBOS_DONE && count == 10, "ten bytes");
+    must(try_to_write(KALYUBOS_CONSOLE, 0x050, 4, 1) == KALYUBOS_DONE && pending.output == 10, "the write again");
+}
+
+int main(int argc, char **argv)
+{
+    static const struct kalyubos_slot SLOT = {
+        .size = sizeof(struct kalyubos_slot), .base = BASE, .len = LEN, .count = SECTORS, .cols = 80, .rows = 25,
+        .outlet = 16, .identity = "a disk of two",
+    };
+    static const uint8_t IMAGE[SECTORS * 512];
+    char told[4096];
+    size_t len;
+    must(argc == 2 && record_to(argv[1]), "a file is wanted");
+    snprintf(told, sizeof told, "%s.mistakes", argv[1]);
+    FILE *mistakes = fopen(told, "w");
+    must(mistakes != NULL, told);
+    must(record_create(&board, &SLOT, 1, IMAGE, sizeof IMAGE, 1) == KALYUBOS_DONE, "create");
+    must(kalyubos_memory(&board, 0, &memory, &len) == KALYUBOS_DONE && len == LEN, "the memory");
+    watch_guest(0, &(struct queue_memory){ BASE, memory, LEN }, mistakes);
+    must(read_register(KALYUBOS_BLOCK, 0x000, 4) == 0x74726976, "MagicValue");
+    use_memory_and_console();
+    bring_up(KALYUBOS_BLOCK, 0, BASE + TABLE);
+    write_register(KALYUBOS_BLOCK, 0x050, 4, 0);
+    write_register(KALYUBOS_BLOCK, 0x070, 4, 15);
+    ask_past_the_end();
+    ask_in_a_circle();
+    must(read_register(KALYUBOS_BLOCK, 0x070, 4) == 0x4f, "Status");
+    must(read_register(KALYUBOS_BLOCK, 0x070, 1) == 0, "a byte of Status");
+    bring_up(KALYUBOS_CONSOLE, 1, BASE + 0x8000);
+    write_register(KALYUBOS_CONSOLE, 0x070, 4, 15);
+    transmit_more_than_fits();
+    must(watch_count(0) == 4, "four mistakes");
+    must(kalyubos_destroy(&board) == KALYUBOS_DONE && record_end() && fclose(mistakes) == 0, "the end");
+    return 0;
+}

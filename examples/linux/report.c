@@ -1,0 +1,67 @@
+/* The report of report.h. */
+#include "report.h"
+
+#include <stdlib.h>
+
+#include "board.h"
+#include "files.h"
+#include "words.h"
+
+/* FNV-1a of 64 bits. */
+static uint64_t sum_of(const uint8_t *bytes, size_t len)
+{
+    uint64_t sum = 0xcbf29ce484222325;
+    for (size_t i = 0; i < len; i++)
+        sum = (sum ^ bytes[i]) * 0x100000001b3;
+    return sum;
+}
+
+void report_disk(size_t guest, size_t start, size_t len, const char *folder, const char *kept)
+{
+    uint8_t *bytes = malloc(len);
+    FILE *file = create_file(folder, guest, "disk");
+    if (bytes == NULL)
+        fail("the disk's bytes");
+    board_image(start, bytes, len);
+    if (fwrite(bytes, 1, len, file) != len || fclose(file) != 0)
+        fail("the disk's file");
+    if (kept != NULL)
+        replace_file(kept, bytes, len);
+    free(bytes);
+}
+
+static void report_window(FILE *report, const char *name, const struct machine_counts *counts)
+{
+    fprintf(report, "%s: %llu reads, %llu writes, %llu interrupts\n", name, (unsigned long long)counts->reads,
+            (unsigned long long)counts->writes, (unsigned long long)counts->rises);
+}
+
+/* Shows what was told of a guest's drivers. */
+static void show_mistakes(const struct machine *machine)
+{
+    char line[1024];
+    size_t count = board_mistakes(machine->slot);
+    if (count > 0)
+        printf("guest %u: its drivers did wrong %zu times\n", machine->slot, count);
+    rewind(machine->mistakes);
+    while (fgets(line, sizeof line, machine->mistakes) != NULL)
+        printf("  %s", line);
+}
+
+bool report_machine(const struct machine *machine, const char *folder)
+{
+    FILE *report = create_file(folder, machine->slot, "report");
+    fprintf(report, "%s after %llu cycles\n", machine->off ? "off" : "still on",
+            (unsigned long long)machine->cpu.cycles);
+    report_window(report, "block", &machine->counts[0]);
+    report_window(report, "console", &machine->counts[1]);
+    fprintf(report, "memory: %016llx\n", (unsigned long long)sum_of(board_memory(machine->slot), MEMORY_LEN));
+    fclose(report);
+    fclose(machine->terminal.log);
+    fclose(machine->early);
+    if (machine->refused > 0)
+        printf("guest %u: %llu writes were made again\n", machine->slot, (unsigned long long)machine->refused);
+    show_mistakes(machine);
+    fclose(machine->mistakes);
+    return machine->off;
+}
