@@ -60,6 +60,7 @@ impl BlockDevice {
         queue: &mut Queue,
         cache: &mut SectorCache<I, C>,
         budget: Budget,
+        chain: &mut Chain,
     ) -> Service
         requires queue { LiesIn mem.old queue.old }
         requires lies { IsWithin (I.disk cache.old).sector_count self.now.extent }
@@ -72,7 +73,7 @@ impl BlockDevice {
         ensures made { made_as queue.new ≡ made_as queue.old }
     {
         match queue.open(mem) {
-            Ok(()) => self.serve_open(mem, queue, cache, budget),
+            Ok(()) => self.serve_open(mem, queue, cache, budget, chain),
             Err(fault) => Service {
                 left: Left::Closed {
                     fault: Some(fault),
@@ -90,6 +91,7 @@ impl BlockDevice {
         queue: &mut Queue,
         cache: &mut SectorCache<I, C>,
         budget: Budget,
+        chain: &mut Chain,
     ) -> Service
         requires queue { LiesIn mem.old queue.old }
         requires lies { IsWithin (I.disk cache.old).sector_count self.now.extent }
@@ -101,7 +103,7 @@ impl BlockDevice {
         ensures range { SameRange mem.old mem.new }
         ensures made { made_as queue.new ≡ made_as queue.old }
     {
-        let work = self.serve_chains(mem, queue, cache, budget);
+        let work = self.serve_chains(mem, queue, cache, budget, chain);
         let left = match work.stop {
             Stop::Pause => Left::Open,
             Stop::End(fault) => Left::Closed {
@@ -122,6 +124,7 @@ impl BlockDevice {
         queue: &mut Queue,
         cache: &mut SectorCache<I, C>,
         budget: Budget,
+        chain: &mut Chain,
     ) -> Work
         requires queue { LiesIn mem.old queue.old }
         requires lies { IsWithin (I.disk cache.old).sector_count self.now.extent }
@@ -134,18 +137,17 @@ impl BlockDevice {
         ensures queue { LiesIn mem.new queue.new }
         ensures made { made_as queue.new ≡ made_as queue.old }
     {
-        let mut chain = Chain::new();
         let mut left = budget;
         let mut failed = false;
         loop {
-            match queue.take(mem, &mut chain) {
+            match queue.take(mem, chain) {
                 Ok(Some(token)) => {
                     if left.is_spent() {
                         let stop = Stop::Pause;
                         return Work { stop, failed };
                     }
-                    left.spend(&chain);
-                    let answer = self.answer(mem, &chain, cache);
+                    left.spend(chain);
+                    let answer = self.answer(mem, chain, cache);
                     queue.give(mem, token, answer.len, answer.wrote);
                     failed = failed || answer.failed;
                 }

@@ -12,7 +12,7 @@ ghost use Rattle.block_device.specs.Serving.{progress_of, shown};
 
 use crate::device::BlockDevice;
 use crate::queue::Left;
-use chain::{Budget, Progress};
+use chain::{Budget, Chain, Progress};
 use guest_memory::GuestMemory;
 use mmio_window::Window;
 use sector_cache::{Image, SectorCache};
@@ -35,12 +35,13 @@ const NOTHING: Piece = Piece {
 impl BlockDevice {
     /// Serves the chains that are on offer (2.7.13, 5.2.6), in the window of this device. Answers true exactly
     /// where the number of the image's failures rose. Where the window isn't live or its queue not ready,
-    /// nothing happens.
+    /// nothing happens. `room` is where its chains stand, one after another: what it holds before is of no account.
     pub fn serve<I: Image, M: Allocator, C: Allocator + Copy>(
         &self,
         mem: &mut GuestMemory<M>,
         window: &mut Window,
         cache: &mut SectorCache<I, C>,
+        room: &mut Chain,
     ) -> bool
         requires sound { IsSound mem.old window.old }
         requires lies { IsWithin (I.disk cache.old).sector_count self.now.extent }
@@ -61,7 +62,7 @@ impl BlockDevice {
         ensures range { SameRange mem.old mem.new }
         ensures sound { IsSound mem.new window.new }
     {
-        self.serve_some(mem, window, cache, Budget::UNLIMITED)
+        self.serve_some(mem, window, cache, Budget::UNLIMITED, room)
             .failed
     }
 
@@ -73,6 +74,7 @@ impl BlockDevice {
         window: &mut Window,
         cache: &mut SectorCache<I, C>,
         budget: Budget,
+        room: &mut Chain,
     ) -> Piece
         requires sound { IsSound mem.old window.old }
         requires lies { IsWithin (I.disk cache.old).sector_count self.now.extent }
@@ -88,7 +90,7 @@ impl BlockDevice {
         let Some(queue) = window.queue(0) else {
             return NOTHING;
         };
-        let service = self.serve_queue(mem, queue, cache, budget);
+        let service = self.serve_queue(mem, queue, cache, budget, room);
         Piece {
             progress: show(window, service.left),
             failed: service.failed,
@@ -102,6 +104,7 @@ impl BlockDevice {
         window: &mut Window,
         cache: &mut SectorCache<I, C>,
         budget: Budget,
+        room: &mut Chain,
     ) -> Piece
         requires sound { IsSound mem.old window.old }
         requires lies { IsWithin (I.disk cache.old).sector_count self.now.extent }
@@ -117,7 +120,7 @@ impl BlockDevice {
         let Some(queue) = window.queue(0) else {
             return NOTHING;
         };
-        let service = self.serve_open(mem, queue, cache, budget);
+        let service = self.serve_open(mem, queue, cache, budget, room);
         Piece {
             progress: show(window, service.left),
             failed: service.failed,

@@ -24,6 +24,7 @@ use crate::features;
 use crate::reply::Reply;
 use crate::spec::SlotSpec;
 use block_device::BlockDevice;
+use chain::Chain;
 use console_device::{ConsoleDevice, Outlet};
 use guest_memory::GuestMemory;
 use mmio_window::{DeviceKind, Window};
@@ -39,6 +40,8 @@ pub(crate) struct Slot<A: Allocator = Global> {
     block: Window,
     console_device: ConsoleDevice<A>,
     console: Window,
+    // The room for each chain of both devices' services, one after another. What it holds between them isn't seen.
+    chain: Chain,
     // Whether an event of the slot has met a refusal.
     disturbed: bool,
 }
@@ -90,6 +93,7 @@ impl<A: Allocator + Copy> Slot<A> {
             block: Window::new(DeviceKind::Block, features::of_block(spec.read_only)),
             console_device,
             console: Window::new(DeviceKind::Console, features::of_console()),
+            chain: Chain::new(),
             disturbed: false,
         })
     }

@@ -41,6 +41,7 @@ pub(crate) fn serve_queue<S: Stream, M: Allocator>(
     mem: &mut GuestMemory<M>,
     queue: &mut Queue,
     budget: Budget,
+    chain: &mut Chain,
 ) -> Left
     requires { LiesIn mem.old queue.old }
     ensures service { BeginsQueue (S.device (S.limit stream.old)) budget (site_of mem.old queue.old (S.bytes stream.old))
@@ -50,7 +51,7 @@ pub(crate) fn serve_queue<S: Stream, M: Allocator>(
     ensures made { made_as queue.new ≡ made_as queue.old }
 {
     match queue.open(mem) {
-        Ok(()) => serve_open(stream, mem, queue, budget),
+        Ok(()) => serve_open(stream, mem, queue, budget, chain),
         Err(fault) => Left::Closed {
             ending: Ok(Some(fault)),
             wanted: queue.close(mem),
@@ -64,6 +65,7 @@ pub(crate) fn serve_open<S: Stream, M: Allocator>(
     mem: &mut GuestMemory<M>,
     queue: &mut Queue,
     budget: Budget,
+    chain: &mut Chain,
 ) -> Left
     requires { LiesIn mem.old queue.old }
     ensures service { GoesOnQueue (S.device (S.limit stream.old)) budget (site_of mem.old queue.old (S.bytes stream.old))
@@ -72,7 +74,7 @@ pub(crate) fn serve_open<S: Stream, M: Allocator>(
     ensures limit { S.limit stream.new ≡ S.limit stream.old }
     ensures made { made_as queue.new ≡ made_as queue.old }
 {
-    match serve_chains(stream, mem, queue, budget) {
+    match serve_chains(stream, mem, queue, budget, chain) {
         Stop::Pause => Left::Open,
         Stop::End(ending) => Left::Closed {
             ending,
@@ -88,6 +90,7 @@ fn serve_chains<S: Stream, M: Allocator>(
     mem: &mut GuestMemory<M>,
     queue: &mut Queue,
     budget: Budget,
+    chain: &mut Chain,
 ) -> Stop
     requires { LiesIn mem.old queue.old }
     ensures stops { Stops (S.device (S.limit stream.old)) budget (site_of mem.old queue.old (S.bytes stream.old))
@@ -97,16 +100,15 @@ fn serve_chains<S: Stream, M: Allocator>(
     ensures lies { LiesIn mem.new queue.new }
     ensures made { made_as queue.new ≡ made_as queue.old }
 {
-    let mut chain = Chain::new();
     let mut left = budget;
     while stream.takes() {
-        match queue.take(mem, &mut chain) {
+        match queue.take(mem, chain) {
             Ok(Some(token)) => {
                 if left.is_spent() {
                     return Stop::Pause;
                 }
-                left.spend(&chain);
-                match stream.serve(mem, &chain) {
+                left.spend(chain);
+                match stream.serve(mem, chain) {
                     Ok(answer) => queue.give(mem, token, answer.len, answer.wrote),
                     Err(why) => return Stop::End(Err(why)),
                 }

@@ -15,15 +15,21 @@ use crate::device::ConsoleDevice;
 use crate::no_memory::NoMemory;
 use crate::outlet::Outlet;
 use crate::queue::{Left, serve_open, serve_queue};
-use chain::{Budget, Progress};
+use chain::{Budget, Chain, Progress};
 use guest_memory::GuestMemory;
 use mmio_window::Window;
 use std::alloc::Allocator;
 
 impl<A: Allocator> ConsoleDevice<A> {
     /// Puts pending input into the chains on offer (5.3.6), in the window of this device. Where the window
-    /// isn't live or its receive queue not ready, nothing happens.
-    pub fn serve_receive<M: Allocator>(&mut self, mem: &mut GuestMemory<M>, window: &mut Window)
+    /// isn't live or its receive queue not ready, nothing happens. `room` is where the chains stand, one after
+    /// another: what it holds before is of no account.
+    pub fn serve_receive<M: Allocator>(
+        &mut self,
+        mem: &mut GuestMemory<M>,
+        window: &mut Window,
+        room: &mut Chain,
+    )
         requires sound { IsSound mem.old window.old }
         ensures served { IsNotified receive 0 (queue_at 0 window.old) mem.old mem.new
             window.old window.new self.old.pending self.new.pending }
@@ -31,7 +37,7 @@ impl<A: Allocator> ConsoleDevice<A> {
         ensures range { SameRange mem.old mem.new }
         ensures sound { IsSound mem.new window.new }
     {
-        let _ = self.serve_receive_some(mem, window, Budget::UNLIMITED);
+        let _ = self.serve_receive_some(mem, window, Budget::UNLIMITED, room);
     }
 
     /// The same within a budget: where that is spent, input is still pending and one more chain is on offer, the
@@ -42,6 +48,7 @@ impl<A: Allocator> ConsoleDevice<A> {
         mem: &mut GuestMemory<M>,
         window: &mut Window,
         budget: Budget,
+        room: &mut Chain,
     ) -> Progress
         requires sound { IsSound mem.old window.old }
         ensures served { BeginsTo receive budget 0 (queue_at 0 window.old) result mem.old mem.new
@@ -53,7 +60,7 @@ impl<A: Allocator> ConsoleDevice<A> {
         let Some(queue) = window.queue(0) else {
             return Progress::Done;
         };
-        let left = serve_queue(&mut self.pending, mem, queue, budget);
+        let left = serve_queue(&mut self.pending, mem, queue, budget, room);
         show(window, left).unwrap_or(Progress::Done)
     }
 
@@ -63,6 +70,7 @@ impl<A: Allocator> ConsoleDevice<A> {
         mem: &mut GuestMemory<M>,
         window: &mut Window,
         budget: Budget,
+        room: &mut Chain,
     ) -> Progress
         requires sound { IsSound mem.old window.old }
         ensures served { GoesOnTo receive budget 0 (queue_at 0 window.old) result mem.old mem.new
@@ -74,18 +82,19 @@ impl<A: Allocator> ConsoleDevice<A> {
         let Some(queue) = window.queue(0) else {
             return Progress::Done;
         };
-        let left = serve_open(&mut self.pending, mem, queue, budget);
+        let left = serve_open(&mut self.pending, mem, queue, budget, room);
         show(window, left).unwrap_or(Progress::Done)
     }
 
     /// Puts out the chains on offer (5.3.6), in the window of this device, behind what stands in `out`. A chain
     /// for which there is no memory stays on offer, and those before it are used. Where the window isn't live
-    /// or its transmit queue not ready, nothing happens.
+    /// or its transmit queue not ready, nothing happens. `room` is as in `serve_receive`.
     pub fn serve_transmit<M: Allocator, O: Outlet>(
         &mut self,
         mem: &mut GuestMemory<M>,
         window: &mut Window,
         out: &mut O,
+        room: &mut Chain,
     ) -> Result<(), NoMemory>
         requires sound { IsSound mem.old window.old }
         ensures ok { OnOk result (IsNotified exact_transmit 1 (queue_at 1 window.old) mem.old mem.new
@@ -103,7 +112,7 @@ impl<A: Allocator> ConsoleDevice<A> {
         ensures range { SameRange mem.old mem.new }
         ensures sound { IsSound mem.new window.new }
     {
-        self.serve_transmit_some(mem, window, out, Budget::UNLIMITED)?;
+        self.serve_transmit_some(mem, window, out, Budget::UNLIMITED, room)?;
         Ok(())
     }
 
@@ -116,6 +125,7 @@ impl<A: Allocator> ConsoleDevice<A> {
         window: &mut Window,
         out: &mut O,
         budget: Budget,
+        room: &mut Chain,
     ) -> Result<Progress, NoMemory>
         requires sound { IsSound mem.old window.old }
         ensures ok { IfOk result (λ progress. BeginsTo (transmit_fitting (O.limit out.old)) budget 1
@@ -130,7 +140,7 @@ impl<A: Allocator> ConsoleDevice<A> {
         let Some(queue) = window.queue(1) else {
             return Ok(Progress::Done);
         };
-        let left = serve_queue(out, mem, queue, budget);
+        let left = serve_queue(out, mem, queue, budget, room);
         show(window, left)
     }
 
@@ -141,6 +151,7 @@ impl<A: Allocator> ConsoleDevice<A> {
         window: &mut Window,
         out: &mut O,
         budget: Budget,
+        room: &mut Chain,
     ) -> Result<Progress, NoMemory>
         requires sound { IsSound mem.old window.old }
         ensures ok { IfOk result (λ progress. GoesOnTo (transmit_fitting (O.limit out.old)) budget 1
@@ -155,7 +166,7 @@ impl<A: Allocator> ConsoleDevice<A> {
         let Some(queue) = window.queue(1) else {
             return Ok(Progress::Done);
         };
-        let left = serve_open(out, mem, queue, budget);
+        let left = serve_open(out, mem, queue, budget, room);
         show(window, left)
     }
 }

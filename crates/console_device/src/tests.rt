@@ -10,6 +10,7 @@ mod refused;
 mod transmit;
 
 use crate::{ConsoleDevice, NoMemory};
+use chain::Chain;
 use guest_memory::GuestMemory;
 use mmio_window::{DeviceKind, Window};
 use negotiation::{Features, Flags};
@@ -180,7 +181,7 @@ fn after_receive(console: &mut ConsoleDevice, mem: &mut GuestMemory, window: &mu
     requires { IsSound mem.old window.old }
     ensures { IsSound mem.new window.new }
 {
-    console.serve_receive(mem, window);
+    console.serve_receive(mem, window, &mut Chain::new());
     look(mem, window)
 }
 
@@ -194,6 +195,6 @@ fn after_transmit<B: Allocator>(
     requires { IsSound mem.old window.old }
     ensures { IsSound mem.new window.new }
 {
-    let answer = console.serve_transmit(mem, window, out);
+    let answer = console.serve_transmit(mem, window, out, &mut Chain::new());
     (answer, look(mem, window))
 }

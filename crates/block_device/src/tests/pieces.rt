@@ -4,7 +4,7 @@ ghost use Rattle.std.specs.Prelude.{◌≡◌};
 ghost use Rattle.mmio_window.specs.Soundness.{IsSound};
 
 use crate::tests::{BASE, DATA, Guest, HEADER, STATUS, WHOLE, same};
-use chain::{Budget, Progress};
+use chain::{Budget, Chain, Progress};
 use guest_memory::GuestMemory;
 use mmio_window::{DeviceKind, Window};
 use negotiation::{Features, Flags};
@@ -207,9 +207,9 @@ fn serve_piece(
 {
     assert!(rt; cache.image().sectors() >= 8);
     let piece = if first {
-        WHOLE.serve_some(mem, window, cache, budget)
+        WHOLE.serve_some(mem, window, cache, budget, &mut Chain::new())
     } else {
-        WHOLE.go_on(mem, window, cache, budget)
+        WHOLE.go_on(mem, window, cache, budget, &mut Chain::new())
     };
     piece.progress
 }

@@ -53,6 +53,6 @@ impl<A: Allocator + Copy> Slot<A> {
         ensures disturbed { self.new.disturbed ≡ self.old.disturbed }
     {
         self.console_device
-            .serve_receive(&mut self.memory, &mut self.console);
+            .serve_receive(&mut self.memory, &mut self.console, &mut self.chain);
     }
 }

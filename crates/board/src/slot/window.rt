@@ -121,7 +121,7 @@ impl<A: Allocator + Copy> Slot<A> {
         match self.block.write(offset, width, value, &self.memory) {
             Action::Notify(0) => self
                 .block_device
-                .serve(&mut self.memory, &mut self.block, cache),
+                .serve(&mut self.memory, &mut self.block, cache, &mut self.chain),
             _ => false,
         }
     }
@@ -155,7 +155,7 @@ impl<A: Allocator + Copy> Slot<A> {
             Action::Notify(1) => {
                 let served = self
                     .console_device
-                    .serve_transmit(&mut self.memory, &mut self.console, out);
+                    .serve_transmit(&mut self.memory, &mut self.console, out, &mut self.chain);
                 reply_to(served)
             }
             Action::ConfigWrite {

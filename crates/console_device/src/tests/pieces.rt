@@ -6,7 +6,7 @@ use crate::ConsoleDevice;
 use crate::tests::{
     DATA, Descriptor, RECEIVE, TRANSMIT, UNUSED, WRITE, guest, has, look, same, up,
 };
-use chain::{Budget, Progress};
+use chain::{Budget, Chain, Progress};
 use guest_memory::GuestMemory;
 use mmio_window::Window;
 use std::process::Abort;
@@ -62,9 +62,9 @@ fn receive_piece(
     ensures { IsSound mem.new window.new }
 {
     let progress = if first {
-        console.serve_receive_some(mem, window, ONE)
+        console.serve_receive_some(mem, window, ONE, &mut Chain::new())
     } else {
-        console.go_on_receive(mem, window, ONE)
+        console.go_on_receive(mem, window, ONE, &mut Chain::new())
     };
     let seen = look(mem, window);
     (progress, seen.used, seen.interrupts)
@@ -109,9 +109,9 @@ fn transmit_piece(
     ensures { IsSound mem.new window.new }
 {
     let answer = if first {
-        console.serve_transmit_some(mem, window, out, ONE)
+        console.serve_transmit_some(mem, window, out, ONE, &mut Chain::new())
     } else {
-        console.go_on_transmit(mem, window, out, ONE)
+        console.go_on_transmit(mem, window, out, ONE, &mut Chain::new())
     };
     let seen = look(mem, window);
     (answer.unwrap_or(Progress::More), seen.used, seen.interrupts)
