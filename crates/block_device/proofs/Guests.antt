@@ -31,10 +31,10 @@ gives_anywhere Way device disk readable zero given h = h
 gives_anywhere Way device disk readable (suc room) given h = h
 
 -- a device in the same state
-abbrev Same : Disk → Disk → Type 0
+abbrev pub Same : Disk → Disk → Type 0
 Same s t = t ≡ s
 
-does_anywhere : (Way : Request → List ℕ → Disk → Outcome → Type 0) (device : BlockDevice) → DoesAs (device_by Way device) (device_by Way (guest_device device)) Same
+pub does_anywhere : (Way : Request → List ℕ → Disk → Outcome → Type 0) (device : BlockDevice) → DoesAs (device_by Way device) (device_by Way (guest_device device)) Same
 does_anywhere Way device = record {
   takes = λ s t same. refl;
   gives = λ s t readable w given same h. record {

@@ -49,16 +49,16 @@ told_at extent None tells = absurd (cc)
 told_at extent (Some bytes) tells = refl
 
 -- and are the disk that the device shows
-seen_disk : (extent : Extent) (disk : Disk) → Tells disk → IsWhole disk → IsWithin disk.sector_count extent → extent_disk extent disk ≡ disk_with (extent_of (bytes_of disk) extent.start extent.count) (health_of disk)
+pub seen_disk : (extent : Extent) (disk : Disk) → Tells disk → IsWhole disk → IsWithin disk.sector_count extent → extent_disk extent disk ≡ disk_with (extent_of (bytes_of disk) extent.start extent.count) (health_of disk)
 seen_disk extent disk tells whole lies =
     disk_of_parts disk.failures disk.mark _ _ extent.count (sectors_of (extent_of (bytes_of disk) extent.start extent.count))
     (told_at extent disk.told tells) (sym (count_of extent disk tells whole lies))
 
 -- the slot's device, as its guest knows it
-abbrev slot_device : BoardSlot → BlockDevice
+abbrev pub slot_device : BoardSlot → BlockDevice
 slot_device slot = record { extent = slot.extent; read_only = slot.read_only; identity = slot.identity }
 
-abbrev counted_device : BoardSlot → ℕ → BlockDevice
+abbrev pub counted_device : BoardSlot → ℕ → BlockDevice
 counted_device slot count = record (slot_device slot) { extent = record { start = 0; count = count } }
 
 -- ---- a service

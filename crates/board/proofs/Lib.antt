@@ -15,3 +15,8 @@ pub mod Faults
 pub mod Within
 pub mod OneSeat
 pub mod Identities
+pub mod Alike
+pub mod Pieces
+pub mod Turns
+pub mod Whole
+pub mod Taken

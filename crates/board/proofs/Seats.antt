@@ -20,8 +20,10 @@ use Rattle.block_device.specs.declared.extent.Extent.{Extent}
 use Rattle.block_device.specs.Extent.{IsWithin}
 use Rattle.board.specs.Extent.{has_sector, IsApart, outside_of}
 use Rattle.board.specs.Machine.{block_irq, console_irq}
-use Rattle.board.specs.Image.{bytes_of, health_of}
-use Rattle.board.specs.Slot.{SlotState, BoardSlot, state_of}
+use Rattle.board.specs.declared.pause.Turn.{Turn}
+use Rattle.board.specs.Image.{Health, bytes_of, health_of}
+use Rattle.board.specs.Pausing.{ServesTurn, TakesTurn, met_in}
+use Rattle.board.specs.Slot.{SlotState, BoardSlot, interrupt_words, state_of}
 use Rattle.board.specs.World.{World, SlotStep, MissingStep, Step, Serves, Handles, disturbed_of, extents_of, met_refusal, noted, seen}
 use Rattle.board.proofs.Outside.{outside_more, extent_apart}
 
@@ -147,6 +149,33 @@ noted_set slots h slot new false here is =
 -- where the failures stay nothing is noted
 pub noted_none : (h failures : ℕ) (flags : List Bool) → flags ≡ noted h (nat_lt failures failures) flags
 noted_none h failures flags = let stays : nat_lt failures failures ≡ false = grind (arith, nat_tests) in rw stays refl
+
+-- A slot of the board took a turn, and left the image's bytes outside its own extent as they were: so the board
+-- took it.
+pub takes : {A : Type 0} (Comes : SlotState → Health → Health → SlotState → List ℕ → Turn A → Type 0) (slots : List BoardSlot) (old new : Disk) (h : ℕ) (slot after : BoardSlot) (turn : Turn A) (block console : ℕ) (out_before out_after : List ℕ) →
+    AllPairs IsApart (extents_of slots) → slice_get slots h ≡ Some slot → after.extent ≡ slot.extent →
+    after.disturbed ≡ (slot.disturbed || met_in turn old.failures new.failures) →
+    outside_of (slot.extent ∷ []) (bytes_of old) ≡ outside_of (slot.extent ∷ []) (bytes_of new) →
+    ServesTurn Comes (state_of (bytes_of old) slot) (health_of old) (health_of new) (state_of (bytes_of new) after) turn out_before out_after →
+    (block, console) ≡ interrupt_words after →
+    TakesTurn Comes (seen slots old) h turn block console out_before out_after (seen (slice_set slots h after) new)
+takes Comes slots old new h slot after turn block console out_before out_after apart here extent notes stays serves words = record {
+  output = serves.output;
+  taken = record {
+    state = state_of (bytes_of old) slot;
+    there = slice_get-map (state_of (bytes_of old)) slots h ∙ ap (λ (o : Option BoardSlot). option_map (state_of (bytes_of old)) o) here;
+    after = state_of (bytes_of new) after;
+    comes = serves.comes;
+    block_is = ap (λ (w : ℕ × ℕ). w.0) words;
+    console_is = ap (λ (w : ℕ × ℕ). w.1) words;
+    slots = states_set slots h slot after (bytes_of old) (bytes_of new) apart here stays;
+    disturbed = noted_set slots h slot after (met_in turn old.failures new.failures) here notes;
+    outside =
+        ap (λ es. outside_of es (bytes_of new)) (extents_of-set slots h slot after here extent)
+        ∙ sym (outside_more (extents_of slots) slot.extent (λ sector. in_some slots h slot here sector) 0 (bytes_of old) (bytes_of new) stays);
+  };
+  appended = serves.appended;
+}
 
 -- A slot of the board served its guest, and left the image's bytes outside its own extent as they were:
 -- the board handled the event.

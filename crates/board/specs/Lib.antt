@@ -10,5 +10,6 @@ pub mod Machine
 pub mod World
 pub mod Line
 pub mod Fault
+pub mod Pausing
 pub mod Within
 pub mod Lending

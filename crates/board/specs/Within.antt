@@ -1,14 +1,25 @@
 -- What an outlet with a limit decides: which of the bytes that a console puts out may wait in it.
-use Rattle.std.specs.Prelude.{◌≡◌, ◌≢◌, ℕ, ◌<◌, ◌≤◌, ⊤, Some, List, [], ◌∷◌, ◌++◌, length}
+use Rattle.std.specs.Prelude.{◌≡◌, ◌≢◌, ◌⊎◌, ℕ, ◌<◌, ◌≤◌, ⊤, Option, Some, None, List, [], ◌∷◌, ◌++◌, length}
+use Rattle.chain.specs.declared.budget.Budget.{Budget}
+use Rattle.chain.specs.declared.budget.Progress.{Progress}
+use Rattle.chain.specs.declared.budget.Progress.TheVariants as progress
 use Rattle.chain.specs.Service.{Ending, Refused}
 use Rattle.mmio_window.specs.Serving.{Notified}
 use Rattle.mmio_window.specs.Window.{queue_at}
-use Rattle.console_device.specs.Device.{transmit_within}
+use Rattle.console_device.specs.Device.{transmit_fitting, transmit_within}
 use Rattle.board.specs.declared.event.EventKind.{EventKind}
 use Rattle.board.specs.declared.event.EventKind.TheVariants.{Write}
+use Rattle.board.specs.declared.pause.Pause.{Pause}
+use Rattle.board.specs.declared.pause.Service.{Service}
+use Rattle.board.specs.declared.pause.Service.TheVariants.{Transmit}
+use Rattle.board.specs.declared.pause.Stage.{Stage}
+use Rattle.board.specs.declared.pause.Stage.TheVariants.{First, Next}
+use Rattle.board.specs.declared.pause.Turn.{Turn}
+use Rattle.board.specs.declared.pause.Turn.TheVariants.{Answered, More}
 use Rattle.board.specs.declared.reply.Reply.{Reply}
 use Rattle.board.specs.declared.reply.Reply.TheVariants.{Done, NoMemory}
 use Rattle.board.specs.Machine.{IsNext, task_at, with_write}
+use Rattle.board.specs.Pausing.{IsRefusedAt, ServesTo, asked, readied, reply_of}
 use Rattle.board.specs.Slot.{SlotState}
 use Rattle.board.specs.Task.{Task, ServeTransmit, PutOut}
 
@@ -71,3 +82,49 @@ pub record IsNextWithin {A : Type 0} (limit : ℕ) (old : Seat) (what : EventKin
   pub within : TakesWithin limit old.state what new.state old.waiting new.waiting reply
   pub served : reply ≢ NoMemory → IsNext old.state what (record { state = new.state; reply = reply; output = output })
   pub refused : reply ≡ NoMemory → MayPutOut old.state what
+
+-- ---- pieces
+
+-- A piece of a transmit into an outlet with this limit, in which each chain fits.
+pub record IsSentPiece (limit : ℕ) (stage : Stage) (budget : Budget) (progress : Progress) (old new : SlotState) (waiting left : List ℕ) : Type 0 where
+  pub served :
+      ServesTo stage (transmit_fitting (Some limit)) budget 1 (queue_at 1 old.console) progress old.memory new.memory
+      old.console new.console waiting left
+  pub is : new ≡ record old { memory = new.memory; console = new.console }
+
+-- and one that ends since the chain on offer doesn't fit
+pub record IsUnsentPiece (limit : ℕ) (stage : Stage) (budget : Budget) (old new : SlotState) (waiting left : List ℕ) : Type 0 where
+  pub refused :
+      IsRefusedAt stage (transmit_within (Some limit)) budget 1 (queue_at 1 old.console) old.memory new.memory
+      old.console new.console waiting left
+  pub is : new ≡ record old { memory = new.memory; console = new.console }
+
+abbrev pub SendsWithin : {A : Type 0} → ℕ → Pause → Stage → Budget → SlotState → SlotState → List ℕ → List ℕ → Turn A → Type 0
+SendsWithin limit pause stage budget old new waiting left (More next) = IsSentPiece limit stage budget progress.More old new waiting left
+SendsWithin limit pause stage budget old new waiting left (Answered reply) =
+    ((reply ≡ reply_of pause) × IsSentPiece limit stage budget progress.Done old new waiting left)
+    ⊎ ((reply ≡ NoMemory) × IsUnsentPiece limit stage budget old new waiting left)
+
+-- the pieces of the other services put out nothing
+abbrev pub PieceBy : {A : Type 0} → Service → ℕ → Pause → Stage → Budget → SlotState → SlotState → List ℕ → List ℕ → Turn A → Type 0
+PieceBy Transmit limit pause stage budget old new waiting left turn = SendsWithin limit pause stage budget old new waiting left turn
+PieceBy service limit pause stage budget old new waiting left turn = ⊤
+
+abbrev pub PieceWithin : {A : Type 0} → ℕ → Pause → Stage → Budget → SlotState → SlotState → List ℕ → List ℕ → Turn A → Type 0
+PieceWithin limit pause stage budget old new waiting left turn =
+    PieceBy pause.service limit pause stage budget old new waiting left turn
+
+abbrev pub TurnWithin : {A : Type 0} → ℕ → Option Pause → EventKind A → Budget → SlotState → SlotState → List ℕ → List ℕ → Turn A → Type 0
+TurnWithin limit (Some pause) what budget old new waiting left turn =
+    PieceWithin limit pause First budget (readied what old) new waiting left turn
+TurnWithin limit None what budget old new waiting left (Answered reply) = TakesWithin limit old what new waiting left reply
+TurnWithin limit None what budget old new waiting left (More pause) = ⊤
+
+-- How an event is decided whose service may pause, and how a service that goes on is.
+abbrev pub BeginsWithin : {A : Type 0} → ℕ → EventKind A → Budget → SlotState → SlotState → List ℕ → List ℕ → Turn A → Type 0
+BeginsWithin limit what budget old new waiting left turn =
+    TurnWithin limit (asked what old) what budget old new waiting left turn
+
+abbrev pub GoesOnWithin : {A : Type 0} → ℕ → Pause → Budget → SlotState → SlotState → List ℕ → List ℕ → Turn A → Type 0
+GoesOnWithin limit pause budget old new waiting left turn =
+    PieceWithin limit pause Next budget old new waiting left turn

@@ -11,14 +11,18 @@ ghost use Rattle.board.specs.World.{Handles, Answers, KeepsOthers, MayLackMemory
 ghost use Rattle.board.specs.Within.{TakesWithin};
 
 mod access;
+mod pieces;
 
+use crate::board::pieces::Taken;
 use crate::bytes::Bytes;
 use crate::check;
 use crate::event::{Event, EventKind};
 use crate::fault::BoardFault;
+use crate::pause::Turn;
 use crate::reply::{Record, Reply, RunStop};
 use crate::slot::{self, Slot};
 use crate::spec::SlotSpec;
+use chain::Budget;
 use console_device::Outlet;
 use sector_cache::{CacheFault, Image, Refused, SectorCache};
 use std::alloc::{AllocError, Allocator, Global};
@@ -212,18 +216,18 @@ impl<I: Image, A: Allocator + Copy> Board<I, A> {
             IsSomeAnd (slice_get self.old.slots slot)
             (λ found. (image : List ℕ) → MayLackMemory (state_of image found) what.now) }
     {
-        let Some(slot) = self.slots.get_mut(slot as usize) else {
-            return Handled {
-                reply: Reply::BadSlot,
-                block_irq: 0,
-                console_irq: 0,
-            };
-        };
-        let reply = slot.serve(self.alloc, what, &mut self.cache, out);
-        Handled {
-            reply,
-            block_irq: slot.block_irq(),
-            console_irq: slot.console_irq(),
+        let Taken {
+            turn,
+            block_irq,
+            console_irq,
+        } = self.begin(slot, what, Budget::UNLIMITED, out);
+        match turn {
+            Turn::Answered(reply) => Handled {
+                reply,
+                block_irq,
+                console_irq,
+            },
+            Turn::More(_) => unreachable!(),
         }
     }
 }

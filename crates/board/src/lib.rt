@@ -18,6 +18,7 @@ mod event;
 mod fault;
 mod features;
 mod laws;
+mod pause;
 mod reply;
 mod slot;
 mod spec;

@@ -2,29 +2,35 @@
 //!
 //! Nothing here knows of other slots. What a slot does is stated against the one-slot machine, and
 //! the board lifts that to all of its slots. `memory` has the events of the guest's memory, `window`
-//! those of its devices' windows, and `console` what is done to its console from outside.
+//! those of its devices' windows, `service` serves their queues, and `console` is what is done to the console
+//! from outside.
 
 ghost use Rattle.std.specs.Prelude.{◌≡◌, ◌≢◌, ◌<◌, ◌≤◌, ◌||◌, ℕ, List, All, map, nat_lt, Some, IfOk};
 ghost use Rattle.block_device.specs.Extent.{IsWithin, KeepsOutside};
 ghost use Rattle.board.specs.Fault.{IsMemory};
 ghost use Rattle.board.specs.Image.{Tells, bytes_of, health_of};
 ghost use Rattle.board.specs.Lending.{LendsBytes};
-ghost use Rattle.board.specs.Machine.{block_irq, console_irq};
+ghost use Rattle.board.specs.Pausing.{Begins, GoesOn, HasLimit, ServesTurn, lacks_memory_in, met_in};
 ghost use Rattle.board.specs.Slot.{interrupt_words, opened, state_of};
-ghost use Rattle.board.specs.World.{Serves, MayLackMemory, met_refusal};
-ghost use Rattle.board.specs.Within.{TakesWithin};
+ghost use Rattle.board.specs.World.{MayLackMemory};
+ghost use Rattle.board.specs.Within.{BeginsWithin, GoesOnWithin};
+ghost use Rattle.board.specs.declared.pause.Pause.{Pause};
+ghost use Rattle.board.specs.declared.pause.Turn.{Turn};
+ghost use Rattle.board.specs.declared.reply.Reply.{Reply};
 ghost use Rattle.std.specs.Borrow.{sem};
 
 mod console;
 mod memory;
+mod service;
 mod window;
 
 use crate::event::EventKind;
 use crate::features;
+use crate::pause::{Pause, Stage, Turn};
 use crate::reply::Reply;
 use crate::spec::SlotSpec;
 use block_device::BlockDevice;
-use chain::Chain;
+use chain::{Budget, Chain};
 use console_device::{ConsoleDevice, Outlet};
 use guest_memory::GuestMemory;
 use mmio_window::{DeviceKind, Window};
@@ -67,10 +73,10 @@ impl<A: Allocator> Model for Slot<A> {
     ghost invariant = { λ s. IsSoundSlot s.memory s.block s.console s.console_device.pending };
 }
 
-// What came of an event.
+// What came of an event, or of a piece of its service.
 #[derive(Drop)]
 struct Answer<A: Allocator = Global> {
-    reply: Reply<A>,
+    turn: Turn<A>,
     // Whether a call of the image failed.
     failed: bool,
 }
@@ -98,27 +104,28 @@ impl<A: Allocator + Copy> Slot<A> {
         })
     }
 
-    /// Serves one event of the slot's guest, and notes a refusal. What its console puts out is
-    /// appended to `out`.
-    pub(crate) fn serve<I: Image, O: Outlet>(
+    /// Handles one event of the slot's guest, whose service may pause where the budget is spent, and notes a
+    /// refusal. What its console puts out is appended to `out`.
+    pub(crate) fn begin<I: Image, O: Outlet>(
         &mut self,
         alloc: A,
         what: &EventKind<A>,
+        budget: Budget,
         cache: &mut SectorCache<I, A>,
         out: &mut O,
-    ) -> Reply<A>
+    ) -> Turn<A>
         requires lies { IsWithin (I.disk cache.old).sector_count self.old.extent }
         ensures serves { Tells (I.disk cache.old) →
-            Serves (state_of (bytes_of (I.disk cache.old)) self.old) what.now
+            ServesTurn (Begins what.now budget) (state_of (bytes_of (I.disk cache.old)) self.old)
             (health_of (I.disk cache.old)) (health_of (I.disk cache.new))
             (state_of (bytes_of (I.disk cache.new)) self.new) result (O.bytes out.old) (O.bytes out.new) }
         ensures within { (limit : ℕ) → O.limit out.old ≡ Some limit →
-            TakesWithin limit (state_of (bytes_of (I.disk cache.old)) self.old) what.now
+            BeginsWithin limit what.now budget (state_of (bytes_of (I.disk cache.old)) self.old)
             (state_of (bytes_of (I.disk cache.new)) self.new)
             (O.bytes out.old) (O.bytes out.new) result }
         ensures limit { O.limit out.new ≡ O.limit out.old }
         ensures noted { self.new.disturbed ≡ (self.old.disturbed ||
-            met_refusal result (I.disk cache.old).failures (I.disk cache.new).failures) }
+            met_in result (I.disk cache.old).failures (I.disk cache.new).failures) }
 
         // the failures never fall, and the image stays outside the slot's extent
         ensures rises { (I.disk cache.old).failures ≤ (I.disk cache.new).failures }
@@ -126,17 +133,57 @@ impl<A: Allocator + Copy> Slot<A> {
         ensures extent { self.new.extent ≡ self.old.extent }
 
         // a slot that is there is never said to be missing, and what is refused changes nothing
-        ensures there { result ≢ Reply.BadSlot }
-        ensures bad_range { result ≡ Reply.BadRange → self.new ≡ self.old }
-        ensures bad_range_image { result ≡ Reply.BadRange → cache.new ≡ cache.old }
-        ensures no_memory { result ≡ Reply.NoMemory → (image : List ℕ) →
+        ensures limited { (next : Pause) → result ≡ Turn.More next → HasLimit budget }
+        ensures there { result ≢ Turn.Answered Reply.BadSlot }
+        ensures bad_range { result ≡ Turn.Answered Reply.BadRange → self.new ≡ self.old }
+        ensures bad_range_image { result ≡ Turn.Answered Reply.BadRange → cache.new ≡ cache.old }
+        ensures no_memory { result ≡ Turn.Answered Reply.NoMemory → (image : List ℕ) →
             MayLackMemory (state_of image self.old) what.now }
     {
-        let Answer { reply, failed } = self.answer(alloc, what, cache, out);
-        if failed || matches!(reply, Reply::NoMemory) {
+        let answer = self.answer(alloc, what, budget, cache, out);
+        self.note(answer)
+    }
+
+    /// Goes on with a service that paused, and notes a refusal.
+    pub(crate) fn go_on<I: Image, O: Outlet>(
+        &mut self,
+        pause: Pause,
+        budget: Budget,
+        cache: &mut SectorCache<I, A>,
+        out: &mut O,
+    ) -> Turn<A>
+        requires lies { IsWithin (I.disk cache.old).sector_count self.old.extent }
+        ensures serves { Tells (I.disk cache.old) →
+            ServesTurn (GoesOn pause budget) (state_of (bytes_of (I.disk cache.old)) self.old)
+            (health_of (I.disk cache.old)) (health_of (I.disk cache.new))
+            (state_of (bytes_of (I.disk cache.new)) self.new) result (O.bytes out.old) (O.bytes out.new) }
+        ensures within { (limit : ℕ) → O.limit out.old ≡ Some limit →
+            GoesOnWithin limit pause budget (state_of (bytes_of (I.disk cache.old)) self.old)
+            (state_of (bytes_of (I.disk cache.new)) self.new)
+            (O.bytes out.old) (O.bytes out.new) result }
+        ensures limit { O.limit out.new ≡ O.limit out.old }
+        ensures noted { self.new.disturbed ≡ (self.old.disturbed ||
+            met_in result (I.disk cache.old).failures (I.disk cache.new).failures) }
+        ensures rises { (I.disk cache.old).failures ≤ (I.disk cache.new).failures }
+        ensures outside { KeepsOutside self.old.extent (I.disk cache.old) (I.disk cache.new) }
+        ensures extent { self.new.extent ≡ self.old.extent }
+    {
+        let answer = self.serve_piece(pause, Stage::Next, budget, cache, out);
+        self.note(answer)
+    }
+
+    // Notes a refusal, and hands on what the event came to.
+    fn note(&mut self, answer: Answer<A>) -> Turn<A>
+        ensures turn { result ≡ answer.turn }
+        ensures noted { self.new ≡ record self.old {
+              disturbed = self.old.disturbed || (lacks_memory_in answer.turn || answer.failed);
+            } }
+    {
+        let Answer { turn, failed } = answer;
+        if failed || matches!(turn, Turn::Answered(Reply::NoMemory)) {
             self.disturbed = true;
         }
-        reply
+        turn
     }
 
     // Handles an event, and leaves it to the caller to note a refusal.
@@ -144,19 +191,20 @@ impl<A: Allocator + Copy> Slot<A> {
         &mut self,
         alloc: A,
         what: &EventKind<A>,
+        budget: Budget,
         cache: &mut SectorCache<I, A>,
         out: &mut O,
     ) -> Answer<A>
         requires lies { IsWithin (I.disk cache.old).sector_count self.old.extent }
         ensures serves { Tells (I.disk cache.old) →
-            Serves (state_of (bytes_of (I.disk cache.old)) self.old) what.now
+            ServesTurn (Begins what.now budget) (state_of (bytes_of (I.disk cache.old)) self.old)
             (health_of (I.disk cache.old)) (health_of (I.disk cache.new))
-            (state_of (bytes_of (I.disk cache.new)) self.new) result.reply
+            (state_of (bytes_of (I.disk cache.new)) self.new) result.turn
             (O.bytes out.old) (O.bytes out.new) }
         ensures within { (limit : ℕ) → O.limit out.old ≡ Some limit →
-            TakesWithin limit (state_of (bytes_of (I.disk cache.old)) self.old) what.now
+            BeginsWithin limit what.now budget (state_of (bytes_of (I.disk cache.old)) self.old)
             (state_of (bytes_of (I.disk cache.new)) self.new)
-            (O.bytes out.old) (O.bytes out.new) result.reply }
+            (O.bytes out.old) (O.bytes out.new) result.turn }
         ensures limit { O.limit out.new ≡ O.limit out.old }
         ensures failed { result.failed ≡
             nat_lt (I.disk cache.old).failures (I.disk cache.new).failures }
@@ -164,10 +212,11 @@ impl<A: Allocator + Copy> Slot<A> {
         ensures outside { KeepsOutside self.old.extent (I.disk cache.old) (I.disk cache.new) }
         ensures extent { self.new.extent ≡ self.old.extent }
         ensures disturbed { self.new.disturbed ≡ self.old.disturbed }
-        ensures there { result.reply ≢ Reply.BadSlot }
-        ensures bad_range { result.reply ≡ Reply.BadRange → self.new ≡ self.old }
-        ensures bad_range_image { result.reply ≡ Reply.BadRange → cache.new ≡ cache.old }
-        ensures no_memory { result.reply ≡ Reply.NoMemory → (image : List ℕ) →
+        ensures limited { (next : Pause) → result.turn ≡ Turn.More next → HasLimit budget }
+        ensures there { result.turn ≢ Turn.Answered Reply.BadSlot }
+        ensures bad_range { result.turn ≡ Turn.Answered Reply.BadRange → self.new ≡ self.old }
+        ensures bad_range_image { result.turn ≡ Turn.Answered Reply.BadRange → cache.new ≡ cache.old }
+        ensures no_memory { result.turn ≡ Turn.Answered Reply.NoMemory → (image : List ℕ) →
             MayLackMemory (state_of image self.old) what.now }
     {
         let reply = match what {
@@ -181,14 +230,19 @@ impl<A: Allocator + Copy> Slot<A> {
                 offset,
                 width,
                 value,
-            } => return self.write_window(*window, *offset, *width, *value, cache, out),
+            } => return self.write_window(*window, *offset, *width, *value, budget, cache, out),
             EventKind::MemRead { addr, len } => self.read_memory(alloc, *addr, *len),
             EventKind::MemWrite { addr, bytes } => self.write_memory(*addr, bytes.as_slice()),
-            EventKind::Input { bytes } => self.input(bytes.as_slice()),
+            EventKind::Input { bytes } => {
+                return Answer {
+                    turn: self.input(bytes.as_slice(), budget),
+                    failed: false,
+                };
+            }
             EventKind::Resize { cols, rows } => self.resize(*cols, *rows),
         };
         Answer {
-            reply,
+            turn: Turn::Answered(reply),
             failed: false,
         }
     }
@@ -220,25 +274,11 @@ impl<A: Allocator> Slot<A> {
 
     /// InterruptStatus of the block window and of the console window.
     pub(crate) fn interrupts(&self) -> (u8, u8)
-        ensures { result ≡ interrupt_words self.now }
+        ensures value { result ≡ interrupt_words self.now }
+        ensures block_word { result.0 ≤ 3 }
+        ensures console_word { result.1 ≤ 3 }
     {
         (self.block.interrupts(), self.console.interrupts())
-    }
-
-    /// The block window's InterruptStatus.
-    pub(crate) fn block_irq(&self) -> u8
-        ensures value { (bytes : List ℕ) → result ≡ block_irq (state_of bytes self.now) }
-        ensures word { result ≤ 3 }
-    {
-        self.block.interrupts()
-    }
-
-    /// The console window's InterruptStatus.
-    pub(crate) fn console_irq(&self) -> u8
-        ensures value { (bytes : List ℕ) → result ≡ console_irq (state_of bytes self.now) }
-        ensures word { result ≤ 3 }
-    {
-        self.console.interrupts()
     }
 }
 

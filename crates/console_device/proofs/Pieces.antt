@@ -137,7 +137,7 @@ received_whole budget found progress m m' w w' s t chains bytes h =
     let once = never_pauses receive budget 0 found progress m m' w w' s t chains bytes h in
     record { ending = once.ending; notified = notified_once receive budget 0 found once.ending m m' w w' s t once.notified }
 
-fitting_within : (limit : Option ℕ) → DoesAs (transmit_fitting limit) (transmit_within limit) (λ out sent. sent ≡ out)
+pub fitting_within : (limit : Option ℕ) → DoesAs (transmit_fitting limit) (transmit_within limit) (λ out sent. sent ≡ out)
 fitting_within limit = record {
   takes = λ out sent alike. refl;
   gives = λ out sent readable w given alike h. record { state = given.state; alike = refl; gives = rw alike h };

@@ -72,7 +72,7 @@ module _ {Ring : Type 0} (kind : Kind Ring) where
   receive_never_refused old new ending wanted s = never_refused kind receive old new ending wanted (λ pending readable w h. h) s
 
   -- each chain takes from the front of pending input
-  serves_left : (start at : Site Ring (List ℕ)) (chains : List (Served (List ℕ))) → ServesAll kind receive start chains at → IsLeft start.state at.state
+  pub serves_left : (start at : Site Ring (List ℕ)) (chains : List (Served (List ℕ))) → ServesAll kind receive start chains at → IsLeft start.state at.state
   serves_left start at [] p = record { taken = 0; rest = ap (λ (s : Site Ring (List ℕ)). s.state) (sym p) }
   serves_left start at (s ∷ chains) p =
       let w = length (writable_of s.buffers) in
@@ -82,7 +82,7 @@ module _ {Ring : Type 0} (kind : Kind Ring) where
         rest = later.rest ∙ ap (λ (g : Given (List ℕ)). drop later.taken g.state) p.0.gives ∙ drop-drop later.taken w start.state;
       }
 
-  stop_state : (site : Site Ring (List ℕ)) (ending : Ending) → (stop kind receive site ending).state ≡ site.state
+  pub stop_state : (site : Site Ring (List ℕ)) (ending : Ending) → (stop kind receive site ending).state ≡ site.state
   stop_state site Spent = refl
   stop_state site (Faulted fault) = refl
   stop_state site Refused = refl

@@ -17,7 +17,9 @@ ghost use Rattle.board.specs.Slot.{interrupt_words};
 ghost use Rattle.board.specs.World.{Answers, KeepsOthers, disturbed_of, extents_of, world_of};
 
 use crate::board::Board;
+use crate::pause::Turn;
 use crate::reply::Reply;
+use chain::Budget;
 use guest_memory::GuestMemory;
 use sector_cache::Image;
 use std::alloc::Allocator;
@@ -129,8 +131,8 @@ impl<I: Image, A: Allocator + Copy> Board<I, A> {
         let Some(found) = self.slots.get_mut(slot as usize) else {
             return None;
         };
-        match found.input(bytes) {
-            Reply::Took(taken) => Some(taken),
+        match found.input(bytes, Budget::UNLIMITED) {
+            Turn::Answered(Reply::Took(taken)) => Some(taken),
             _ => unreachable!(),
         }
     }

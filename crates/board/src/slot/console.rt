@@ -1,33 +1,46 @@
-//! What is done to the guest's console from outside: what is typed, and its size. And the receive queue, by
-//! which the guest is given what is typed.
+//! What is done to the guest's console from outside: what is typed, and its size.
 
-ghost use Rattle.std.specs.Prelude.{◌≡◌, ℕ, List};
+ghost use Rattle.std.specs.Prelude.{◌≡◌, ◌⊎◌, ℕ, List, [], Some};
+ghost use Rattle.console_device.specs.Input.{fitting};
 ghost use Rattle.board.specs.declared.event.EventKind.{EventKind};
+ghost use Rattle.board.specs.declared.pause.Pause.{Pause};
+ghost use Rattle.board.specs.declared.pause.Service.{Service};
+ghost use Rattle.board.specs.declared.pause.Stage.{Stage};
+ghost use Rattle.board.specs.declared.pause.Turn.{Turn};
 ghost use Rattle.board.specs.declared.reply.Reply.{Reply};
 ghost use Rattle.board.specs.Image.{Health};
-ghost use Rattle.console_device.specs.Input.{fitting};
+ghost use Rattle.board.specs.Machine.{with_input};
 ghost use Rattle.board.specs.Outcome.{replies};
+ghost use Rattle.board.specs.Pausing.{ComesTo, HasLimit};
 ghost use Rattle.board.specs.Slot.{state_of};
-ghost use Rattle.board.specs.Task.{IsReceiveService};
 ghost use Rattle.board.specs.World.{MayGive};
 
+use crate::pause::{Pause, Service, Stage, Turn};
 use crate::reply::Reply;
 use crate::slot::Slot;
+use chain::Budget;
 use std::alloc::Allocator;
 
 impl<A: Allocator + Copy> Slot<A> {
-    /// Takes what is typed, and serves the receive queue.
-    pub(crate) fn input(&mut self, bytes: &[u8]) -> Reply<A>
-        ensures given { (image : List ℕ) (health : Health) →
-            MayGive (state_of image self.old) (EventKind.Input bytes.now) health health
-            (replies (state_of image self.new) result) }
+    /// Takes what is typed, and serves the receive queue, which may pause where the budget is spent.
+    pub(crate) fn input(&mut self, bytes: &[u8], budget: Budget) -> Turn<A>
+        ensures comes { (image : List ℕ) (health : Health) →
+            ComesTo (record { service = Service.Receive; taken = Some (fitting self.old.pending bytes.now) })
+            Stage.First budget (with_input bytes.now (state_of image self.old)) health health
+            (state_of image self.new) [] result }
         ensures extent { self.new.extent ≡ self.old.extent }
         ensures disturbed { self.new.disturbed ≡ self.old.disturbed }
-        ensures took { result ≡ Reply.Took (fitting self.old.pending bytes.now) }
+        ensures limited { (next : Pause) → result ≡ Turn.More next → HasLimit budget }
+        ensures took { result ≡ Turn.More (record {
+              service = Service.Receive; taken = Some (fitting self.old.pending bytes.now);
+            }) ⊎ result ≡ Turn.Answered (Reply.Took (fitting self.old.pending bytes.now)) }
     {
-        let count = self.console_device.input(bytes);
-        self.receive();
-        Reply::Took(count)
+        let pause = Pause {
+            service: Service::Receive,
+            taken: Some(self.console_device.input(bytes)),
+        };
+        let progress = self.serve_receive(Stage::First, budget);
+        pause.turn(progress)
     }
 
     /// Changes the size, of which the driver is told where there is one.
@@ -42,17 +55,5 @@ impl<A: Allocator + Copy> Slot<A> {
         self.console_device.resize(cols, rows);
         self.console.config_changed();
         Reply::Done
-    }
-
-    /// Puts pending input into the chains on offer in the receive queue (5.3.6).
-    pub(super) fn receive(&mut self)
-        ensures received { (image : List ℕ) (health : Health) (reply : Reply A) →
-            IsReceiveService (state_of image self.old) reply health health
-            (replies (state_of image self.new) reply) }
-        ensures extent { self.new.extent ≡ self.old.extent }
-        ensures disturbed { self.new.disturbed ≡ self.old.disturbed }
-    {
-        self.console_device
-            .serve_receive(&mut self.memory, &mut self.console, &mut self.chain);
     }
 }

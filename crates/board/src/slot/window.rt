@@ -1,18 +1,24 @@
 //! The accesses of a guest's drivers to the windows of its devices, and what the devices do then.
 
-ghost use Rattle.std.specs.Prelude.{◌≡◌, ◌≢◌, ◌≤◌, ◌%◌, ◌^◌, ℕ, List, Some, nat_lt, OnOk, OnErr};
+ghost use Rattle.std.specs.Prelude.{◌≡◌, ◌≢◌, ◌≤◌, ℕ, List, Some, nat_lt, OnOk, OnErr};
 ghost use Rattle.block_device.specs.Extent.{IsWithin, KeepsOutside};
 ghost use Rattle.mmio_window.specs.declared.device_kind.DeviceKind.{DeviceKind};
 ghost use Rattle.board.specs.declared.event.EventKind.{EventKind};
-ghost use Rattle.board.specs.Image.{Health, Tells, bytes_of, health_of, sectors_of};
-ghost use Rattle.board.specs.Machine.{register, window_of};
-ghost use Rattle.board.specs.Outcome.{does};
+ghost use Rattle.board.specs.declared.pause.Pause.{Pause};
+ghost use Rattle.board.specs.declared.pause.Turn.{Turn};
+ghost use Rattle.board.specs.declared.reply.Reply.{Reply};
+ghost use Rattle.board.specs.Image.{Tells, bytes_of, health_of, sectors_of};
+ghost use Rattle.board.specs.Machine.{register, task_at, window_of, with_write};
+ghost use Rattle.board.specs.Pausing.{Begins, HasLimit, ServesTurn, duty_of};
 ghost use Rattle.board.specs.Slot.{state_of};
-ghost use Rattle.board.specs.World.{MayGive, MayLackMemory, Serves};
-ghost use Rattle.board.specs.Within.{TakesWithin};
+ghost use Rattle.board.specs.Task.{task_of};
+ghost use Rattle.board.specs.Within.{BeginsWithin};
+ghost use Rattle.board.specs.World.{MayLackMemory};
 
+use crate::pause::{Pause, Service, Stage, Turn};
 use crate::reply::Reply;
 use crate::slot::{Answer, Slot};
+use chain::Budget;
 use console_device::{NoMemory, Outlet};
 use mmio_window::{Action, CONFIGURATION_OFFSET, DeviceKind, Window};
 use sector_cache::{Image, SectorCache};
@@ -49,27 +55,28 @@ impl<A: Allocator + Copy> Slot<A> {
         }
     }
 
-    /// Writes a window's registers, and lets its device do its part. What the console puts out is appended
-    /// to `out`.
+    /// Writes a window's registers, and lets its device do its part, which may pause where the budget is spent.
+    /// What the console puts out is appended to `out`.
     pub(super) fn write_window<I: Image, O: Outlet>(
         &mut self,
         window: DeviceKind,
         offset: u16,
         width: u8,
         value: u32,
+        budget: Budget,
         cache: &mut SectorCache<I, A>,
         out: &mut O,
     ) -> Answer<A>
         requires lies { IsWithin (I.disk cache.old).sector_count self.old.extent }
         ensures serves { Tells (I.disk cache.old) →
-            Serves (state_of (bytes_of (I.disk cache.old)) self.old)
-            (EventKind.Write window offset width value)
+            ServesTurn (Begins {A = A} (EventKind.Write window offset width value) budget)
+            (state_of (bytes_of (I.disk cache.old)) self.old)
             (health_of (I.disk cache.old)) (health_of (I.disk cache.new))
-            (state_of (bytes_of (I.disk cache.new)) self.new) result.reply (O.bytes out.old) (O.bytes out.new) }
+            (state_of (bytes_of (I.disk cache.new)) self.new) result.turn (O.bytes out.old) (O.bytes out.new) }
         ensures within { (limit : ℕ) → O.limit out.old ≡ Some limit →
-            TakesWithin {A = A} limit (state_of (bytes_of (I.disk cache.old)) self.old)
-            (EventKind.Write window offset width value)
-            (state_of (bytes_of (I.disk cache.new)) self.new) (O.bytes out.old) (O.bytes out.new) result.reply }
+            BeginsWithin {A = A} limit (EventKind.Write window offset width value) budget
+            (state_of (bytes_of (I.disk cache.old)) self.old)
+            (state_of (bytes_of (I.disk cache.new)) self.new) (O.bytes out.old) (O.bytes out.new) result.turn }
         ensures limit { O.limit out.new ≡ O.limit out.old }
         ensures failed { result.failed ≡
             nat_lt (I.disk cache.old).failures (I.disk cache.new).failures }
@@ -77,102 +84,88 @@ impl<A: Allocator + Copy> Slot<A> {
         ensures outside { KeepsOutside self.old.extent (I.disk cache.old) (I.disk cache.new) }
         ensures extent { self.new.extent ≡ self.old.extent }
         ensures disturbed { self.new.disturbed ≡ self.old.disturbed }
-        ensures there { result.reply ≢ Reply.BadSlot }
-        ensures in_range { result.reply ≢ Reply.BadRange }
-        ensures no_memory { result.reply ≡ Reply.NoMemory → (image : List ℕ) →
+        ensures limited { (next : Pause) → result.turn ≡ Turn.More next → HasLimit budget }
+        ensures there { result.turn ≢ Turn.Answered Reply.BadSlot }
+        ensures in_range { result.turn ≢ Turn.Answered Reply.BadRange }
+        ensures no_memory { result.turn ≡ Turn.Answered Reply.NoMemory → (image : List ℕ) →
             MayLackMemory {A = A} (state_of image self.old) (EventKind.Write window offset width value) }
     {
-        match window {
-            DeviceKind::Block => {
-                let failed = self.write_block(offset, width, value, cache);
-                Answer {
-                    reply: Reply::Done,
-                    failed,
-                }
+        match self.write_registers(window, offset, width, value) {
+            Duty::Serve(service) => {
+                let pause = Pause {
+                    service,
+                    taken: None,
+                };
+                self.serve_piece(pause, Stage::First, budget, cache, out)
             }
-            DeviceKind::Console => Answer {
-                reply: self.write_console(offset, width, value, out),
+            Duty::PutOut(byte) => Answer {
+                turn: Turn::Answered(reply_to(self.console_device.emergency(byte, out))),
+                failed: false,
+            },
+            Duty::Nothing => Answer {
+                turn: Turn::Answered(Reply::Done),
                 failed: false,
             },
         }
     }
 
-    // Writes the block window. Where that notifies the block device, its queue is served (5.2.6). Answers
-    // whether a call of the image failed.
-    fn write_block<I: Image>(
+    // Writes a window's registers, and tells what is left for its device to do.
+    fn write_registers(
         &mut self,
+        window: DeviceKind,
         offset: u16,
         width: u8,
         value: u32,
-        cache: &mut SectorCache<I, A>,
-    ) -> bool
-        requires lies { IsWithin (I.disk cache.old).sector_count self.old.extent }
-        ensures given { Tells (I.disk cache.old) →
-            MayGive {A = A} (state_of (bytes_of (I.disk cache.old)) self.old)
-            (EventKind.Write DeviceKind.Block offset width value)
-            (health_of (I.disk cache.old)) (health_of (I.disk cache.new))
-            (does (state_of (bytes_of (I.disk cache.new)) self.new)) }
-        ensures failed { result ≡ nat_lt (I.disk cache.old).failures (I.disk cache.new).failures }
-        ensures rises { (I.disk cache.old).failures ≤ (I.disk cache.new).failures }
-        ensures outside { KeepsOutside self.old.extent (I.disk cache.old) (I.disk cache.new) }
+    ) -> Duty
+        ensures duty { (image : List ℕ) →
+            result ≡ duty_of (task_at window offset width value (state_of image self.old)) }
+        ensures written { (image : List ℕ) →
+            state_of image self.new ≡ with_write window offset width value (state_of image self.old) }
         ensures extent { self.new.extent ≡ self.old.extent }
         ensures disturbed { self.new.disturbed ≡ self.old.disturbed }
     {
-        match self.block.write(offset, width, value, &self.memory) {
-            Action::Notify(0) => self
-                .block_device
-                .serve(&mut self.memory, &mut self.block, cache, &mut self.chain),
-            _ => false,
-        }
-    }
-
-    // Writes the console window. Where that notifies the console of a queue, it is served (5.3.6); and the byte
-    // of an emergency write is put out (5.3.4).
-    fn write_console<O: Outlet>(
-        &mut self,
-        offset: u16,
-        width: u8,
-        value: u32,
-        out: &mut O,
-    ) -> Reply<A>
-        ensures serves { (image : List ℕ) (health : Health) →
-            Serves (state_of image self.old) (EventKind.Write DeviceKind.Console offset width value)
-            health health (state_of image self.new) result (O.bytes out.old) (O.bytes out.new) }
-        ensures within { (limit : ℕ) → O.limit out.old ≡ Some limit → (image : List ℕ) →
-            TakesWithin {A = A} limit (state_of image self.old) (EventKind.Write DeviceKind.Console offset width value)
-            (state_of image self.new) (O.bytes out.old) (O.bytes out.new) result }
-        ensures limit { O.limit out.new ≡ O.limit out.old }
-        ensures extent { self.new.extent ≡ self.old.extent }
-        ensures disturbed { self.new.disturbed ≡ self.old.disturbed }
-        ensures there { result ≢ Reply.BadSlot }
-        ensures in_range { result ≢ Reply.BadRange }
-    {
-        match self.console.write(offset, width, value, &self.memory) {
-            Action::Notify(0) => {
-                self.receive();
-                Reply::Done
+        match window {
+            DeviceKind::Block => block_duty(self.block.write(offset, width, value, &self.memory)),
+            DeviceKind::Console => {
+                console_duty(self.console.write(offset, width, value, &self.memory))
             }
-            Action::Notify(1) => {
-                let served = self
-                    .console_device
-                    .serve_transmit(&mut self.memory, &mut self.console, out, &mut self.chain);
-                reply_to(served)
-            }
-            Action::ConfigWrite {
-                offset: EMERGENCY_WRITE,
-                value,
-                ..
-            } => reply_to(self.console_device.emergency(low_byte(value), out)),
-            _ => Reply::Done,
         }
     }
 }
 
-// The byte of an emergency write, of whatever width (5.3.4).
-fn low_byte(value: u32) -> u8
-    ensures { result ≡ value % 2 ^ 8 }
+// What a write leaves for a slot's devices to do.
+#[derive(Clone, Copy, Debug, PartialEq, Eq)]
+pub(crate) enum Duty {
+    Nothing,
+    Serve(Service),
+    PutOut(u8),
+}
+
+// What a write to the block window leaves to be done (5.2.6).
+fn block_duty(action: Action) -> Duty
+    ensures { result ≡ duty_of (task_of DeviceKind.Block action) }
 {
-    (value % 256) as u8
+    match action {
+        Action::Notify(0) => Duty::Serve(Service::Block),
+        _ => Duty::Nothing,
+    }
+}
+
+// What a write to the console window leaves to be done: a notification of either queue (5.3.6), or the byte of an
+// emergency write, of whatever width (5.3.4).
+fn console_duty(action: Action) -> Duty
+    ensures { result ≡ duty_of (task_of DeviceKind.Console action) }
+{
+    match action {
+        Action::Notify(0) => Duty::Serve(Service::Receive),
+        Action::Notify(1) => Duty::Serve(Service::Transmit),
+        Action::ConfigWrite {
+            offset: EMERGENCY_WRITE,
+            value,
+            ..
+        } => Duty::PutOut((value % 256) as u8),
+        _ => Duty::Nothing,
+    }
 }
 
 // What the guest is answered where there was memory for what its console put out, and where there was none.

@@ -1,7 +1,11 @@
-use Rattle.std.proofs.Common.{◌≡◌, Some, length, refl, sym, ◌∙◌, ap, arith}
+use Rattle.std.proofs.Common.{◌≡◌, [], Some, length, refl, sym, ◌∙◌, ap, arith}
 use Rattle.std.specs.List.{slice_get}
 use Rattle.std.proofs.lemmas.Option.{slice_get_read}
 use Rattle.board.specs.Image.{bytes_of, health_of}
+use Rattle.board.specs.declared.event.EventKind.TheVariants.{Input}
+use Rattle.board.specs.declared.reply.Reply.TheVariants.{Took}
+use Rattle.board.specs.Slot.{state_of}
+use Rattle.board.proofs.Whole.{whole}
 use Rattle.board.specs.World.{disturbed_of, extents_of}
 use Rattle.board.proofs.Access.{disturbed_kept, typed_answers}
 use Rattle.board.proofs.Seats.{extents_of-set, others_kept}
@@ -14,10 +18,13 @@ invariant_of-self-2 g c =
 
 pub returns-clause-step : goal.returns-clause-step
 returns-clause-step g c tells =
-    rw (← c.self.view_is, ← c.in-Took.is)
-    (typed_answers _ c.self.inside.slots.items (g.I.Image.disk c.self.inside.cache) c.args.slot c.in-Some.found.now c.input.new.self c.args.bytes.now c.input.result
-    c.self.invariant.apart (slice_get_read c.self.inside.slots.items (length c.self.inside.slots.items) c.args.slot c.in-Some.found.now refl (omega (arith, c.in-Some.ensures.variant.0 refl)) c.in-Some.ensures.value) c.input.ensures.extent c.input.ensures.disturbed (rw c.input.ensures.took refl)
-    (c.input.ensures.given (bytes_of (g.I.Image.disk c.self.inside.cache)) (health_of (g.I.Image.disk c.self.inside.cache))))
+    let disk = g.I.Image.disk c.self.inside.cache in
+    let slot = c.in-Some.found.now in
+    rw (← c.self.view_is)
+    (typed_answers _ c.self.inside.slots.items disk c.args.slot slot c.input.new.self c.args.bytes.now (Took c.in-Answered-Took.taken)
+    c.self.invariant.apart (slice_get_read c.self.inside.slots.items (length c.self.inside.slots.items) c.args.slot slot refl (omega (arith, c.in-Some.ensures.variant.0 refl)) c.in-Some.ensures.value) c.input.ensures.extent c.input.ensures.disturbed refl
+    (whole (Input c.args.bytes.now) _ (state_of (bytes_of disk) slot) (health_of disk) (health_of disk) (state_of (bytes_of disk) c.input.new.self) [] (Took c.in-Answered-Took.taken)
+    (rw (c.in-Answered-Took.is, c.in-Answered-Took.field-0-is) at (c.input.ensures.comes (bytes_of disk) (health_of disk)))))
 
 pub returns-clause-others : goal.returns-clause-others
 returns-clause-others g c other differ =

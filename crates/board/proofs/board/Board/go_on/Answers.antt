@@ -1,0 +1,78 @@
+use Rattle.std.proofs.Common.{◌≡◌, ℕ, List, ◌≤◌, ◌<◌, Option, Some, None, length, refl, sym, ◌∙◌, ap, subst, arith}
+use Rattle.std.specs.Prelude.{IsSomeAnd}
+use Rattle.std.specs.List.{slice_get}
+use Rattle.std.proofs.lemmas.Option.{slice_get_past, slice_get_read, same_Some}
+use Rattle.board.specs.Slot.{BoardSlot, state_of}
+use Rattle.board.specs.Image.{Tells, bytes_of}
+use Rattle.board.specs.World.{MayLackMemory, disturbed_of, extents_of}
+use Rattle.board.proofs.Outside.{outside_kept}
+use Rattle.board.proofs.Seats.{extents_of-set, noted_none, noted_set, others_kept, set_same, slot_within, takes}
+use Rattle.board.proofs.Within.{set_here}
+use Rattle.board.proofs.board.Board.go_on.Goals as goal
+
+pub returns-in_default-clause-noted : goal.returns-in_default-clause-noted
+returns-in_default-clause-noted g c =
+    rw (← c.self.view_is) (noted_none c.args.slot (g.I.Image.disk c.self.inside.cache).failures (disturbed_of c.self.inside.slots.items))
+
+-- the slot of that number
+there : (g : _) (c : goal.After-self-2-1 g) → slice_get c.self.inside.slots.items c.args.slot ≡ Some c.in-Some.slot.now
+there g c = slice_get_read c.self.inside.slots.items (length c.self.inside.slots.items) c.args.slot c.in-Some.slot.now refl (omega (arith, c.in-Some.ensures.variant.0 refl)) c.in-Some.ensures.value
+
+pub go_on-turn-requires : goal.go_on-turn-requires
+go_on-turn-requires g c = record {
+  lies =
+      slot_within _ c.self.inside.slots.items c.args.slot c.in-Some.slot.now c.self.invariant.within
+      (slice_get_read c.self.inside.slots.items (length c.self.inside.slots.items) c.args.slot c.in-Some.slot.now refl (omega (arith, c.in-Some.ensures.variant.0 refl)) c.in-Some.ensures.value);
+}
+
+pub invariant_of-self-2 : goal.invariant_of-self-2
+invariant_of-self-2 g c =
+    rw (extents_of-set c.self.inside.slots.items c.args.slot c.in-Some.slot.now c.go_on-turn.new.self (there g c) c.go_on-turn.ensures.extent, c.go_on-turn.ensures.outside.sectors)
+    c.self.invariant
+
+pub returns-clause-takes : goal.returns-clause-takes
+returns-clause-takes g c tells below =
+    let old = g.I.Image.disk c.self.inside.cache in
+    let new = g.I.Image.disk c.go_on-turn.new.cache in
+    let telling : Tells old = subst (λ b. Tells (g.I.Image.disk b.image)) (sym c.self.view_is) tells in
+    let kept = outside_kept c.in-Some.slot.now.extent old.told new.told telling c.go_on-turn.ensures.outside.told in
+    rw (← c.self.view_is)
+    (takes _ c.self.inside.slots.items old new c.args.slot c.in-Some.slot.now c.go_on-turn.new.self c.go_on-turn.result _ _ _ _
+    c.self.invariant.apart (there g c) c.go_on-turn.ensures.extent c.go_on-turn.ensures.noted kept.outside (c.go_on-turn.ensures.serves telling) c.interrupts-block_irq.ensures.value)
+
+pub returns-clause-outside : goal.returns-clause-outside
+returns-clause-outside g c tells =
+    let fits : c.args.slot < length c.args.self.now.slots = rw (← c.self.view_is) (omega (arith, c.in-Some.ensures.variant.0 refl)) in
+    (returns-clause-takes g c tells fits).taken.outside
+
+pub returns-clause-told : goal.returns-clause-told
+returns-clause-told g c tells =
+    let old = g.I.Image.disk c.self.inside.cache in
+    let new = g.I.Image.disk c.go_on-turn.new.cache in
+    let telling : Tells old = subst (λ b. Tells (g.I.Image.disk b.image)) (sym c.self.view_is) tells in
+    (outside_kept c.in-Some.slot.now.extent old.told new.told telling c.go_on-turn.ensures.outside.told).tells
+
+pub returns-clause-noted : goal.returns-clause-noted
+returns-clause-noted g c =
+    rw (← c.self.view_is)
+    (noted_set c.self.inside.slots.items c.args.slot c.in-Some.slot.now c.go_on-turn.new.self _ (there g c) c.go_on-turn.ensures.noted)
+
+pub returns-clause-extents : goal.returns-clause-extents
+returns-clause-extents g c = extents_of-set c.self.inside.slots.items c.args.slot c.in-Some.slot.now c.go_on-turn.new.self (there g c) c.go_on-turn.ensures.extent ∙ ap (λ b. extents_of b.slots) c.self.view_is
+
+pub returns-clause-others : goal.returns-clause-others
+returns-clause-others g c other differ =
+    others_kept c.self.inside.slots.items c.args.slot c.go_on-turn.new.self other differ ∙ ap (λ b. slice_get b.slots other) c.self.view_is
+
+pub returns-in_default-clause-within : goal.returns-in_default-clause-within
+returns-in_default-clause-within g c limit limited found after here =
+    let past : length c.self.inside.slots.items ≤ c.args.slot = grind (arith, c.in_default.ensures.variant.1) in
+    let none : slice_get c.args.self.now.slots c.args.slot ≡ None = rw (← c.self.view_is) (slice_get_past c.self.inside.slots.items c.args.slot past) in
+    absurd (cc)
+
+pub returns-clause-within : goal.returns-clause-within
+returns-clause-within g c limit limited found after here now =
+    let was : slice_get c.args.self.now.slots c.args.slot ≡ Some c.in-Some.slot.now = ap (λ b. slice_get b.slots c.args.slot) (sym c.self.view_is) ∙ there g c in
+    let is : c.in-Some.slot.now ≡ found = same_Some c.in-Some.slot.now found (sym was ∙ here) in
+    let set : c.go_on-turn.new.self ≡ after = same_Some c.go_on-turn.new.self after (sym (set_here c.self.inside.slots.items c.args.slot c.in-Some.slot.now c.go_on-turn.new.self (there g c)) ∙ now) in
+    rw (← is, ← set, ← c.self.view_is) (c.go_on-turn.ensures.within limit limited)

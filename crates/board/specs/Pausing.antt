@@ -1,0 +1,215 @@
+-- An event whose service may pause: what each piece of the service comes to, for one slot.
+use Rattle.std.specs.Prelude.{◌≡◌, ◌≢◌, ◌⊎◌, ℕ, ◌<◌, ◌||◌, Bool, false, nat_lt, Option, Some, None, List, [], ◌++◌, slice_set}
+use Rattle.std.specs.List.{slice_get}
+use Rattle.guest_memory.specs.Memory.{Memory}
+use Rattle.chain.specs.declared.budget.Budget.{Budget}
+use Rattle.chain.specs.declared.budget.Progress.{Progress}
+use Rattle.chain.specs.declared.budget.Progress.TheVariants as progress
+use Rattle.chain.specs.Service.{Device, Refused}
+use Rattle.mmio_window.specs.declared.queue.Queue.{Queue}
+use Rattle.mmio_window.specs.Pieces.{BeginsTo, GoesOnTo, NotifiedWithin, FinishesWithin}
+use Rattle.mmio_window.specs.Window.{WindowState, queue_at}
+use Rattle.sector_cache.specs.Disk.{Disk}
+use Rattle.block_device.specs.Device.{block_device, exact_device}
+use Rattle.console_device.specs.Device.{receive, transmit, exact_transmit}
+use Rattle.console_device.specs.Input.{fitting}
+use Rattle.board.specs.declared.event.EventKind.{EventKind}
+use Rattle.board.specs.declared.event.EventKind.TheVariants.{Write, Input}
+use Rattle.board.specs.declared.pause.Pause.{Pause}
+use Rattle.board.specs.declared.pause.Service.{Service}
+use Rattle.board.specs.declared.pause.Service.TheVariants.{Block, Receive, Transmit}
+use Rattle.board.specs.declared.pause.Stage.{Stage}
+use Rattle.board.specs.declared.pause.Stage.TheVariants.{First, Next}
+use Rattle.board.specs.declared.pause.Turn.{Turn}
+use Rattle.board.specs.declared.pause.Turn.TheVariants.{Answered, More}
+use Rattle.board.specs.declared.reply.Reply.{Reply}
+use Rattle.board.specs.declared.reply.Reply.TheVariants.{Done, Took, NoMemory}
+use Rattle.board.specs.declared.slot.window.Duty.{Duty}
+use Rattle.board.specs.declared.slot.window.Duty.TheVariants as duty
+use Rattle.board.specs.Image.{Health, sectors_of, disk_with}
+use Rattle.board.specs.Machine.{block_irq, console_irq, task_at, with_write, with_input}
+use Rattle.board.specs.Slot.{SlotState}
+use Rattle.board.specs.Task.{Task, Nothing, ServeBlock, ServeReceive, ServeTransmit, PutOut, device_of}
+use Rattle.board.specs.World.{World, MayGive, lacks_memory, noted}
+
+-- ---- one piece
+
+-- The first piece of a service within a budget, or one behind a pause, and whether more is to come.
+abbrev pub ServesTo : {State : Type 0} → Stage → Device State → Budget → ℕ → Option Queue → Progress → Memory → Memory → WindowState → WindowState → State → State → Type 0
+ServesTo First device budget q queue progress old new before after s s' =
+    BeginsTo device budget q queue progress old new before after s s'
+ServesTo Next device budget q queue progress old new before after s s' =
+    GoesOnTo device budget q queue progress old new before after s s'
+
+-- one that ends since there is no memory for the chain on offer
+abbrev pub IsRefusedAt : {State : Type 0} → Stage → Device State → Budget → ℕ → Option Queue → Memory → Memory → WindowState → WindowState → State → State → Type 0
+IsRefusedAt First device budget q queue old new before after s s' =
+    NotifiedWithin device budget q queue Refused old new before after s s'
+IsRefusedAt Next device budget q queue old new before after s s' =
+    FinishesWithin device budget q queue Refused old new before after s s'
+
+-- A piece of the block device's service: its window, the memory and the guest's sectors may change.
+pub record IsBlockPiece (device : Device Disk) (stage : Stage) (budget : Budget) (progress : Progress) (old : SlotState) (before after : Health) (new : SlotState) (output : List ℕ) : Type 0 where
+  pub served :
+      ServesTo stage device budget 0 (queue_at 0 old.block) progress old.memory new.memory old.block new.block
+      (disk_with old.extent before) (disk_with new.extent after)
+  pub is : new ≡ record old { memory = new.memory; extent = new.extent; block = new.block }
+  pub size : sectors_of new.extent ≡ sectors_of old.extent
+  pub silent : output ≡ []
+
+-- one in which no call of the image failed
+pub record IsExactPiece (stage : Stage) (budget : Budget) (progress : Progress) (old : SlotState) (before after : Health) (new : SlotState) (output : List ℕ) : Type 0 where
+  pub piece : IsBlockPiece (exact_device (device_of old)) stage budget progress old before after new output
+  pub failures : after.failures ≡ before.failures
+
+-- and one in which some did
+pub record IsFailedPiece (stage : Stage) (budget : Budget) (progress : Progress) (old : SlotState) (before after : Health) (new : SlotState) (output : List ℕ) : Type 0 where
+  pub piece : IsBlockPiece (block_device (device_of old)) stage budget progress old before after new output
+  pub failures : before.failures < after.failures
+
+-- A piece of the receive queue's service: the console's window, the memory and pending input may change.
+pub record IsReceivePiece (stage : Stage) (budget : Budget) (progress : Progress) (old : SlotState) (before after : Health) (new : SlotState) (output : List ℕ) : Type 0 where
+  pub served :
+      ServesTo stage receive budget 0 (queue_at 0 old.console) progress old.memory new.memory old.console new.console
+      old.pending new.pending
+  pub is : new ≡ record old { memory = new.memory; console = new.console; pending = new.pending }
+  pub image : after ≡ before
+  pub silent : output ≡ []
+
+-- A piece of the transmit queue's service: the console's window and the memory may change.
+pub record IsTransmitPiece (stage : Stage) (budget : Budget) (progress : Progress) (old : SlotState) (before after : Health) (new : SlotState) (output : List ℕ) : Type 0 where
+  pub served :
+      ServesTo stage exact_transmit budget 1 (queue_at 1 old.console) progress old.memory new.memory old.console new.console
+      [] output
+  pub is : new ≡ record old { memory = new.memory; console = new.console }
+  pub image : after ≡ before
+
+-- and one that finds no memory for the bytes of the chain on offer
+pub record IsRefusedPiece (stage : Stage) (budget : Budget) (old : SlotState) (before after : Health) (new : SlotState) (output : List ℕ) : Type 0 where
+  pub refused :
+      IsRefusedAt stage transmit budget 1 (queue_at 1 old.console) old.memory new.memory old.console new.console [] output
+  pub is : new ≡ record old { memory = new.memory; console = new.console }
+  pub image : after ≡ before
+
+abbrev pub IsPiece : Service → Stage → Budget → Progress → SlotState → Health → Health → SlotState → List ℕ → Type 0
+IsPiece Block stage budget progress old before after new output =
+    IsExactPiece stage budget progress old before after new output ⊎ IsFailedPiece stage budget progress old before after new output
+IsPiece Receive stage budget progress old before after new output = IsReceivePiece stage budget progress old before after new output
+IsPiece Transmit stage budget progress old before after new output = IsTransmitPiece stage budget progress old before after new output
+
+-- whether a budget has a limit: without one no service pauses
+abbrev pub HasLimit : Budget → Type 0
+HasLimit budget = (budget.chains ≢ None) ⊎ (budget.bytes ≢ None)
+
+-- ---- its answer
+
+-- what an event is answered at the end of its service
+abbrev pub reply_by : {A : Type 0} → Option ℕ → Reply A
+reply_by None = Done
+reply_by (Some taken) = Took taken
+
+abbrev pub reply_of : {A : Type 0} → Pause → Reply A
+reply_of pause = reply_by pause.taken
+
+-- and what a piece of it comes to
+abbrev pub turn_of : {A : Type 0} → Pause → Progress → Turn A
+turn_of pause progress.Done = Answered (reply_of pause)
+turn_of pause progress.More = More pause
+
+-- A piece that ends the service: it goes to the end, or finds no memory for what is put out.
+abbrev pub EndsBy : {A : Type 0} → Pause → Stage → Budget → SlotState → Health → Health → SlotState → List ℕ → Reply A → Type 0
+EndsBy pause stage budget old before after new output reply =
+    ((reply ≡ reply_of pause) × IsPiece pause.service stage budget progress.Done old before after new output)
+    ⊎ ((reply ≡ NoMemory) × ((pause.service ≡ Transmit) × IsRefusedPiece stage budget old before after new output))
+
+-- What a piece of a service comes to.
+abbrev pub ComesTo : {A : Type 0} → Pause → Stage → Budget → SlotState → Health → Health → SlotState → List ℕ → Turn A → Type 0
+ComesTo pause stage budget old before after new output (Answered reply) =
+    EndsBy pause stage budget old before after new output reply
+ComesTo pause stage budget old before after new output (More next) =
+    (next ≡ pause) × IsPiece pause.service stage budget progress.More old before after new output
+
+-- ---- an event
+
+-- the service that a task asks for, if any
+abbrev pub asked_by : Task → Option Pause
+asked_by ServeBlock = Some (record { service = Block; taken = None })
+asked_by ServeReceive = Some (record { service = Receive; taken = None })
+asked_by ServeTransmit = Some (record { service = Transmit; taken = None })
+asked_by task = None
+
+-- what a task leaves for a slot's devices to do
+abbrev pub duty_of : Task → Duty
+duty_of Nothing = duty.Nothing
+duty_of ServeBlock = duty.Serve Block
+duty_of ServeReceive = duty.Serve Receive
+duty_of ServeTransmit = duty.Serve Transmit
+duty_of (PutOut byte) = duty.PutOut byte
+
+-- the service that an event asks for, and how many bytes were typed before it
+abbrev pub asked : {A : Type 0} → EventKind A → SlotState → Option Pause
+asked (Write window offset width value) state = asked_by (task_at window offset width value state)
+asked (Input bytes) state = Some (record { service = Receive; taken = Some (fitting state.pending bytes) })
+asked what state = None
+
+-- the slot as that service finds it
+abbrev pub readied : {A : Type 0} → EventKind A → SlotState → SlotState
+readied (Write window offset width value) state = with_write window offset width value state
+readied (Input bytes) state = with_input bytes state
+readied what state = state
+
+-- What an event comes to, by the service that it asks for. One that asks for none is answered at once.
+abbrev pub TurnsTo : {A : Type 0} → Option Pause → EventKind A → Budget → SlotState → Health → Health → SlotState → List ℕ → Turn A → Type 0
+TurnsTo (Some pause) what budget old before after new output turn =
+    ComesTo pause First budget (readied what old) before after new output turn
+TurnsTo None what budget old before after new output (Answered reply) =
+    MayGive old what before after (record { state = new; reply = reply; output = output })
+TurnsTo None what budget old before after new output (More pause) = ⊥
+
+abbrev pub Begins : {A : Type 0} → EventKind A → Budget → SlotState → Health → Health → SlotState → List ℕ → Turn A → Type 0
+Begins what budget old before after new output turn =
+    TurnsTo (asked what old) what budget old before after new output turn
+
+-- What a service that paused comes to as it goes on.
+abbrev pub GoesOn : {A : Type 0} → Pause → Budget → SlotState → Health → Health → SlotState → List ℕ → Turn A → Type 0
+GoesOn pause budget old before after new output turn = ComesTo pause Next budget old before after new output turn
+
+-- ---- what is noted of it
+
+-- whether it found no memory
+abbrev pub lacks_memory_in : {A : Type 0} → Turn A → Bool
+lacks_memory_in (Answered reply) = lacks_memory reply
+lacks_memory_in (More pause) = false
+
+-- whether it met a refusal, of memory or of the image
+abbrev pub met_in : {A : Type 0} → Turn A → ℕ → ℕ → Bool
+met_in turn old_failures new_failures = lacks_memory_in turn || nat_lt old_failures new_failures
+
+-- A slot's guest is served so: its event comes to a turn that it may come to, and the output was appended to what
+-- was put out before.
+pub record ServesTurn {A : Type 0} (Comes : SlotState → Health → Health → SlotState → List ℕ → Turn A → Type 0)
+    (state : SlotState) (old new : Health) (after : SlotState) (turn : Turn A) (out_before out_after : List ℕ) : Type 0 where
+  pub output : List ℕ
+  pub comes : Comes state old new after output turn
+  pub appended : out_after ≡ out_before ++ output
+
+-- A turn of slot h on the whole board, which shows these interrupt words after it: a refusal is noted, and every
+-- other slot and each byte outside all extents stay as they are.
+pub record SlotTurn {A : Type 0} (Comes : SlotState → Health → Health → SlotState → List ℕ → Turn A → Type 0)
+    (old : World) (h : ℕ) (turn : Turn A) (output : List ℕ) (block console : ℕ) (new : World) : Type 0 where
+  pub state : SlotState
+  pub there : slice_get old.slots h ≡ Some state
+  pub after : SlotState
+  pub comes : Comes state old.health new.health after output turn
+  pub block_is : block ≡ block_irq after
+  pub console_is : console ≡ console_irq after
+  pub slots : new.slots ≡ slice_set old.slots h after
+  pub disturbed : new.disturbed ≡ noted h (met_in turn old.health.failures new.health.failures) old.disturbed
+  pub outside : new.outside ≡ old.outside
+
+-- The board takes a turn, whose output was appended to what was put out before.
+pub record TakesTurn {A : Type 0} (Comes : SlotState → Health → Health → SlotState → List ℕ → Turn A → Type 0)
+    (old : World) (h : ℕ) (turn : Turn A) (block console : ℕ) (out_before out_after : List ℕ) (new : World) : Type 0 where
+  pub output : List ℕ
+  pub taken : SlotTurn Comes old h turn output block console new
+  pub appended : out_after ≡ out_before ++ output

@@ -1,0 +1,131 @@
+//! An event of a slot, and the pieces of its service.
+
+ghost use Rattle.std.specs.Prelude.{◌≡◌, ◌↔◌, ◌<◌, ◌≤◌, ℕ, List, length, Some, IsSomeAnd};
+ghost use Rattle.std.specs.List.{slice_get};
+ghost use Rattle.board.specs.declared.pause.Pause.{Pause};
+ghost use Rattle.board.specs.declared.pause.Turn.{Turn};
+ghost use Rattle.board.specs.declared.reply.Reply.{Reply};
+ghost use Rattle.board.specs.Image.{Tells, bytes_of};
+ghost use Rattle.board.specs.Pausing.{Begins, GoesOn, HasLimit, TakesTurn, met_in};
+ghost use Rattle.board.specs.Slot.{BoardSlot, state_of};
+ghost use Rattle.board.specs.World.{KeepsOthers, MayLackMemory, disturbed_of, extents_of, noted, world_of};
+ghost use Rattle.board.specs.Within.{BeginsWithin, GoesOnWithin};
+
+use crate::board::Board;
+use crate::event::EventKind;
+use crate::pause::{Pause, Turn};
+use crate::reply::Reply;
+use chain::Budget;
+use console_device::Outlet;
+use sector_cache::Image;
+use std::alloc::{Allocator, Global};
+
+// A turn that the board took, and both interrupt words behind it.
+#[derive(Drop)]
+pub(crate) struct Taken<A: Allocator = Global> {
+    pub(crate) turn: Turn<A>,
+    pub(crate) block_irq: u8,
+    pub(crate) console_irq: u8,
+}
+
+impl<I: Image, A: Allocator + Copy> Board<I, A> {
+    /// Handles one event of a slot, whose service may pause where the budget is spent.
+    pub(crate) fn begin<O: Outlet>(
+        &mut self,
+        slot: u8,
+        what: &EventKind<A>,
+        budget: Budget,
+        out: &mut O,
+    ) -> Taken<A>
+        ensures takes { Tells (I.disk self.old.image) → slot < length self.old.slots →
+            TakesTurn (Begins what.now budget) (world_of I.disk self.old) slot result.turn
+            result.block_irq result.console_irq (O.bytes out.old) (O.bytes out.new) (world_of I.disk self.new) }
+        ensures within { (limit : ℕ) → O.limit out.old ≡ Some limit → (found after : BoardSlot) →
+            slice_get self.old.slots slot ≡ Some found → slice_get self.new.slots slot ≡ Some after →
+            BeginsWithin limit what.now budget (state_of (bytes_of (I.disk self.old.image)) found)
+            (state_of (bytes_of (I.disk self.new.image)) after)
+            (O.bytes out.old) (O.bytes out.new) result.turn }
+        ensures limit { O.limit out.new ≡ O.limit out.old }
+        ensures block_word { result.block_irq ≤ 3 }
+        ensures console_word { result.console_irq ≤ 3 }
+        ensures told { Tells (I.disk self.old.image) → Tells (I.disk self.new.image) }
+        ensures outside { Tells (I.disk self.old.image) →
+            (world_of I.disk self.new).outside ≡ (world_of I.disk self.old).outside }
+        ensures extents { extents_of self.new.slots ≡ extents_of self.old.slots }
+        ensures sectors { (I.disk self.new.image).sector_count ≡ (I.disk self.old.image).sector_count }
+        ensures rises { (I.disk self.old.image).failures ≤ (I.disk self.new.image).failures }
+        ensures noted { disturbed_of self.new.slots ≡ noted slot
+            (met_in result.turn (I.disk self.old.image).failures (I.disk self.new.image).failures)
+            (disturbed_of self.old.slots) }
+        ensures limited { (next : Pause) → result.turn ≡ Turn.More next → HasLimit budget }
+        ensures bad_slot { (result.turn ≡ Turn.Answered Reply.BadSlot) ↔ (length self.old.slots ≤ slot) }
+        ensures missing { length self.old.slots ≤ slot → (self.new ≡ self.old) × (O.bytes out.new ≡ O.bytes out.old)
+            × (result.block_irq ≡ 0) × (result.console_irq ≡ 0) }
+        ensures bad_range_keeps { result.turn ≡ Turn.Answered Reply.BadRange → self.new ≡ self.old }
+        ensures others { KeepsOthers slot self.old.slots self.new.slots }
+        ensures no_memory { result.turn ≡ Turn.Answered Reply.NoMemory →
+            IsSomeAnd (slice_get self.old.slots slot)
+            (λ found. (image : List ℕ) → MayLackMemory (state_of image found) what.now) }
+    {
+        let Some(slot) = self.slots.get_mut(slot as usize) else {
+            return Taken {
+                turn: Turn::Answered(Reply::BadSlot),
+                block_irq: 0,
+                console_irq: 0,
+            };
+        };
+        let turn = slot.begin(self.alloc, what, budget, &mut self.cache, out);
+        let (block_irq, console_irq) = slot.interrupts();
+        Taken {
+            turn,
+            block_irq,
+            console_irq,
+        }
+    }
+
+    /// Goes on with a service of a slot that paused.
+    pub(crate) fn go_on<O: Outlet>(
+        &mut self,
+        slot: u8,
+        pause: Pause,
+        budget: Budget,
+        out: &mut O,
+    ) -> Taken<A>
+        ensures takes { Tells (I.disk self.old.image) → slot < length self.old.slots →
+            TakesTurn (GoesOn pause budget) (world_of I.disk self.old) slot result.turn
+            result.block_irq result.console_irq (O.bytes out.old) (O.bytes out.new) (world_of I.disk self.new) }
+        ensures within { (limit : ℕ) → O.limit out.old ≡ Some limit → (found after : BoardSlot) →
+            slice_get self.old.slots slot ≡ Some found → slice_get self.new.slots slot ≡ Some after →
+            GoesOnWithin limit pause budget (state_of (bytes_of (I.disk self.old.image)) found)
+            (state_of (bytes_of (I.disk self.new.image)) after)
+            (O.bytes out.old) (O.bytes out.new) result.turn }
+        ensures limit { O.limit out.new ≡ O.limit out.old }
+        ensures told { Tells (I.disk self.old.image) → Tells (I.disk self.new.image) }
+        ensures outside { Tells (I.disk self.old.image) →
+            (world_of I.disk self.new).outside ≡ (world_of I.disk self.old).outside }
+        ensures extents { extents_of self.new.slots ≡ extents_of self.old.slots }
+        ensures sectors { (I.disk self.new.image).sector_count ≡ (I.disk self.old.image).sector_count }
+        ensures rises { (I.disk self.old.image).failures ≤ (I.disk self.new.image).failures }
+        ensures noted { disturbed_of self.new.slots ≡ noted slot
+            (met_in result.turn (I.disk self.old.image).failures (I.disk self.new.image).failures)
+            (disturbed_of self.old.slots) }
+        ensures missing { length self.old.slots ≤ slot →
+            (self.new ≡ self.old) × (O.bytes out.new ≡ O.bytes out.old) × (result.turn ≡ Turn.Answered Reply.BadSlot) }
+        ensures others { KeepsOthers slot self.old.slots self.new.slots }
+    {
+        let Some(slot) = self.slots.get_mut(slot as usize) else {
+            return Taken {
+                turn: Turn::Answered(Reply::BadSlot),
+                block_irq: 0,
+                console_irq: 0,
+            };
+        };
+        let turn = slot.go_on(pause, budget, &mut self.cache, out);
+        let (block_irq, console_irq) = slot.interrupts();
+        Taken {
+            turn,
+            block_irq,
+            console_irq,
+        }
+    }
+}

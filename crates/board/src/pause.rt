@@ -1,0 +1,68 @@
+//! A service that pauses: which one, and what a call for an event comes to.
+
+ghost use Rattle.std.specs.Prelude.{◌≡◌};
+ghost use Rattle.board.specs.Pausing.{reply_of, turn_of};
+
+use crate::reply::Reply;
+use chain::Progress;
+use std::alloc::{Allocator, Global};
+
+/// A queue that one of a slot's devices serves.
+#[derive(Clone, Copy, Debug, PartialEq, Eq)]
+pub enum Service {
+    /// The block device's requests (5.2.2).
+    Block,
+    /// The console's receiveq (5.3.2).
+    Receive,
+    /// The console's transmitq (5.3.2).
+    Transmit,
+}
+
+/// A service that paused before a chain that is on offer. Its queue stands open.
+#[derive(Clone, Copy, Debug, PartialEq, Eq)]
+pub struct Pause {
+    pub service: Service,
+    /// Where the event that it serves typed to the console: how many bytes were taken.
+    pub taken: Option<usize>,
+}
+
+impl Pause {
+    // What the event is answered at the end of its service.
+    pub(crate) fn reply<A: Allocator>(self) -> Reply<A>
+        ensures { result ≡ reply_of self }
+    {
+        match self.taken {
+            Some(taken) => Reply::Took(taken),
+            None => Reply::Done,
+        }
+    }
+
+    // What a piece of its service comes to.
+    pub(crate) fn turn<A: Allocator>(self, progress: Progress) -> Turn<A>
+        ensures { result ≡ turn_of self progress }
+    {
+        match progress {
+            Progress::More => Turn::More(self),
+            Progress::Done => Turn::Answered(self.reply()),
+        }
+    }
+}
+
+/// What an event came to, or a piece of its service.
+#[derive(Drop)]
+#[derive_where(Debug, PartialEq, Eq)]
+pub enum Turn<A: Allocator = Global> {
+    /// The event is done, and answered.
+    Answered(Reply<A>),
+    /// Its service pauses, and goes on later.
+    More(Pause),
+}
+
+/// Which piece of a service is served.
+#[derive(Clone, Copy, Debug, PartialEq, Eq)]
+pub(crate) enum Stage {
+    /// The first one, which opens the queue.
+    First,
+    /// One behind a pause.
+    Next,
+}

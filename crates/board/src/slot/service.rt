@@ -1,0 +1,160 @@
+//! The services of the slot's queues, piece by piece.
+
+ghost use Rattle.std.specs.Prelude.{◌≡◌, ◌≢◌, ◌≤◌, ℕ, Some, nat_lt, IfOk, OnErr};
+ghost use Rattle.mmio_window.specs.Window.{queue_at};
+ghost use Rattle.block_device.specs.Device.{block_device};
+ghost use Rattle.block_device.specs.Extent.{IsWithin, KeepsOutside, extent_disk};
+ghost use Rattle.console_device.specs.Device.{receive, transmit_fitting, transmit_within};
+ghost use Rattle.board.specs.declared.pause.Pause.{Pause};
+ghost use Rattle.board.specs.declared.pause.Service.{Service};
+ghost use Rattle.board.specs.declared.pause.Stage.{Stage};
+ghost use Rattle.board.specs.declared.pause.Turn.{Turn};
+ghost use Rattle.board.specs.declared.reply.Reply.{Reply};
+ghost use Rattle.board.specs.Image.{Tells, bytes_of, health_of};
+ghost use Rattle.board.specs.Pausing.{ComesTo, HasLimit, IsRefusedAt, ServesTo, ServesTurn};
+ghost use Rattle.board.specs.Slot.{state_of};
+ghost use Rattle.board.specs.Within.{PieceWithin};
+ghost use Rattle.board.specs.World.{HasBytesToPutOut};
+
+use crate::pause::{Pause, Service, Stage, Turn};
+use crate::reply::Reply;
+use crate::slot::{Answer, Slot};
+use block_device::Piece;
+use chain::{Budget, Progress};
+use console_device::{NoMemory, Outlet};
+use sector_cache::{Image, SectorCache};
+use std::alloc::Allocator;
+
+impl<A: Allocator + Copy> Slot<A> {
+    /// Serves a piece of a service. What the console puts out is appended to `out`.
+    pub(super) fn serve_piece<I: Image, O: Outlet>(
+        &mut self,
+        pause: Pause,
+        stage: Stage,
+        budget: Budget,
+        cache: &mut SectorCache<I, A>,
+        out: &mut O,
+    ) -> Answer<A>
+        requires lies { IsWithin (I.disk cache.old).sector_count self.old.extent }
+        ensures serves { Tells (I.disk cache.old) →
+            ServesTurn (ComesTo pause stage budget) (state_of (bytes_of (I.disk cache.old)) self.old)
+            (health_of (I.disk cache.old)) (health_of (I.disk cache.new))
+            (state_of (bytes_of (I.disk cache.new)) self.new) result.turn (O.bytes out.old) (O.bytes out.new) }
+        ensures within { (limit : ℕ) → O.limit out.old ≡ Some limit →
+            PieceWithin limit pause stage budget (state_of (bytes_of (I.disk cache.old)) self.old)
+            (state_of (bytes_of (I.disk cache.new)) self.new) (O.bytes out.old) (O.bytes out.new) result.turn }
+        ensures limit { O.limit out.new ≡ O.limit out.old }
+        ensures failed { result.failed ≡ nat_lt (I.disk cache.old).failures (I.disk cache.new).failures }
+        ensures rises { (I.disk cache.old).failures ≤ (I.disk cache.new).failures }
+        ensures outside { KeepsOutside self.old.extent (I.disk cache.old) (I.disk cache.new) }
+        ensures extent { self.new.extent ≡ self.old.extent }
+        ensures disturbed { self.new.disturbed ≡ self.old.disturbed }
+        ensures no_memory { result.turn ≡ Turn.Answered Reply.NoMemory → stage ≡ Stage.First →
+            (pause.service ≡ Service.Transmit) × HasBytesToPutOut self.old.memory self.old.console }
+        ensures limited { (next : Pause) → result.turn ≡ Turn.More next → HasLimit budget }
+        ensures there { result.turn ≢ Turn.Answered Reply.BadSlot }
+        ensures in_range { result.turn ≢ Turn.Answered Reply.BadRange }
+    {
+        match pause.service {
+            Service::Block => {
+                let Piece { progress, failed } = self.serve_block(stage, budget, cache);
+                Answer {
+                    turn: pause.turn(progress),
+                    failed,
+                }
+            }
+            Service::Receive => {
+                let progress = self.serve_receive(stage, budget);
+                Answer {
+                    turn: pause.turn(progress),
+                    failed: false,
+                }
+            }
+            Service::Transmit => {
+                let turn = match self.serve_transmit(stage, budget, out) {
+                    Ok(progress) => pause.turn(progress),
+                    Err(NoMemory) => Turn::Answered(Reply::NoMemory),
+                };
+                Answer {
+                    turn,
+                    failed: false,
+                }
+            }
+        }
+    }
+
+    // Serves requests of the block device (5.2.6).
+    fn serve_block<I: Image>(
+        &mut self,
+        stage: Stage,
+        budget: Budget,
+        cache: &mut SectorCache<I, A>,
+    ) -> Piece
+        requires lies { IsWithin (I.disk cache.old).sector_count self.old.extent }
+        ensures served { ServesTo stage (block_device (record {
+              extent = self.old.extent; read_only = self.old.read_only; identity = self.old.identity;
+            })) budget 0 (queue_at 0 self.old.block) result.progress self.old.memory self.new.memory
+            self.old.block self.new.block (extent_disk self.old.extent (I.disk cache.old))
+            (extent_disk self.old.extent (I.disk cache.new)) }
+        ensures rest { self.new ≡ record self.old { memory = self.new.memory; block = self.new.block } }
+        ensures failed { result.failed ≡ nat_lt (I.disk cache.old).failures (I.disk cache.new).failures }
+        ensures rises { (I.disk cache.old).failures ≤ (I.disk cache.new).failures }
+        ensures outside { KeepsOutside self.old.extent (I.disk cache.old) (I.disk cache.new) }
+    {
+        let (memory, window) = (&mut self.memory, &mut self.block);
+        match stage {
+            Stage::First => self
+                .block_device
+                .serve_some(memory, window, cache, budget, &mut self.chain),
+            Stage::Next => self
+                .block_device
+                .go_on(memory, window, cache, budget, &mut self.chain),
+        }
+    }
+
+    // Puts pending input into the chains on offer (5.3.6).
+    pub(super) fn serve_receive(&mut self, stage: Stage, budget: Budget) -> Progress
+        ensures served { ServesTo stage receive budget 0 (queue_at 0 self.old.console) result
+            self.old.memory self.new.memory self.old.console self.new.console self.old.pending self.new.pending }
+        ensures rest { self.new ≡ record self.old {
+              memory = self.new.memory; console = self.new.console; pending = self.new.pending;
+            } }
+    {
+        let (memory, window) = (&mut self.memory, &mut self.console);
+        match stage {
+            Stage::First => self
+                .console_device
+                .serve_receive_some(memory, window, budget, &mut self.chain),
+            Stage::Next => self
+                .console_device
+                .go_on_receive(memory, window, budget, &mut self.chain),
+        }
+    }
+
+    // Puts out the bytes of the chains on offer (5.3.6).
+    fn serve_transmit<O: Outlet>(
+        &mut self,
+        stage: Stage,
+        budget: Budget,
+        out: &mut O,
+    ) -> Result<Progress, NoMemory>
+        ensures ok { IfOk result (λ progress. ServesTo stage (transmit_fitting (O.limit out.old)) budget 1
+            (queue_at 1 self.old.console) progress self.old.memory self.new.memory
+            self.old.console self.new.console (O.bytes out.old) (O.bytes out.new)) }
+        ensures no_memory { OnErr result (IsRefusedAt stage (transmit_within (O.limit out.old)) budget 1
+            (queue_at 1 self.old.console) self.old.memory self.new.memory
+            self.old.console self.new.console (O.bytes out.old) (O.bytes out.new)) }
+        ensures rest { self.new ≡ record self.old { memory = self.new.memory; console = self.new.console } }
+        ensures limit { O.limit out.new ≡ O.limit out.old }
+    {
+        let (memory, window) = (&mut self.memory, &mut self.console);
+        match stage {
+            Stage::First => self
+                .console_device
+                .serve_transmit_some(memory, window, out, budget, &mut self.chain),
+            Stage::Next => self
+                .console_device
+                .go_on_transmit(memory, window, out, budget, &mut self.chain),
+        }
+    }
+}
