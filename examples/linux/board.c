@@ -5,10 +5,11 @@
 #include <stdlib.h>
 #include <string.h>
 
+#include "disk.h"
 #include "record.h"
 #include "watch.h"
 
-enum { GUESTS = 16, COLUMNS = 80, ROWS = 25 };
+enum { GUESTS = 16, COLUMNS = 80, ROWS = 25, QUEUE_NOTIFY = 0x050 };
 
 static struct kalyubos board;
 static struct board_settings settings;
@@ -59,6 +60,7 @@ void board_open(const struct board_settings *wanted)
     if (settings.record != NULL && !record_to(settings.record))
         must(KALYUBOS_NO_ROOM, settings.record);
     must(record_create(&board, slots, settings.guests, settings.image, start * 512, settings.cache), "create");
+    disk_serve(&board);
     for (size_t i = 0; i < settings.guests; i++)
         memories[i] = memory_of(i);
 }
@@ -68,6 +70,7 @@ void board_close(void)
     for (size_t i = 0; i < settings.guests && settings.copies; i++)
         free(memories[i]);
     must(kalyubos_destroy(&board), "destroy");
+    disk_close();
     if (!record_end())
         must(KALYUBOS_NO_ROOM, "the record");
 }
@@ -112,6 +115,7 @@ uint32_t board_read(uint8_t slot, uint8_t window, uint16_t offset, uint8_t width
     return value;
 }
 
+/* The library doesn't tell of a flush, so each notify of a disk ends only when what it wrote is below the file. */
 bool board_write(uint8_t slot, uint8_t window, uint16_t offset, uint8_t width, uint32_t value)
 {
     struct watch_call call = { WATCH_WRITE, slot, window, offset, width, value };
@@ -120,6 +124,8 @@ bool board_write(uint8_t slot, uint8_t window, uint16_t offset, uint8_t width, u
     uint32_t answer = record_write(&board, slot, window, offset, width, value, &waits[slot]);
     watch_after(&board, &call, record_line());
     after(slot);
+    if (window == KALYUBOS_BLOCK && offset == QUEUE_NOTIFY)
+        disk_sync();
     if (answer != KALYUBOS_NO_ROOM)
         must(answer, "write");
     return answer == KALYUBOS_DONE;

@@ -150,7 +150,13 @@ static void show_file(const char *path)
 static void show_help(void)
 {
     printf("size: of the console; serial: of the disk; features: of both; interrupts, version: of the kernel;\n"
-           "lines: many of them; off; all else is said again\n");
+           "lines: many of them; sync: all files go to the disk; off; all else is said again\n");
+}
+
+static void write_all(void)
+{
+    my_syscall0(__NR_sync);
+    printf("all is on the disk\n");
 }
 
 static void show_lines(void)
@@ -173,6 +179,8 @@ static void answer(const char *line)
         show_file("/proc/version");
     else if (strcmp(line, "lines") == 0)
         show_lines();
+    else if (strcmp(line, "sync") == 0)
+        write_all();
     else if (strcmp(line, "help") == 0)
         show_help();
     else

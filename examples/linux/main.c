@@ -14,6 +14,8 @@
  *   --cycles COUNT    leaves a guest that isn't off by then
  *   --record FILE     writes what the guests did as a trace, and the answers to FILE.records
  *   --keep GUEST      writes that guest's disk back to its file at the end
+ *   --image FILE      serves all disks in place from FILE, where they stand one after the other; of the guests' own files
+ *                     only the names and the lengths count
  *
  * What a guest's drivers do wrong is told in guest-0.mistakes, and at the end on the screen.
  */
@@ -25,6 +27,7 @@
 #include <unistd.h>
 
 #include "board.h"
+#include "disk.h"
 #include "files.h"
 #include "machine.h"
 #include "noise.h"
@@ -81,8 +84,8 @@ static void power_on(size_t index, struct machine_file kernel, struct machine_fi
     board_watch(index, machine->mistakes);
 }
 
-/* The disks' bytes, one disk after the other. */
-static uint8_t *image_of_guests(void)
+/* The disks' bytes, one disk after the other, and how many they are. */
+static uint8_t *image_of_guests(size_t *all)
 {
     uint8_t *image = NULL;
     size_t len = 0;
@@ -102,17 +105,20 @@ static uint8_t *image_of_guests(void)
         guests[i].sectors = disk.len / SECTOR;
         len += disk.len;
     }
+    *all = len;
     return image;
 }
 
 static void open_guests(void)
 {
     uint64_t sectors[GUESTS];
-    uint8_t *image = image_of_guests();
+    size_t len;
+    uint8_t *image = image_of_guests(&len);
+    const uint8_t *served = words.image != NULL ? disk_open(words.image, len) : image;
     struct machine_file kernel = read_file(words.kernel), tree = read_file(words.tree);
     for (size_t i = 0; i < words.count; i++)
         sectors[i] = guests[i].sectors;
-    board_open(&(struct board_settings){ words.count, sectors, words.guests, image, words.cache, words.outlet,
+    board_open(&(struct board_settings){ words.count, sectors, words.guests, served, words.cache, words.outlet,
                                          words.record, words.copies });
     free(image);
     for (size_t i = 0; i < words.count; i++)

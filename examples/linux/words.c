@@ -44,13 +44,13 @@ static uint64_t feature(const char *word)
 
 static const struct option OPTIONS[] = {
     { "cache", required_argument, NULL, 'c' },   { "copies", no_argument, NULL, 'p' },
-    { "cycles", required_argument, NULL, 'n' },  { "interactive", no_argument, NULL, 'i' },
+    { "cycles", required_argument, NULL, 'n' },  { "image", required_argument, NULL, 'm' },
+    { "interactive", no_argument, NULL, 'i' },   { "keep", required_argument, NULL, 'b' },
     { "kernel", required_argument, NULL, 'k' },  { "late", no_argument, NULL, 'l' },
     { "outlet", required_argument, NULL, 'o' },  { "quiet", no_argument, NULL, 'q' },
     { "record", required_argument, NULL, 'r' },  { "script", required_argument, NULL, 's' },
     { "show", required_argument, NULL, 'g' },    { "to", required_argument, NULL, 'd' },
     { "tree", required_argument, NULL, 't' },    { "without", required_argument, NULL, 'w' },
-    { "keep", required_argument, NULL, 'b' },
     { NULL, 0, NULL, 0 },
 };
 
@@ -64,6 +64,7 @@ static void take(struct words *words, int option)
     case 'i': words->interactive = true; break;
     case 'k': words->kernel = optarg; break;
     case 'l': words->late = true; break;
+    case 'm': words->image = optarg; break;
     case 'n': words->cycles = number(optarg); break;
     case 'o': words->outlet = number(optarg); break;
     case 'p': words->copies = true; break;
@@ -88,5 +89,7 @@ struct words words_of(int argc, char **argv)
     words.count = argc - optind;
     if (words.kernel == NULL || words.tree == NULL || words.count == 0 || words.count > GUESTS)
         fail("--kernel, --tree and one to sixteen guests are wanted");
+    if (words.image != NULL && words.kept >= 0)
+        fail("--image beside --keep");
     return words;
 }

@@ -11,6 +11,7 @@ struct words {
     const char *to;     /* the folder of the guests' files */
     const char *script; /* the lines that are typed, one at each prompt */
     const char *record;
+    const char *image; /* the file of all disks, which is served in place, or NULL */
     uint32_t cache, outlet;
     uint64_t hidden; /* feature bits that no driver is shown */
     uint64_t cycles; /* a guest that isn't off after so many is left */
