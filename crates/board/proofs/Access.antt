@@ -1,5 +1,5 @@
 -- What an embedder writes to a guest's memory between events, as the step of that event.
-use Rattle.std.proofs.Common.{◌≡◌, inl, ℕ, Bool, true, false, ◌||◌, nat_lt, arith, List, [], length, map, Some, refl, sym, ◌∙◌, ap}
+use Rattle.std.proofs.Common.{◌≡◌, inl, ℕ, Bool, true, false, ◌||◌, nat_lt, arith, List, [], length, Some, refl, sym, ◌∙◌, ap}
 use Rattle.std.specs.Prelude.{AllPairs, IsSomeAnd, slice_set}
 use Rattle.std.specs.Bool.{OnTrue}
 use Rattle.std.specs.List.{slice_get}

@@ -1,5 +1,5 @@
 -- Pieces of a service, as its window shows them: of a device that does as another one does, and joined.
-use Rattle.std.proofs.Common.{◌≡◌, ◌≢◌, ℕ, Bool, Option, Some, None, List, refl, sym, ap, subst, ◌∙◌, arith, inl, inr}
+use Rattle.std.proofs.Common.{◌≡◌, ℕ, Bool, Option, Some, None, List, refl, sym, ap, subst, ◌∙◌}
 use Rattle.std.specs.Prelude.{◌&&◌}
 use Rattle.guest_memory.specs.Memory.{Memory}
 use Rattle.chain.specs.declared.fault.Fault.{Fault}
@@ -8,12 +8,11 @@ use Rattle.chain.specs.declared.budget.Progress.{Progress}
 use Rattle.chain.specs.declared.budget.Progress.TheVariants.{More, Done}
 use Rattle.chain.specs.declared.segment.Buffer.{Buffer}
 use Rattle.chain.specs.Budget.{AreWithin, IsSpent, chains_of, left_after}
-use Rattle.chain.specs.Pieces.{BeginsWithin, EndsWithin, IsServiceWithin, Pauses}
-use Rattle.chain.specs.Service.{Device, Ending, Refused, Site, IsReady, IsService, open_site}
+use Rattle.chain.specs.Pieces.{EndsWithin, IsServiceWithin, Pauses}
+use Rattle.chain.specs.Service.{Device, Ending, Refused, Site, IsReady, open_site}
 use Rattle.chain.proofs.Pieces.{CourseAlike, EndsAlikeBy, course_alike, end_alike, opened_to_end}
 use Rattle.chain.proofs.Simulating.{DoesAs, ServedAs, moved, service_as}
 use Rattle.mmio_window.specs.declared.queue.Queue.{Queue}
-use Rattle.mmio_window.specs.Pieces.{BeginsTo, EndsIn, FinishesWithin, GoesOnIn, GoesOnTo, IsFinishedWithin, IsNotifiedWithin, NotifiedWithin, PausesIn}
 use Rattle.mmio_window.specs.Queue.{queue_kind}
 use Rattle.mmio_window.specs.Window.{WindowState}
 use Rattle.board.specs.declared.pause.Stage.{Stage}

@@ -1,7 +1,6 @@
 pub mod Guests
 pub mod OneRun
 pub mod Blocks
-pub mod Consoles
 pub mod Outside
 pub mod Seats
 pub mod Alone
@@ -12,7 +11,6 @@ pub mod Access
 pub mod Keeping
 pub mod Specs
 pub mod Faults
-pub mod Within
 pub mod OneSeat
 pub mod Identities
 pub mod Alike

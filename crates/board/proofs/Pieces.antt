@@ -1,13 +1,13 @@
 -- What the pieces of a slot's services come to, as its guest sees it.
-use Rattle.std.proofs.Common.{◌≡◌, ◌≢◌, ℕ, ◌-◌, ◌≤◌, Option, Some, None, List, [], ◌++◌, length, refl, sym, ap, subst, ◌∙◌, arith, length-drop}
+use Rattle.std.proofs.Common.{◌≡◌, ℕ, ◌-◌, ◌≤◌, Option, Some, None, List, length, ap, ◌∙◌, arith, length-drop}
 use Rattle.guest_memory.specs.Memory.{Memory}
 use Rattle.chain.specs.declared.budget.Budget.{Budget}
 use Rattle.chain.specs.declared.budget.Progress.{Progress}
 use Rattle.chain.specs.declared.budget.Progress.TheVariants.{More, Done}
-use Rattle.chain.specs.Service.{Site, Ending, open_site}
+use Rattle.chain.specs.Service.{Site, open_site}
 use Rattle.mmio_window.specs.declared.queue.Queue.{Queue}
 use Rattle.mmio_window.specs.Queue.{queue_kind}
-use Rattle.mmio_window.specs.Window.{WindowState, queue_at}
+use Rattle.mmio_window.specs.Window.{WindowState}
 use Rattle.mmio_window.proofs.Pieces.{notified_once}
 use Rattle.console_device.specs.Device.{receive}
 use Rattle.console_device.specs.Input.{IsLeft}

@@ -1,15 +1,11 @@
 -- An event without a budget is answered: what the board handles is the turn that it takes.
-use Rattle.std.proofs.Common.{◌≡◌, ◌≢◌, ◌⊎◌, inl, inr, ℕ, ◌<◌, ◌≤◌, Option, Some, None, List, [], length, refl, sym, ap, subst, ◌∙◌, arith}
-use Rattle.std.specs.List.{slice_get}
-use Rattle.std.proofs.lemmas.Bool.{cases_lt}
-use Rattle.guest_memory.specs.Memory.{Memory}
+use Rattle.std.proofs.Common.{◌≡◌, ◌≢◌, inl, inr, ℕ, Some, None, List, refl, sym, subst, ◌∙◌}
 use Rattle.chain.specs.declared.budget.Budget.{Budget}
 use Rattle.chain.specs.declared.budget.Progress.TheVariants as progress
 use Rattle.chain.specs.Service.{Ending, Refused}
 use Rattle.mmio_window.specs.declared.device_kind.DeviceKind.{DeviceKind}
-use Rattle.mmio_window.specs.declared.queue.Queue.{Queue}
 use Rattle.mmio_window.specs.Serving.{Notified}
-use Rattle.mmio_window.specs.Window.{WindowState, queue_at}
+use Rattle.mmio_window.specs.Window.{queue_at}
 use Rattle.mmio_window.proofs.Pieces.{notified_once}
 use Rattle.mmio_window.proofs.Services.{notified_as, notified_not_refused}
 use Rattle.console_device.specs.Device.{transmit_fitting, transmit_within}
@@ -17,18 +13,16 @@ use Rattle.console_device.proofs.Pieces.{fitting_within}
 use Rattle.board.specs.declared.event.Event.{Event}
 use Rattle.board.specs.declared.event.EventKind.{EventKind}
 use Rattle.board.specs.declared.event.EventKind.TheVariants.{Read, Write, MemRead, MemWrite, Input, Resize}
-use Rattle.board.specs.declared.pause.Pause.{Pause}
 use Rattle.board.specs.declared.pause.Service.TheVariants.{Transmit}
 use Rattle.board.specs.declared.pause.Stage.TheVariants.{First}
-use Rattle.board.specs.declared.pause.Turn.{Turn}
 use Rattle.board.specs.declared.pause.Turn.TheVariants.{Answered}
 use Rattle.board.specs.declared.reply.Reply.{Reply}
-use Rattle.board.specs.declared.reply.Reply.TheVariants.{BadSlot, Done, NoMemory}
+use Rattle.board.specs.declared.reply.Reply.TheVariants.{Done}
 use Rattle.board.specs.Machine.{task_at, with_write}
 use Rattle.board.specs.Pausing.{Begins, TakesTurn, asked_by}
 use Rattle.board.specs.Slot.{SlotState}
 use Rattle.board.specs.Task.{Task, Nothing, ServeBlock, ServeReceive, ServeTransmit, PutOut}
-use Rattle.board.specs.Within.{BeginsWithin, IsSentPiece, IsUnsentPiece, PutsOutWithin, SendsWithin, TakesWithin, TransmitsWithin, TurnWithin, reply_at}
+use Rattle.board.specs.Within.{BeginsWithin, IsSentPiece, PutsOutWithin, SendsWithin, TakesWithin, TransmitsWithin, TurnWithin, reply_at}
 use Rattle.board.specs.World.{World, Handles}
 use Rattle.board.proofs.Seats.{step_there}
 use Rattle.board.proofs.Whole.{came, whole}

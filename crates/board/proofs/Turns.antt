@@ -1,13 +1,13 @@
 -- A turn of a slot, from what its devices did.
-use Rattle.std.proofs.Common.{◌≡◌, ◌≢◌, ◌⊎◌, inl, inr, ℕ, ◌+◌, ◌<◌, ◌≤◌, Bool, Option, Some, None, Result, Ok, Err, List, [], ◌∷◌, ◌++◌, length, refl, sym, ap, subst, ◌∙◌, arith, append_assoc, append-nil}
-use Rattle.std.specs.Prelude.{IfOk, OnErr, OnOk}
+use Rattle.std.proofs.Common.{◌≡◌, ◌≢◌, ◌⊎◌, inl, inr, ℕ, ◌+◌, ◌≤◌, Option, Some, None, Result, Ok, Err, List, [], ◌∷◌, ◌++◌, length, refl, sym, ap, subst, ◌∙◌, arith, append_assoc, append-nil}
+use Rattle.std.specs.Prelude.{OnErr, OnOk}
 use Rattle.std.proofs.lemmas.Bool.{cases_eq}
 use Rattle.std.proofs.lemmas.Bool.Decides.{nat_tests}
 use Rattle.guest_memory.specs.Memory.{Memory}
 use Rattle.chain.specs.declared.budget.Budget.{Budget}
 use Rattle.chain.specs.declared.budget.Progress.{Progress}
 use Rattle.chain.specs.declared.budget.Progress.TheVariants as progress
-use Rattle.chain.specs.Service.{Device, Given, Ending, Refused, Site}
+use Rattle.chain.specs.Service.{Given, Ending, Refused, Site}
 use Rattle.chain.proofs.Servicing.{refused_service}
 use Rattle.chain.proofs.Simulating.{DoesAs}
 use Rattle.sector_cache.specs.Disk.{Disk, IsWhole}
@@ -32,15 +32,15 @@ use Rattle.board.specs.declared.event.EventKind.TheVariants.{Write}
 use Rattle.board.specs.declared.slot.window.Duty.TheVariants as duty
 use Rattle.board.specs.declared.pause.Pause.{Pause}
 use Rattle.board.specs.declared.pause.Service.{Service}
-use Rattle.board.specs.declared.pause.Service.TheVariants.{Block, Receive, Transmit}
+use Rattle.board.specs.declared.pause.Service.TheVariants.{Block, Transmit}
 use Rattle.board.specs.declared.pause.Stage.{Stage}
 use Rattle.board.specs.declared.pause.Stage.TheVariants.{First, Next}
 use Rattle.board.specs.declared.pause.Turn.{Turn}
-use Rattle.board.specs.declared.pause.Turn.TheVariants.{Answered, More}
+use Rattle.board.specs.declared.pause.Turn.TheVariants.{Answered}
 use Rattle.board.specs.declared.reply.Reply.{Reply}
 use Rattle.board.specs.declared.reply.Reply.TheVariants.{Done, NoMemory}
 use Rattle.board.specs.Image.{Health, Tells, bytes_of, health_of, sectors_of, disk_with}
-use Rattle.board.specs.Pausing.{ServesTo, IsRefusedAt, IsBlockPiece, IsPiece, IsTransmitPiece, IsRefusedPiece, ComesTo, TurnsTo, Begins, ServesTurn, asked, asked_by, duty_of, readied, reply_of, turn_of}
+use Rattle.board.specs.Pausing.{ServesTo, IsRefusedAt, IsBlockPiece, IsPiece, ComesTo, TurnsTo, Begins, ServesTurn, asked, asked_by, duty_of, readied, turn_of}
 use Rattle.board.specs.Slot.{SlotState, BoardSlot, state_of}
 use Rattle.board.specs.Machine.{task_at, with_write}
 use Rattle.board.specs.Outcome.{Outcome as Came, replies, does}

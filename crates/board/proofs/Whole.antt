@@ -1,11 +1,10 @@
 -- A service in one piece is what an event comes to.
-use Rattle.std.proofs.Common.{◌≡◌, ◌≢◌, ◌⊎◌, inl, inr, ℕ, Option, Some, None, List, [], refl, sym, ap, subst, ◌∙◌}
+use Rattle.std.proofs.Common.{◌≡◌, ◌≢◌, ◌⊎◌, inl, inr, ℕ, Some, None, List, [], refl, ap}
 use Rattle.chain.specs.declared.budget.Budget.{Budget}
 use Rattle.chain.specs.declared.budget.Progress.TheVariants as progress
 use Rattle.chain.specs.Service.{Device, Refused}
 use Rattle.sector_cache.specs.Disk.{Disk}
 use Rattle.mmio_window.specs.declared.device_kind.DeviceKind.{DeviceKind}
-use Rattle.mmio_window.specs.Serving.{IsNotified}
 use Rattle.mmio_window.specs.Window.{queue_at}
 use Rattle.mmio_window.proofs.Pieces.{notified_once}
 use Rattle.block_device.specs.Device.{block_device, exact_device}
@@ -13,7 +12,6 @@ use Rattle.console_device.specs.Device.{receive, exact_transmit, transmit}
 use Rattle.console_device.specs.Input.{fitting}
 use Rattle.board.specs.declared.event.EventKind.{EventKind}
 use Rattle.board.specs.declared.event.EventKind.TheVariants.{Read, Write, MemRead, MemWrite, Input, Resize}
-use Rattle.board.specs.declared.pause.Pause.{Pause}
 use Rattle.board.specs.declared.pause.Service.TheVariants.{Block, Receive, Transmit}
 use Rattle.board.specs.declared.pause.Stage.TheVariants.{First}
 use Rattle.board.specs.declared.pause.Turn.TheVariants.{Answered}
@@ -79,14 +77,17 @@ receive_ended budget mid before after new output reply (inr (lacks, (other, h)))
 
 transmit_ended : {A : Type 0} (budget : Budget) (mid : SlotState) (before after : Health) (new : SlotState) (output : List ℕ) (reply : Reply A)
     → EndsBy (record { service = Transmit; taken = None }) First budget mid before after new output reply → ServedOrCut ServeTransmit mid before after (came new reply output)
-transmit_ended budget mid before after new output reply (inl (done, h)) = inl (record {
-  notified = record {
-    ending = h.served.ending;
-    notified = notified_once exact_transmit budget 1 (queue_at 1 mid.console) h.served.ending mid.memory new.memory mid.console new.console [] output h.served.notified;
-  };
-  is = same_came new _ reply Done output output h.is done refl;
-  image = h.image;
-}, (λ lacks. cc, ap (λ (x : Health). x.failures) h.image))
+transmit_ended budget mid before after new output reply (inl (done, h)) = inl (
+  record {
+    notified = record {
+      ending = h.served.ending;
+      notified = notified_once exact_transmit budget 1 (queue_at 1 mid.console) h.served.ending mid.memory new.memory mid.console new.console [] output h.served.notified;
+    };
+    is = same_came new _ reply Done output output h.is done refl;
+    image = h.image;
+  },
+  (λ lacks. cc, ap (λ (x : Health). x.failures) h.image),
+)
 transmit_ended budget mid before after new output reply (inr (lacks, (is, h))) = inr (record {
   notified = notified_once transmit budget 1 (queue_at 1 mid.console) Refused mid.memory new.memory mid.console new.console [] output h.refused;
   is = same_came new _ reply NoMemory output output h.is lacks refl;

@@ -176,8 +176,8 @@ impl<A: Allocator + Copy> Slot<A> {
     fn note(&mut self, answer: Answer<A>) -> Turn<A>
         ensures turn { result ≡ answer.turn }
         ensures noted { self.new ≡ record self.old {
-              disturbed = self.old.disturbed || (lacks_memory_in answer.turn || answer.failed);
-            } }
+          disturbed = self.old.disturbed || (lacks_memory_in answer.turn || answer.failed);
+        } }
     {
         let Answer { turn, failed } = answer;
         if failed || matches!(turn, Turn::Answered(Reply::NoMemory)) {

@@ -32,8 +32,9 @@ impl<A: Allocator + Copy> Slot<A> {
         ensures disturbed { self.new.disturbed ≡ self.old.disturbed }
         ensures limited { (next : Pause) → result ≡ Turn.More next → HasLimit budget }
         ensures took { result ≡ Turn.More (record {
-              service = Service.Receive; taken = Some (fitting self.old.pending bytes.now);
-            }) ⊎ result ≡ Turn.Answered (Reply.Took (fitting self.old.pending bytes.now)) }
+          service = Service.Receive;
+          taken = Some (fitting self.old.pending bytes.now);
+        }) ⊎ result ≡ Turn.Answered (Reply.Took (fitting self.old.pending bytes.now)) }
     {
         let pause = Pause {
             service: Service::Receive,

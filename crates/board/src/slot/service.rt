@@ -92,8 +92,10 @@ impl<A: Allocator + Copy> Slot<A> {
     ) -> Piece
         requires lies { IsWithin (I.disk cache.old).sector_count self.old.extent }
         ensures served { ServesTo stage (block_device (record {
-              extent = self.old.extent; read_only = self.old.read_only; identity = self.old.identity;
-            })) budget 0 (queue_at 0 self.old.block) result.progress self.old.memory self.new.memory
+          extent = self.old.extent;
+          read_only = self.old.read_only;
+          identity = self.old.identity;
+        })) budget 0 (queue_at 0 self.old.block) result.progress self.old.memory self.new.memory
             self.old.block self.new.block (extent_disk self.old.extent (I.disk cache.old))
             (extent_disk self.old.extent (I.disk cache.new)) }
         ensures rest { self.new ≡ record self.old { memory = self.new.memory; block = self.new.block } }
@@ -117,8 +119,10 @@ impl<A: Allocator + Copy> Slot<A> {
         ensures served { ServesTo stage receive budget 0 (queue_at 0 self.old.console) result
             self.old.memory self.new.memory self.old.console self.new.console self.old.pending self.new.pending }
         ensures rest { self.new ≡ record self.old {
-              memory = self.new.memory; console = self.new.console; pending = self.new.pending;
-            } }
+          memory = self.new.memory;
+          console = self.new.console;
+          pending = self.new.pending;
+        } }
     {
         let (memory, window) = (&mut self.memory, &mut self.console);
         match stage {

@@ -1,13 +1,11 @@
-use Rattle.std.proofs.Common.{◌≡◌, ℕ, List, ◌≤◌, ◌<◌, Option, Some, None, length, refl, sym, ◌∙◌, ap, subst, arith}
-use Rattle.std.specs.Prelude.{IsSomeAnd}
+use Rattle.std.proofs.Common.{◌≡◌, ◌≤◌, ◌<◌, Some, None, length, refl, sym, ◌∙◌, ap, subst, arith}
 use Rattle.std.specs.List.{slice_get}
 use Rattle.std.proofs.lemmas.Option.{slice_get_past, slice_get_read, same_Some}
-use Rattle.board.specs.Slot.{BoardSlot, state_of}
-use Rattle.board.specs.Image.{Tells, bytes_of}
-use Rattle.board.specs.World.{MayLackMemory, disturbed_of, extents_of}
+use Rattle.board.specs.Image.{Tells}
+use Rattle.board.specs.World.{disturbed_of, extents_of}
 use Rattle.board.proofs.Outside.{outside_kept}
-use Rattle.board.proofs.Seats.{extents_of-set, noted_none, noted_set, others_kept, set_same, slot_within, takes}
-use Rattle.board.proofs.Within.{set_here}
+use Rattle.board.proofs.Seats.{extents_of-set, noted_none, noted_set, others_kept, slot_within, takes}
+use Rattle.board.proofs.Alone.{get_set}
 use Rattle.board.proofs.board.Board.go_on.Goals as goal
 
 pub returns-in_default-clause-noted : goal.returns-in_default-clause-noted
@@ -74,5 +72,5 @@ pub returns-clause-within : goal.returns-clause-within
 returns-clause-within g c limit limited found after here now =
     let was : slice_get c.args.self.now.slots c.args.slot ≡ Some c.in-Some.slot.now = ap (λ b. slice_get b.slots c.args.slot) (sym c.self.view_is) ∙ there g c in
     let is : c.in-Some.slot.now ≡ found = same_Some c.in-Some.slot.now found (sym was ∙ here) in
-    let set : c.go_on-turn.new.self ≡ after = same_Some c.go_on-turn.new.self after (sym (set_here c.self.inside.slots.items c.args.slot c.in-Some.slot.now c.go_on-turn.new.self (there g c)) ∙ now) in
+    let set : c.go_on-turn.new.self ≡ after = same_Some c.go_on-turn.new.self after (sym (get_set c.self.inside.slots.items c.args.slot c.in-Some.slot.now c.go_on-turn.new.self (there g c)) ∙ now) in
     rw (← is, ← set, ← c.self.view_is) (c.go_on-turn.ensures.within limit limited)

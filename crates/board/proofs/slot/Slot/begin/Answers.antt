@@ -1,4 +1,4 @@
-use Rattle.std.proofs.Common.{◌≡◌, sym, ◌∙◌}
+use Rattle.std.proofs.Common.{sym, ◌∙◌}
 use Rattle.board.proofs.slot.Slot.begin.Goals as goal
 
 pub returns-clause-no_memory : goal.returns-clause-no_memory

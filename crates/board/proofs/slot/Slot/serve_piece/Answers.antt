@@ -1,7 +1,7 @@
-use Rattle.std.proofs.Common.{◌≡◌, sym, ap, subst, ◌∙◌, arith, refl}
+use Rattle.std.proofs.Common.{sym, ◌∙◌, arith, refl}
 use Rattle.block_device.specs.Extent.{IsWithin}
 use Rattle.board.specs.Image.{bytes_of, health_of}
-use Rattle.board.specs.Slot.{BoardSlot, state_of}
+use Rattle.board.specs.Slot.{state_of}
 use Rattle.board.proofs.Outside.{outside_kept}
 use Rattle.board.proofs.Turns.{block_piece, has_bytes, never_lacks, refuses, sends, sent_within, silent_turn, unsent_within}
 use Rattle.board.proofs.slot.Slot.serve_piece.Goals as goal

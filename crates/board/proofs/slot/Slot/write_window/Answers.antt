@@ -1,11 +1,11 @@
-use Rattle.std.proofs.Common.{◌≡◌, sym, ap, subst, ◌∙◌, refl}
+use Rattle.std.proofs.Common.{sym, ap, subst, ◌∙◌, refl}
 use Rattle.board.specs.declared.event.EventKind.{EventKind}
 use Rattle.board.specs.declared.event.EventKind.TheVariants.{Write}
 use Rattle.board.specs.declared.slot.window.Duty.TheVariants as duty
 use Rattle.board.specs.Image.{bytes_of, health_of}
 use Rattle.board.specs.Machine.{task_at, with_write}
 use Rattle.board.specs.declared.pause.Turn.TheVariants.{Answered}
-use Rattle.board.specs.Pausing.{Begins, ServesTurn, duty_of}
+use Rattle.board.specs.Pausing.{Begins, ServesTurn}
 use Rattle.board.specs.Slot.{BoardSlot, state_of}
 use Rattle.board.specs.Within.{BeginsWithin}
 use Rattle.board.specs.Task.{Task}
