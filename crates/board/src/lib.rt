@@ -6,9 +6,9 @@
 //! difference that another one caused.
 //!
 //! `board` is the board. `spec` says what it is made of, `check` and `fault` why one is refused;
-//! `event` is what comes in and `reply` what goes out. `slot` serves one guest, its memory, its two
-//! windows and its two devices, and knows of no other; `features` says what its devices offer. `laws`
-//! has what holds of every run by itself.
+//! `event` is what comes in and `reply` what goes out, and `pause` what an event comes to whose service
+//! may pause. `slot` serves one guest, its memory, its two windows and its two devices, and knows of no
+//! other; `features` says what its devices offer. `laws` has what holds of every run by itself.
 #![tactic(auto)]
 
 mod board;

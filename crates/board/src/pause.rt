@@ -9,7 +9,7 @@ use std::alloc::{Allocator, Global};
 
 /// A queue that one of a slot's devices serves.
 #[derive(Clone, Copy, Debug, PartialEq, Eq)]
-pub enum Service {
+pub(crate) enum Service {
     /// The block device's requests (5.2.2).
     Block,
     /// The console's receiveq (5.3.2).
@@ -20,10 +20,10 @@ pub enum Service {
 
 /// A service that paused before a chain that is on offer. Its queue stands open.
 #[derive(Clone, Copy, Debug, PartialEq, Eq)]
-pub struct Pause {
-    pub service: Service,
+pub(crate) struct Pause {
+    pub(crate) service: Service,
     /// Where the event that it serves typed to the console: how many bytes were taken.
-    pub taken: Option<usize>,
+    pub(crate) taken: Option<usize>,
 }
 
 impl Pause {
@@ -51,7 +51,7 @@ impl Pause {
 /// What an event came to, or a piece of its service.
 #[derive(Drop)]
 #[derive_where(Debug, PartialEq, Eq)]
-pub enum Turn<A: Allocator = Global> {
+pub(crate) enum Turn<A: Allocator = Global> {
     /// The event is done, and answered.
     Answered(Reply<A>),
     /// Its service pauses, and goes on later.
