@@ -104,12 +104,7 @@ impl BlockDevice {
     }
 
     /// The request that a chain holds, with `room` writable bytes before the status.
-    pub(crate) fn request<A: Allocator>(
-        &self,
-        mem: &GuestMemory<A>,
-        chain: &Chain,
-        room: u64,
-    ) -> Request
+    pub fn request<A: Allocator>(&self, mem: &GuestMemory<A>, chain: &Chain, room: u64) -> Request
         requires { All (Within mem.now) chain.now }
         ensures value { result ≡ request_of self.now (readable_of mem.now chain.now) room }
         ensures servable { IsServable self.now.extent.count result

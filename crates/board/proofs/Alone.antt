@@ -94,7 +94,7 @@ own g old move state mine here step undisturbed =
     (own_at old move.event move.written move.after state there taken (undisturbed.memory mine) (undisturbed.image mine))
 
 -- one event more on its own
-on_its_own : {A : Type 0} (g : ℕ) (state last : SlotState) (what : EventKind A) (rest : List (EventKind A)) (written : Record A) (records : List (Record A)) (outcome : Outcome A) → IsNext state what outcome → written ≡ record_of g outcome → RunsOnItsOwn g outcome.state rest records last → RunsOnItsOwn g state (what ∷ rest) (written ∷ records) last
+pub on_its_own : {A : Type 0} (g : ℕ) (state last : SlotState) (what : EventKind A) (rest : List (EventKind A)) (written : Record A) (records : List (Record A)) (outcome : Outcome A) → IsNext state what outcome → written ≡ record_of g outcome → RunsOnItsOwn g outcome.state rest records last → RunsOnItsOwn g state (what ∷ rest) (written ∷ records) last
 on_its_own g state last what rest written records outcome is_next recorded own = record {
   outcomes = outcome ∷ own.outcomes;
   course = (is_next, own.course);

@@ -18,7 +18,7 @@ pub disk_of_parts : (failures : ℕ) (mark : Bool) (told told' : Option (List �
 disk_of_parts failures mark told told' sectors sectors' p q = rw (p, q) refl
 
 -- a disk with these bytes is one of the sectors that they fill
-same_disk : (bytes : List ℕ) (disk : Disk) → disk.told ≡ Some bytes → disk.sector_count ≡ sectors_of bytes → disk ≡ disk_with bytes (health_of disk)
+pub same_disk : (bytes : List ℕ) (disk : Disk) → disk.told ≡ Some bytes → disk.sector_count ≡ sectors_of bytes → disk ≡ disk_with bytes (health_of disk)
 same_disk bytes disk told sectors = disk_of_parts disk.failures disk.mark disk.told (Some bytes) disk.sector_count (sectors_of bytes) told sectors
 
 -- a notification that is served exactly, from the image at rest: how it fares afterwards

@@ -17,4 +17,4 @@ pub mod Alike
 pub mod Pieces
 pub mod Turns
 pub mod Whole
-pub mod Taken
+pub mod Answered

@@ -26,13 +26,13 @@ had_memory reply.BadRange had = refl
 had_memory reply.NoMemory had = absurd (had refl)
 
 -- no refusal was met, as a test and as two facts
-unmet : {A : Type 0} (answer : Reply A) (f g : ℕ) → f ≤ g → met_refusal answer f g ≡ false → (answer ≢ reply.NoMemory) × (g ≡ f)
+pub unmet : {A : Type 0} (answer : Reply A) (f g : ℕ) → f ≤ g → met_refusal answer f g ≡ false → (answer ≢ reply.NoMemory) × (g ≡ f)
 unmet answer f g rises none =
     let first : lacks_memory answer ≡ false = grind (arith, nat_tests, none) in
     let second : nat_lt f g ≡ false = grind (arith, nat_tests, none) in
     (lacks answer first, grind (arith, nat_tests, second, rises))
 
-met : {A : Type 0} (answer : Reply A) (f g : ℕ) → answer ≢ reply.NoMemory → g ≡ f → met_refusal answer f g ≡ false
+pub met : {A : Type 0} (answer : Reply A) (f g : ℕ) → answer ≢ reply.NoMemory → g ≡ f → met_refusal answer f g ≡ false
 met answer f g had stood = rw (had_memory answer had, stood) (grind (arith, nat_tests))
 
 -- a place that was set to true isn't false
@@ -42,12 +42,12 @@ set_true (x ∷ flags) zero is = cc
 set_true (x ∷ flags) (suc h) is = set_true flags h is
 
 -- what is noted of another slot stays
-noted_other : (flags : List Bool) (h g : ℕ) (m : Bool) → h ≢ g → slice_get (noted h m flags) g ≡ slice_get flags g
+pub noted_other : (flags : List Bool) (h g : ℕ) (m : Bool) → h ≢ g → slice_get (noted h m flags) g ≡ slice_get flags g
 noted_other flags h g true other = get_set_other flags h g true other
 noted_other flags h g false other = refl
 
 -- and what is noted of this one is false where it was, and no refusal was met
-noted_own : (flags : List Bool) (h : ℕ) (m : Bool) → slice_get (noted h m flags) h ≡ Some false → (slice_get flags h ≡ Some false) × (m ≡ false)
+pub noted_own : (flags : List Bool) (h : ℕ) (m : Bool) → slice_get (noted h m flags) h ≡ Some false → (slice_get flags h ≡ Some false) × (m ≡ false)
 noted_own flags h true is = absurd (set_true flags h is)
 noted_own flags h false is = (is, refl)
 

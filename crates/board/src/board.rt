@@ -12,8 +12,9 @@ ghost use Rattle.board.specs.Within.{TakesWithin};
 
 mod access;
 mod pieces;
+mod view;
 
-use crate::board::pieces::Taken;
+pub use crate::board::pieces::Taken;
 use crate::bytes::Bytes;
 use crate::check;
 use crate::event::{Event, EventKind};

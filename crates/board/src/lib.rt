@@ -24,8 +24,9 @@ mod slot;
 mod spec;
 
 pub use block_device::Extent;
-pub use board::Board;
+pub use board::{Board, Taken};
 pub use bytes::Bytes;
+pub use chain::Budget;
 pub use console_device::Outlet;
 pub use event::{Event, EventKind};
 pub use fault::BoardFault;
@@ -36,6 +37,7 @@ pub use laws::{
     two_runs_are_one, want_of_memory_changes_nothing, want_of_memory_keeps_the_rest,
 };
 pub use mmio_window::DeviceKind;
+pub use pause::{Pause, Service, Stage, Turn};
 pub use reply::{Record, Reply, RunStop};
 pub use sector_cache::{CacheFault, Image, ImageError, ImageFault, MemoryImage, Refused};
 pub use spec::SlotSpec;

@@ -9,7 +9,7 @@ use std::alloc::{Allocator, Global};
 
 /// A queue that one of a slot's devices serves.
 #[derive(Clone, Copy, Debug, PartialEq, Eq)]
-pub(crate) enum Service {
+pub enum Service {
     /// The block device's requests (5.2.2).
     Block,
     /// The console's receiveq (5.3.2).
@@ -20,10 +20,10 @@ pub(crate) enum Service {
 
 /// A service that paused before a chain that is on offer. Its queue stands open.
 #[derive(Clone, Copy, Debug, PartialEq, Eq)]
-pub(crate) struct Pause {
-    pub(crate) service: Service,
+pub struct Pause {
+    pub service: Service,
     /// Where the event that it serves typed to the console: how many bytes were taken.
-    pub(crate) taken: Option<usize>,
+    pub taken: Option<usize>,
 }
 
 impl Pause {
@@ -51,7 +51,7 @@ impl Pause {
 /// What an event came to, or a piece of its service.
 #[derive(Drop)]
 #[derive_where(Debug, PartialEq, Eq)]
-pub(crate) enum Turn<A: Allocator = Global> {
+pub enum Turn<A: Allocator = Global> {
     /// The event is done, and answered.
     Answered(Reply<A>),
     /// Its service pauses, and goes on later.
@@ -60,7 +60,7 @@ pub(crate) enum Turn<A: Allocator = Global> {
 
 /// Which piece of a service is served.
 #[derive(Clone, Copy, Debug, PartialEq, Eq)]
-pub(crate) enum Stage {
+pub enum Stage {
     /// The first one, which opens the queue.
     First,
     /// One behind a pause.

@@ -22,6 +22,7 @@ ghost use Rattle.std.specs.Borrow.{sem};
 mod console;
 mod memory;
 mod service;
+mod view;
 mod window;
 
 use crate::event::EventKind;

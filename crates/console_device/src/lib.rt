@@ -14,6 +14,7 @@ mod stream;
 #[cfg(test)]
 mod tests;
 mod transmit;
+mod view;
 
 pub use device::ConsoleDevice;
 pub use laws::{

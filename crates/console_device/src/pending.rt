@@ -53,6 +53,13 @@ impl<A: Allocator> Pending<A> {
         self.ring.fill_from_slice(bytes)
     }
 
+    /// How many there are.
+    pub(crate) fn len(&self) -> usize
+        ensures { result ≡ length self.now }
+    {
+        self.ring.len()
+    }
+
     /// Whether none is there.
     pub(crate) fn is_empty(&self) -> bool
         ensures { result ≡ not (is_any self.now) }

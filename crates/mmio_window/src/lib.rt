@@ -24,6 +24,8 @@ pub use laws::{
     serving_keeps_sound, sound_for_the_range,
 };
 pub use queue::{Queue, Token};
+pub use queue_registers::QueueRegisters;
+pub use register::Register;
 pub use window::Window;
 
 #[cfg(test)]

@@ -6,6 +6,8 @@ ghost use Rattle.chain.specs.Buffers.{Good};
 ghost use Rattle.guest_memory.specs.Memory.{SameRange};
 ghost use Rattle.mmio_window.specs.Queue.{IsTaken, LiesIn, entry_of, left_of, made_as, queue_kind};
 
+mod view;
+
 use chain::{Chain, Fault};
 use guest_memory::GuestMemory;
 use packed_ring::PackedRing;

@@ -12,6 +12,7 @@ ghost use Rattle.mmio_window.specs.Soundness.{IsSound};
 ghost use Rattle.mmio_window.specs.Window.{fresh_window, queue_at, with_config_changed, with_config_interrupt, with_reset_asked, with_used_interrupt};
 
 mod read;
+mod view;
 mod write;
 
 use crate::device_kind::{DeviceKind, QueueIndex};

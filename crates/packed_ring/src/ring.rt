@@ -7,6 +7,8 @@ ghost use Rattle.packed_ring.specs.Ring.{IsAligned, IsQueueSize, IsUsable, LiesI
 ghost use Rattle.packed_ring.specs.Kind.{IsTaken, entry_of, first_passed, packed_kind};
 ghost use Rattle.std.specs.Result.{result_err};
 
+mod view;
+
 use crate::walk::{Table, append_list};
 use chain::{Chain, Fault};
 use guest_memory::GuestMemory;

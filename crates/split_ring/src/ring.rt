@@ -7,6 +7,8 @@ ghost use Rattle.split_ring.specs.Ring.{IsAligned, IsQueueSize, IsUsable, LiesIn
 ghost use Rattle.split_ring.specs.Kind.{IsTaken, entry_of, split_kind};
 ghost use Rattle.std.specs.Result.{result_err};
 
+mod view;
+
 use crate::walk::{Table, append_path};
 use chain::{Chain, Fault};
 use guest_memory::GuestMemory;
@@ -179,7 +181,7 @@ impl SplitRing {
     }
 
     /// The head in the available entry of the ring's place (2.7.6).
-    fn head<A: Allocator>(&self, mem: &GuestMemory<A>) -> u16
+    pub fn head<A: Allocator>(&self, mem: &GuestMemory<A>) -> u16
         requires { LiesIn mem.now self.now.setup }
         ensures { result ≡ head_of mem.now self.now }
     {

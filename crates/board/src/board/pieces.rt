@@ -20,17 +20,17 @@ use console_device::Outlet;
 use sector_cache::Image;
 use std::alloc::{Allocator, Global};
 
-// A turn that the board took, and both interrupt words behind it.
+/// A turn that the board took, and both interrupt words behind it.
 #[derive(Drop)]
-pub(crate) struct Taken<A: Allocator = Global> {
-    pub(crate) turn: Turn<A>,
-    pub(crate) block_irq: u8,
-    pub(crate) console_irq: u8,
+pub struct Taken<A: Allocator = Global> {
+    pub turn: Turn<A>,
+    pub block_irq: u8,
+    pub console_irq: u8,
 }
 
 impl<I: Image, A: Allocator + Copy> Board<I, A> {
     /// Handles one event of a slot, whose service may pause where the budget is spent.
-    pub(crate) fn begin<O: Outlet>(
+    pub fn begin<O: Outlet>(
         &mut self,
         slot: u8,
         what: &EventKind<A>,
@@ -84,7 +84,7 @@ impl<I: Image, A: Allocator + Copy> Board<I, A> {
     }
 
     /// Goes on with a service of a slot that paused.
-    pub(crate) fn go_on<O: Outlet>(
+    pub fn go_on<O: Outlet>(
         &mut self,
         slot: u8,
         pause: Pause,

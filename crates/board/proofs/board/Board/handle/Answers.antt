@@ -4,7 +4,7 @@ use Rattle.std.proofs.lemmas.Option.{slice_get_past}
 use Rattle.board.specs.declared.reply.Reply.TheVariants.{BadSlot}
 use Rattle.board.specs.World.{Handles, world_of}
 use Rattle.board.proofs.Seats.{handles_missing}
-use Rattle.board.proofs.Taken.{ended_within, handled}
+use Rattle.board.proofs.Answered.{ended_within, handled}
 use Rattle.board.proofs.board.Board.handle.Goals as goal
 
 pub unreachable-requires : goal.unreachable-requires

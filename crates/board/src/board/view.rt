@@ -1,0 +1,55 @@
+//! What somebody sees of a slot's devices who only looks. There is no answer for a slot that isn't there.
+
+ghost use Rattle.std.specs.Prelude.{◌≡◌, ◌↔◌, ◌<◌, IsSome, IfSome, IsSomeAnd, length};
+ghost use Rattle.std.specs.List.{slice_get};
+
+use crate::board::Board;
+use block_device::BlockDevice;
+use console_device::ConsoleDevice;
+use mmio_window::Window;
+use sector_cache::Image;
+use std::alloc::Allocator;
+
+impl<I: Image, A: Allocator> Board<I, A> {
+    /// The window of the slot's block device.
+    pub fn block_window(&self, slot: u8) -> Option<&Window>
+        ensures there { IsSome result ↔ (slot < length self.now.slots) }
+        ensures value { IfSome result (λ window.
+            IsSomeAnd (slice_get self.now.slots slot) (λ found. window.now ≡ found.block)) }
+    {
+        let slot = self.slot(slot)?;
+        Some(slot.block_window())
+    }
+
+    /// The window of the slot's console.
+    pub fn console_window(&self, slot: u8) -> Option<&Window>
+        ensures there { IsSome result ↔ (slot < length self.now.slots) }
+        ensures value { IfSome result (λ window.
+            IsSomeAnd (slice_get self.now.slots slot) (λ found. window.now ≡ found.console)) }
+    {
+        let slot = self.slot(slot)?;
+        Some(slot.console_window())
+    }
+
+    /// The slot's block device.
+    pub fn block_device(&self, slot: u8) -> Option<BlockDevice>
+        ensures there { IsSome result ↔ (slot < length self.now.slots) }
+        ensures extent { IfSome result (λ device.
+            IsSomeAnd (slice_get self.now.slots slot) (λ found. device.extent ≡ found.extent)) }
+        ensures read_only { IfSome result (λ device.
+            IsSomeAnd (slice_get self.now.slots slot) (λ found. device.read_only ≡ found.read_only)) }
+    {
+        let slot = self.slot(slot)?;
+        Some(slot.block_device())
+    }
+
+    /// The slot's console.
+    pub fn console_device(&self, slot: u8) -> Option<&ConsoleDevice<A>>
+        ensures there { IsSome result ↔ (slot < length self.now.slots) }
+        ensures pending { IfSome result (λ device.
+            IsSomeAnd (slice_get self.now.slots slot) (λ found. device.now.pending ≡ found.pending)) }
+    {
+        let slot = self.slot(slot)?;
+        Some(slot.console_device())
+    }
+}

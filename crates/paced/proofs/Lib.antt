@@ -1,0 +1,4 @@
+pub mod Midway
+pub mod Alone
+pub mod Turns
+pub mod Noted

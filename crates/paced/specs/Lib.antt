@@ -1,0 +1,3 @@
+pub use Rattle.board.specs.World
+pub mod Pacing
+pub mod Line

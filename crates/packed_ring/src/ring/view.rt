@@ -1,0 +1,101 @@
+//! A ring as somebody sees it who doesn't serve it: a copy to ask, and what stands in its areas.
+
+ghost use Rattle.std.specs.Prelude.{◌≡◌, ◌<◌, ◌+◌, ◌%◌, ◌↔◌, IsSome, IfSome};
+ghost use Rattle.guest_memory.specs.Memory.{num};
+ghost use Rattle.packed_ring.specs.Ring.{LiesIn, descriptor_addr, flags_of, head_of, id_of};
+ghost use Rattle.indirect.specs.Descriptors.{packed_buffer};
+
+use crate::ring::PackedRing;
+use chain::Buffer;
+use guest_memory::GuestMemory;
+use indirect::read_packed_buffer;
+use std::alloc::Allocator;
+
+impl PackedRing {
+    /// The ring once more. What a service would take can be asked of the copy.
+    pub fn copied(&self) -> PackedRing
+        ensures { result ≡ self.now }
+    {
+        PackedRing {
+            size: self.size,
+            desc: self.desc,
+            driver: self.driver,
+            device: self.device,
+            indirect: self.indirect,
+            event_idx: self.event_idx,
+            place: self.place,
+            left: self.left,
+            passed: self.passed,
+        }
+    }
+
+    /// The place of the next list: its position where the wrap counter is 1, and as many more as the ring has
+    /// descriptors where that is 0.
+    pub fn place(&self) -> u16
+        ensures { result ≡ self.now.place }
+    {
+        self.place
+    }
+
+    /// The position of the next list.
+    pub fn position(&self) -> u16
+        ensures { result ≡ head_of self.now }
+    {
+        self.head()
+    }
+
+    /// The driver's event suppression structure (2.8.14): the place, as offset and wrap counter, and the flags.
+    pub fn driver_events<A: Allocator>(&self, mem: &GuestMemory<A>) -> (u16, u16)
+        requires { LiesIn mem.now self.now.setup }
+        ensures place { result.0 ≡ num mem.now self.now.setup.driver 2 }
+        ensures flags { result.1 ≡ num mem.now (self.now.setup.driver + 2) 2 }
+    {
+        prove!(mem.holds(self.driver, 4));
+        (mem.read_u16(self.driver), mem.read_u16(self.driver + 2))
+    }
+
+    /// Whether EVENT_IDX was negotiated.
+    pub fn event_idx(&self) -> bool
+        ensures { result ≡ self.now.setup.event_idx }
+    {
+        self.event_idx
+    }
+
+    /// The buffer, the id and the flags of the descriptor at a position (2.8.13). There is none outside the ring.
+    pub fn descriptor<A: Allocator>(
+        &self,
+        mem: &GuestMemory<A>,
+        position: u16,
+    ) -> Option<(Buffer, u16, u16)>
+        requires { LiesIn mem.now self.now.setup }
+        ensures inside { IsSome result ↔ (position < self.now.setup.size) }
+        ensures buffer { IfSome result (λ found. found.0 ≡ packed_buffer mem.now (descriptor_addr self.now.setup.desc position)) }
+        ensures id { IfSome result (λ found. found.1 ≡ id_of mem.now (descriptor_addr self.now.setup.desc position)) }
+        ensures flags { IfSome result (λ found. found.2 ≡ flags_of mem.now (descriptor_addr self.now.setup.desc position)) }
+    {
+        if position >= self.size {
+            return None;
+        }
+        let offset = 16 * u64::from(position);
+        prove!(mem.holds(self.desc, 16 * u64::from(self.size)));
+        let addr = self.desc + offset;
+        Some((
+            read_packed_buffer(mem, addr),
+            mem.read_u16(addr + 12),
+            mem.read_u16(addr + 14),
+        ))
+    }
+
+    /// The same of the descriptor at a place's position.
+    pub fn descriptor_of<A: Allocator>(
+        &self,
+        mem: &GuestMemory<A>,
+        place: u16,
+    ) -> Option<(Buffer, u16, u16)>
+        requires { LiesIn mem.now self.now.setup }
+        ensures len { IfSome result (λ found. found.0 ≡ packed_buffer mem.now (descriptor_addr self.now.setup.desc (place % self.now.setup.size))) }
+        ensures id { IfSome result (λ found. found.1 ≡ id_of mem.now (descriptor_addr self.now.setup.desc (place % self.now.setup.size))) }
+    {
+        self.descriptor(mem, place % self.size)
+    }
+}
