@@ -2,10 +2,10 @@
 
 use crate::finding::Finding;
 use crate::scenario::{AFTER, BEFORE, RECORDS, Scenario};
+use replay::{ReplayFault, finish, replay};
 use sector_cache::{Image, ScriptedImage};
 use std::alloc::{AllocError, Global};
 use std::io::{Read, Write};
-use trace::{ReplayFault, finish, replay};
 
 /// A part that says what must be found, and what was found.
 #[derive(Drop)]

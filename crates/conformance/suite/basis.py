@@ -10,6 +10,7 @@ PAGE = os.path.join(CRATE, "STANDARD.md")
 SECTION = re.compile(r"(?<![\d.])\d+(?:\.\d+)+(?![\d.]*\d)|(?<![\w.])6(?=[,)]|$)")
 NOTE = re.compile(r"\(([^()]*)\)")
 NAME = re.compile(r"`([^`]*)`")
+OURS = re.compile(r"\bours\b")
 
 
 @dataclasses.dataclass(frozen=True)
@@ -69,9 +70,18 @@ def judged(suite):
     return found, wrong
 
 
+def of_headings():
+    """The basis of each heading by `DOCUMENT, HEADING`; a row is `DOCUMENT: HEADING; HEADING`."""
+    found = {}
+    for cell, basis in rows("Rules"):
+        document, _, names = cell.partition(": ")
+        found.update((f"{document}, {name}", basis) for name in names.split("; "))
+    return found
+
+
 def of_rules(rules):
     """The basis of each rule, in their order, and what is wrong with the page."""
-    headings = dict(rows("Rules"))
+    headings = of_headings()
     found = []
     for rule in rules:
         basis = noted(rule.sentence.text) or noted(rule.sentence.line)
@@ -87,7 +97,7 @@ def noted(text):
     """The basis that notes in a text tell, or none."""
     notes = NOTE.findall(text)
     sections = [section for note in notes for section in SECTION.findall(note)]
-    ours = any("project" in note for note in notes)
+    ours = any(OURS.search(note) for note in notes)
     if not sections:
         return "ours" if ours else None
     return ", ".join(dict.fromkeys(sections)) + (", and ours in part" if ours else "")

@@ -9,39 +9,48 @@ from .scenarios import CRATE, Broken
 PAGE = os.path.join(CRATE, "RULES.md")
 LINK = re.compile(r"\[([^\]]*)\]\(\.\./\.\./docs/([^#)]*)#([^)]*)\)$")
 NAMED = re.compile(r"`([a-z_]+/[a-z0-9_]+)`")
+ENDING = re.compile(rf"(?:(.+): )?({NAMED.pattern}(?:, {NAMED.pattern})*)")
 
 
 @dataclasses.dataclass(frozen=True)
 class Row:
-    """A row of the page: the rule's cell, which is empty below the rule's first row, what is said, and scenarios.
+    """A line of the page's lists: the rule's link, which is empty below the rule's first line, what is said, and scenarios.
 
-    With both it is a wrong device; without words a worked value; without a scenario the reason why there is none.
+    With both, what is said are wrong devices, with a semicolon between them; without words it is a worked value; without a
+    scenario the reason why there is none.
     """
 
     line: int
     document: str
     heading: str
-    cells: list
-
-    @property
-    def is_whole(self):
-        return len(self.cells) == 3
+    rule: str
+    words: str
+    beside: str
 
     @property
     def name(self):
-        """The rule's name, or none where the cell isn't empty and is no link from a name to itself in this document."""
-        link = LINK.match(self.cells[0])
+        """The rule's name, or none where the link isn't one from a name to itself in this document."""
+        link = LINK.match(self.rule)
         return link[1] if link and link.groups() == (link[1], self.document, link[1]) else None
 
     @property
-    def device(self):
-        """The wrong device and the scenario that it fails, or none."""
-        words, scenarios = self.cells[1], NAMED.findall(self.cells[2])
-        return (words, scenarios[0]) if words and len(scenarios) == 1 else None
+    def devices(self):
+        """The wrong devices, each with the scenario that it fails."""
+        scenarios = NAMED.findall(self.beside)
+        return [(device, scenarios[0]) for device in self.words.split("; ")] if self.words and len(scenarios) == 1 else []
 
     @property
     def scenarios(self):
-        return NAMED.findall(" ".join(self.cells[1:]))
+        return NAMED.findall(f"{self.words} {self.beside}")
+
+
+def row(number, document, heading, line):
+    """A line of a list, read: `- [NAME](LINK): WORDS: SCENARIOS`, and below it `  - WORDS: SCENARIOS`."""
+    rule, said = "", line.strip()[len("- "):]
+    if not line.startswith(" "):
+        rule, _, said = said.partition(": ")
+    ending = ENDING.fullmatch(said)
+    return Row(number, document, heading, rule, *((ending[1] or "", ending[2]) if ending else (said, "")))
 
 
 @dataclasses.dataclass(frozen=True)
@@ -71,8 +80,8 @@ def lines(path=PAGE):
             elif line.startswith("###"):
                 heading = line.lstrip("#").strip()
                 yield number, document, heading
-            elif line.startswith("| ") and not line.startswith("| Rule |"):
-                yield Row(number, document, heading, [cell.strip() for cell in line.strip("|").split("|")])
+            elif line.lstrip().startswith("- "):
+                yield row(number, document, heading, line)
 
 
 def load():
@@ -80,16 +89,15 @@ def load():
     known = {sentence.name: sentence for document in documents.DOCUMENTS for section in documents.load(document)
              for sentence in section.sentences if sentence.name}
     rules = []
-    for row in lines():
-        if not isinstance(row, Row):
+    for line in lines():
+        if not isinstance(line, Row):
             continue
-        if not row.is_whole or row.cells[0] and row.name not in known or not (row.cells[0] or rules):
-            raise Broken(f"RULES.md:{row.line}: check-rules says what is wrong with this row")
-        if row.cells[0]:
-            rules.append(Rule(row.line, row.name, row.document, row.heading, known[row.name], [], set()))
-        if row.device:
-            rules[-1].devices.append(row.device)
-        rules[-1].scenarios.update(row.scenarios)
+        if line.rule and line.name not in known or not (line.rule or rules):
+            raise Broken(f"RULES.md:{line.line}: check-rules says what is wrong with this line")
+        if line.rule:
+            rules.append(Rule(line.line, line.name, line.document, line.heading, known[line.name], [], set()))
+        rules[-1].devices.extend(line.devices)
+        rules[-1].scenarios.update(line.scenarios)
     return rules
 
 

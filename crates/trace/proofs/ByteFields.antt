@@ -1,7 +1,7 @@
 -- Bytes spelled by digits: which fields spell some.
-use Rattle.std.proofs.Common.{◌≡◌, ◌≢◌, ℕ, suc, ◌/◌, ◌%◌, ◌^◌, ◌<◌, List, [], ◌∷◌, ◌++◌, All, length, get_or, take, drop, take_at, take-append-drop, append_assoc, append-nil, refl, sym, ap, subst, ◌∙◌, arith, inl, inr}
+use Rattle.std.proofs.Common.{◌≡◌, ◌≢◌, ℕ, suc, ◌+◌, ◌*◌, ◌/◌, ◌%◌, ◌^◌, ◌<◌, Bool, true, false, IsTrue, ◌↔◌, List, [], ◌∷◌, ◌++◌, All, length, get_or, take, drop, take-append-drop, append_assoc, append-nil, refl, sym, ap, subst, ◌∙◌, arith, inl, inr}
 use Rattle.std.proofs.lemmas.List.{get_or_past}
-use Rattle.std.proofs.lemmas.Bool.{cases_lt}
+use Rattle.std.proofs.lemmas.Bool.{cases_lt, false≢true}
 use Rattle.std.proofs.lemmas.List.Elements.{All-cons, All-nil, recursion_from_All}
 use Rattle.hex.specs.Hex.{encode_lower, encode_with, lower_digits, IsBytes}
 use Rattle.hex.proofs.HexLemmas.{length-encode_with}
@@ -28,12 +28,46 @@ digits_encoded (b ∷ bs) h =
     All-cons IsDigit (digit (b / 16)) (digit (b % 16) ∷ encode_lower bs) (record { value = b / 16; small = omega arith; is = refl })
     (All-cons IsDigit (digit (b % 16)) (encode_lower bs) (record { value = b % 16; small = omega arith; is = refl }) (digits_encoded bs (λ k. h (suc k))))
 
--- what was read of such a field, where it stands in front of other bytes
-pub bytes_read : (field bs front rest : List ℕ) (n : ℕ) → ArePairs field → n ≡ length front → bs ≡ take n (front ++ rest) → encode_lower front ≡ field → AreBytes front → IsBytesField field bs
-bytes_read field bs front rest n h len is spelled fits =
-    let pos = h.some in
-    let enough : 0 < length (encode_lower front) = omega (arith, ap length spelled) in
-    rw (is ∙ take_at front rest n (sym len)) (record { fits = fits; spelled = sym spelled ∙ sym (bytes_above front enough) })
+-- what is read of such a field
+pub bytes_read : (field bs : List ℕ) → 0 < length field → encode_lower bs ≡ field → AreBytes bs → IsBytesField field bs
+bytes_read field bs some spelled fits =
+    let enough : 0 < length (encode_lower bs) = omega (arith, ap length spelled) in
+    record { fits = fits; spelled = sym spelled ∙ sym (bytes_above bs enough) }
+
+-- some digits, two and two, are those of bytes
+record AreBytesOf (field : List ℕ) : Type 0 where
+  bs : List ℕ
+  spelled : encode_lower bs ≡ field
+  fits : AreBytes bs
+
+pair_decoded : (a b x y : ℕ) (bs field : List ℕ) → y < 16 → a ≡ digit x → b ≡ digit y → encode_lower bs ≡ field → encode_lower ((16 * x + y) ∷ bs) ≡ a ∷ b ∷ field
+unfolding digit encode_with
+pair_decoded a b x y bs field small high low rest =
+    let over : (16 * x + y) / 16 ≡ x = omega arith in
+    let under : (16 * x + y) % 16 ≡ y = omega arith in
+    rw (over, under, rest, high, low) refl
+
+pairs_decoded : (field : List ℕ) → length field % 2 ≡ 0 → All IsDigit field → AreBytesOf field
+unfolding encode_with
+pairs_decoded [] even h = record { bs = []; spelled = refl; fits = All-nil (λ b. b < 2 ^ 8) }
+pairs_decoded (a ∷ []) even h = absurd (omega (arith, even))
+pairs_decoded (a ∷ b ∷ field) even h =
+    let high = h 0 a (omega arith) in
+    let low = h 1 b (omega arith) in
+    let more = pairs_decoded field (omega (arith, even)) (λ k d lt. h (suc (suc k)) d (omega arith)) in
+    let first = high.small in
+    let second = low.small in
+    let v : ℕ = 16 * high.value + low.value in
+    record {
+      bs = v ∷ more.bs;
+      spelled = pair_decoded a b high.value low.value more.bs field second high.is low.is more.spelled;
+      fits = All-cons (λ x. x < 2 ^ 8) v more.bs (omega arith) more.fits;
+    }
+
+pub pairs_say : (field : List ℕ) → ArePairs field → Says Bytes field
+pairs_say field pairs =
+    let read = pairs_decoded field pairs.even pairs.digits in
+    (read.bs, bytes_read field read.bs pairs.some read.spelled read.fits)
 
 pairs_encoded : (b : ℕ) (bs : List ℕ) → AreBytes (b ∷ bs) → ArePairs (encode_lower (b ∷ bs))
 pairs_encoded b bs h =
@@ -53,6 +87,39 @@ no_bytes field minus bad h = no_bytes_is h.0 field minus bad h.1
 pub minus_is : (field : List ℕ) → field ≡ 45 ∷ [] → IsBytesField field []
 unfolding bytes
 minus_is field e = record { fits = All-nil (λ b. b < 2 ^ 8); spelled = e }
+
+-- a field that spells bytes is `-`, or digits in pairs
+some_pairs : (bs field : List ℕ) → IsBytesField field bs → 0 < length field / 2 → ArePairs field
+unfolding bytes
+some_pairs [] field h some = absurd (omega (arith, ap length h.spelled))
+some_pairs (b ∷ bs) field h some = subst ArePairs (sym h.spelled) (pairs_encoded b bs h.fits)
+
+pub said_pairs : (field : List ℕ) → Says Bytes field → 0 < length field / 2 → ArePairs field
+said_pairs field h some = some_pairs h.0 field h.1 some
+
+none_read : (bs field : List ℕ) → IsBytesField field bs → length field / 2 ≡ 0 → IsBytesField field []
+unfolding bytes
+none_read [] field h none = h
+none_read (b ∷ bs) field h none = absurd (omega (arith, ap length h.spelled, length-encode_with lower_digits (b ∷ bs)))
+
+pub said_none : (field bs : List ℕ) → Says Bytes field → length bs ≡ length field / 2 → length bs ≡ 0 → IsBytesField field bs
+said_none field [] h size none = none_read h.0 field h.1 (omega (arith, size))
+said_none field (b ∷ bs) h size none = absurd (omega (arith, none))
+
+-- how many bytes a field spells
+pub spelled_len : (field bs : List ℕ) → IsBytesField field bs → length bs ≡ length field / 2
+unfolding bytes
+spelled_len field [] h = omega (arith, ap length h.spelled)
+spelled_len field (b ∷ bs) h = omega (arith, ap length h.spelled, length-encode_with lower_digits (b ∷ bs))
+
+-- the test for a field of bytes
+pub minus_test : (field : List ℕ) (minus : Bool) → minus ≡ true → IsTrue minus ↔ (field ≡ 45 ∷ []) → IsTrue minus ↔ Says Bytes field
+minus_test field minus is means = (λ h. ([], minus_is field (means.0 h)), λ _. is)
+
+pub pairs_test : (field : List ℕ) (minus pairs : Bool) → minus ≡ false → IsTrue minus ↔ (field ≡ 45 ∷ []) → IsTrue pairs ↔ ArePairs field → IsTrue pairs ↔ Says Bytes field
+pairs_test field minus true other means two = (λ yes. pairs_say field (two.0 yes), λ h. refl)
+pairs_test field minus false other means two =
+    (λ yes. absurd cc, λ h. absurd (no_bytes field (λ e. false≢true (sym other ∙ means.1 e)) (λ pairs. false≢true (two.1 pairs)) h))
 
 -- no byte of a spelling is a sign that cuts a text
 pub bytes_digits : (bs : List ℕ) → AreBytes bs → Above 32 (bytes bs)

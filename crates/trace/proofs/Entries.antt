@@ -60,7 +60,7 @@ EachSays [] fields = ⊤
 EachSays (shape ∷ more) [] = ⊤
 EachSays (shape ∷ more) (field ∷ fields) = Says shape field × EachSays more fields
 
-one_way : (b : Bool) (P : Type 0) → P → MatchBool b P ⊤
+pub one_way : (b : Bool) (P : Type 0) → P → MatchBool b P ⊤
 one_way true P h = h
 one_way false P h = tt
 

@@ -16,7 +16,7 @@ use Rattle.trace.proofs.Faulty.{cut_fault, fields_fault, header_fault, word_faul
 use Rattle.trace.proofs.Signs.{above_header, lines_of-joined}
 use Rattle.trace.proofs.Sofar.{some_lines}
 
-nothing_before : (text : List ℕ) → IsCleanBefore text 1
+pub nothing_before : (text : List ℕ) → IsCleanBefore text 1
 nothing_before text j le lt fault = absurd (omega arith)
 
 pub head_fault : (text : List ℕ) (fault : FaultKind) → RefusesHead text fault → IsFault text 1 fault

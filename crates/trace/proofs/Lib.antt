@@ -6,6 +6,7 @@ pub mod ByteFields
 pub mod PairSteps
 pub mod Judging
 pub mod Entries
+pub mod Saying
 pub mod Named
 pub mod Clean
 pub mod Faulty
@@ -13,13 +14,9 @@ pub mod Sofar
 pub mod Heads
 pub mod Refused
 pub mod Unique
-pub mod Versions
+pub mod FirstFault
+pub mod Judgements
 pub mod Printed
 pub mod RecordLines
 pub mod Sending
 pub mod Passing
-pub mod LastLines
-pub mod Gathering
-pub mod OneSlotLemmas
-pub mod RunLemmas
-pub mod Pieces

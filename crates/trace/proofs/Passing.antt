@@ -4,7 +4,7 @@ use Rattle.std.proofs.KnownBytes.{Appends-nil, Appends-trans, Appends-kept, Keep
 use Rattle.std.specs.Bool.{OnTrue}
 use Rattle.std.specs.Io.KnownBytes.{Appends, Keeps}
 use lib.Seq.{take-append_seam}
-use Rattle.trace.specs.LastLine.{AppendsFront}
+use Rattle.trace.specs.Sends.{AppendsFront}
 use Rattle.trace.specs.Sends.{Passes, Breaks, Sends}
 
 passes_more : (a b c : Option (List ℕ)) (w x v y u : List ℕ) → Passes a b (w ++ x) v → Passes b c (v ++ y) u → Passes a c (w ++ (x ++ y)) u

@@ -1,8 +1,10 @@
 -- The line of a record, put field after field.
-use Rattle.std.proofs.Common.{◌≡◌, ℕ, ◌/◌, ◌%◌, ◌<◌, ◌≤◌, List, [], ◌∷◌, ◌++◌, Option, length, take, drop, refl, sym, ap, ◌∙◌, append_assoc, take-append-drop, arith}
+use Rattle.std.proofs.Common.{◌≡◌, ℕ, ◌/◌, ◌%◌, ◌<◌, ◌≤◌, List, [], ◌∷◌, ◌++◌, Option, codes, get_or, length, take, drop, refl, sym, ap, ◌∙◌, append_assoc, take-append-drop, arith}
 use Rattle.hex.specs.Hex.{encode_lower}
+use Rattle.board.specs.declared.reply.Reply.{Reply}
+use Rattle.trace.specs.Records.{entry_of, quiet_line, record_line, reply_field}
 use Rattle.trace.specs.Sends.{Sends}
-use Rattle.trace.specs.Spelling.{digit, num}
+use Rattle.trace.specs.Spelling.{bytes, digit, fixed, num}
 use Rattle.trace.specs.Text.{line, ended}
 use Rattle.trace.proofs.ByteFields.{all_written, encode_append}
 use Rattle.trace.proofs.Numbers.{num_digit, num_split}
@@ -16,6 +18,40 @@ pub slot_two : (n d e : ℕ) → 16 ≤ n → n < 256 → d ≡ digit (n / 16) �
 slot_two n d e le lt p q =
     let small : n / 16 < 16 = omega arith in
     rw (p, q, num_split n le, num_digit (n / 16) small) refl
+
+-- a line that begins with a slot's number by two digits, with the first of them left out or not
+pub numbered_one : (n : ℕ) (xs : List ℕ) → n < 16 → take 2 xs ≡ digit (n / 16) ∷ digit (n % 16) ∷ [] → drop 1 xs ≡ num n ++ drop 2 xs
+numbered_one n [] lt is = absurd cc
+numbered_one n (x ∷ []) lt is = absurd cc
+numbered_one n (x ∷ y ∷ xs) lt is =
+    let small : n % 16 ≡ n = omega arith in
+    let last : y ≡ digit (n % 16) = cc in
+    rw (last, small, num_digit n lt) refl
+
+pub numbered_two : (n : ℕ) (xs : List ℕ) → 16 ≤ n → n < 256 → take 2 xs ≡ digit (n / 16) ∷ digit (n % 16) ∷ [] → xs ≡ num n ++ drop 2 xs
+numbered_two n [] le lt is = absurd cc
+numbered_two n (x ∷ []) le lt is = absurd cc
+numbered_two n (x ∷ y ∷ xs) le lt is =
+    let small : n / 16 < 16 = omega arith in
+    let first : x ≡ digit (n / 16) = cc in
+    let last : y ≡ digit (n % 16) = cc in
+    rw (first, last, num_split n le, num_digit (n / 16) small) refl
+
+-- the line of a record without output, by its bytes
+pub quiet_is : (slot : ℕ) (reply : List ℕ) (words : ℕ × ℕ) → num slot ++ 32 ∷ (reply ++ 32 ∷ 45 ∷ 32 ∷ digit words.0 ∷ 32 ∷ digit words.1 ∷ 10 ∷ []) ≡ ended (quiet_line slot reply words)
+unfolding quiet_line bytes
+quiet_is slot reply words = simp append_assoc
+
+-- a line without output is that line
+pub quiet_of : {A : Type 0} → (slot : ℕ) (reply : Reply A) (output : List ℕ) (words : ℕ × ℕ) (field : List ℕ) → length output ≡ 0 → reply_field reply ≡ field → ended (quiet_line slot field words) ≡ ended (record_line (entry_of slot reply output words))
+unfolding quiet_line record_line
+quiet_of slot reply [] words field none is = rw is refl
+quiet_of slot reply (x ∷ xs) words field none is = absurd cc
+
+-- a value with its letter, byte by byte
+pub value_is : (xs rest : List ℕ) (value : ℕ) → xs ≡ codes "v:" ++ fixed 8 value → get_or xs 0 0 ∷ get_or xs 1 0 ∷ get_or xs 2 0 ∷ get_or xs 3 0 ∷ get_or xs 4 0 ∷ get_or xs 5 0 ∷ get_or xs 6 0 ∷ get_or xs 7 0 ∷ get_or xs 8 0 ∷ get_or xs 9 0 ∷ rest ≡ codes "v:" ++ (fixed 8 value ++ rest)
+unfolding fixed
+value_is xs rest value is = rw is refl
 
 -- some of the bytes were put, and these are left
 pub record PutFront (a b s t : Option (List ℕ)) (bytes rest : List ℕ) : Type 0 where

@@ -13,9 +13,7 @@ use Rattle.trace.specs.Cuts.{fields_of, lines_of, is_line_feed}
 use Rattle.trace.specs.Faults.{IsCleanBefore, IsEnded, IsFault, IsOfVersion, Passes, line_at}
 use Rattle.trace.specs.Printable.{InRange, IsPrintable, EventInRange, IsPrintableKind, IsPrintableSlot, SlotInRange}
 use Rattle.trace.specs.Version.{IsVersion}
-use Rattle.trace.specs.Refusals.{AddsLine, IsFine, IsFineEntry, IsFineSlot, RefusesLine, RefusesAfterWord, entry_fields, has_begun, with_entry}
-use Rattle.trace.specs.declared.entry.Entry.{Entry}
-use Rattle.trace.specs.declared.entry.Entry.TheVariants as entry
+use Rattle.trace.specs.Refusals.{AddsLine, IsFine, IsFineSlot, RefusesLine, RefusesAfterWord, has_begun}
 use Rattle.trace.specs.Text.{Content, ended, header, joined, text, line, cache_fields, cache_line, slot_fields, slot_line, event_fields, event_line, trace_lines}
 use Rattle.trace.proofs.Clean.{Good, IsSlotLine, good, good_passes, only_slots, one_event, may_earlier, may_later}
 use Rattle.trace.proofs.Entries.{EnteredEvent, entered_cache, entered_event, entered_slot, same_word}
@@ -169,7 +167,7 @@ push_event c e =
     ap (λ (ls : List (List ℕ)). (header c.version ∷ cache_line c.cache ∷ map (slot_line c.version) c.slots) ++ ls) (map_push event_line c.events e) ∙ sym (append_assoc (header c.version ∷ cache_line c.cache ∷ map (slot_line c.version) c.slots) (map event_line c.events) (event_line e ∷ []))
 
 -- a line taken off the rest goes to the end of what was read
-taken : (text : List ℕ) (front more : List (List ℕ)) (rest l after : List ℕ) → text ≡ joined front ++ rest → rest ≡ l ++ 10 ∷ after → more ≡ front ++ l ∷ [] → text ≡ joined more ++ after
+pub taken : (text : List ℕ) (front more : List (List ℕ)) (rest l after : List ℕ) → text ≡ joined front ++ rest → rest ≡ l ++ 10 ∷ after → more ≡ front ++ l ∷ [] → text ≡ joined more ++ after
 taken text front more rest l after whole cut is =
     whole ∙ ap (λ (xs : List ℕ). joined front ++ xs) (cut ∙ sym (append_assoc l (10 ∷ []) after)) ∙ sym (append_assoc (joined front) (ended l) after)
     ∙ ap (λ (xs : List ℕ). xs ++ after) (sym (ap joined is ∙ joined_push front l))
@@ -216,18 +214,17 @@ begun_so text version cache middle l rest one_of first second is range =
       count = refl;
     }
 
-none_begun : {A : Type 0} (c : Content A) → (has_begun c ≡ true → ⊥) → length c.events ≡ 0
+pub none_begun : {A : Type 0} (c : Content A) → (has_begun c ≡ true → ⊥) → length c.events ≡ 0
 none_begun c h = elim (cases_lt 0 (length c.events)) [ inl lt ↦ absurd (h (lt-ltb 0 (length c.events) lt)) | inr le ↦ omega arith ]
 
 pub entry_read : {A : Type 0} (text : List ℕ) (c d : Content A) (k : ℕ) (rest l after : List ℕ) → Sofar text c k rest → rest ≡ l ++ 10 ∷ after → AddsLine c l d → Sofar text d (k + 1) after
-entry_read text c d k rest l after so cut adds = subst (λ x. Sofar text x (k + 1) after) (sym adds.added) (by_entry text c k rest l after so cut adds.entry adds.fields adds.fine)
-  where
-    by_entry : {A : Type 0} (text : List ℕ) (c : Content A) (k : ℕ) (rest l after : List ℕ) → Sofar text c k rest → rest ≡ l ++ 10 ∷ after → (e : Entry A) → fields_of l ≡ entry_fields c.version e → IsFineEntry c.version (has_begun c) e → Sofar text (with_entry c e) (k + 1) after
-    by_entry text c k rest l after so cut (entry.Slot s) is fine = slot_read text c k rest l after s so cut is fine.0 (none_begun c fine.1)
-    by_entry text c k rest l after so cut (entry.Event e) is fine = event_read text c k rest l after e so cut is fine
+entry_read text c d k rest l after so cut (inl adds) =
+    subst (λ x. Sofar text x (k + 1) after) (sym adds.added) (slot_read text c k rest l after adds.slot so cut adds.said.fields adds.said.fine (none_begun c adds.said.early))
+entry_read text c d k rest l after so cut (inr adds) =
+    subst (λ x. Sofar text x (k + 1) after) (sym adds.added) (event_read text c k rest l after adds.event so cut adds.said.fields adds.said.fine)
 
 -- the next line's number stays below the text's length
-length_joined : (ls : List (List ℕ)) → length ls ≤ length (joined ls)
+pub length_joined : (ls : List (List ℕ)) → length ls ≤ length (joined ls)
 unfolding joined
 length_joined [] = omega arith
 length_joined (l ∷ ls) = omega (arith, length_joined ls, length-append (ended l) (joined ls), length-append l (10 ∷ []))

@@ -2,7 +2,6 @@
 use Rattle.std.proofs.Common.{◌≡◌, ℕ, suc, ◌+◌, ◌*◌, ◌-◌, ◌^◌, ◌<◌, ◌≤◌, Bool, true, false, cond, eqb, List, [], ◌∷◌, ◌++◌, All, length, get_or, drop, map, Result, Ok, Err, refl, sym, ap, subst, ◌∙◌, arith, inl, inr}
 use Rattle.std.proofs.lemmas.List.{append_cancel_right, append-nil, get_or_past}
 use Rattle.std.proofs.lemmas.Bool.{cases_eq, cases_lt, cases_order}
-use Rattle.std.specs.Prelude.{IfOk}
 use Rattle.hex.specs.Hex.{decode_of, encode_lower, lower_digits}
 use Rattle.hex.proofs.HexLemmas.{decode_of-encode_lower, length-encode_with}
 use Rattle.hex.specs.declared.error.FromHexError.{FromHexError}
@@ -167,7 +166,7 @@ same_what m n (what.Resize a r) (what.MemRead b t) rv rw' fv fw e = absurd (omeg
 same_what m n (what.Resize a r) (what.MemWrite b ys) rv rw' fv fw e = absurd (omega (arith, ap sign e))
 same_what m n (what.Resize a r) (what.Input ys) rv rw' fv fw e = absurd (omega (arith, ap sign e))
 
-same_event_fields : {A : Type 0} (d e : Event A) → IsFine d → IsFine e → event_fields d ≡ event_fields e → d ≡ e
+pub same_event_fields : {A : Type 0} (d e : Event A) → IsFine d → IsFine e → event_fields d ≡ event_fields e → d ≡ e
 same_event_fields d e fd fe h =
     let both = same_what d.slot e.slot d.what e.what fd.fits.what fe.fits.what fd.printable fe.printable h in
     ap (λ (n : ℕ). record { slot = n; what = d.what }) both.0 ∙ ap (λ w. record { slot = e.slot; what = w }) both.1
@@ -311,7 +310,7 @@ kind_is kind.Choice = refl
 kind_is kind.Bytes = refl
 kind_is kind.NoMemory = refl
 
-same_kind : (c d : FaultKind) → order c ≡ order d → c ≡ d
+pub same_kind : (c d : FaultKind) → order c ≡ order d → c ≡ d
 same_kind c d e = sym (kind_is c) ∙ ap kind_at e ∙ kind_is d
 
 same_line : (text : List ℕ) (k l : ℕ) (c d : FaultKind) → IsFault text k c → IsFault text l d → k ≡ l
@@ -338,9 +337,3 @@ pub one_fault : (text : List ℕ) (k l : ℕ) (c d : FaultKind) → IsFault text
 one_fault text k l c d f g =
     let line = same_line text k l c d f g in
     (line, same_check text k c d f (subst (λ (n : ℕ). IsFault text n d) (sym line) g))
-
--- what was read is the one trace of its text
-pub only_told : {X E A : Type 0} (r : Result X E) (see : X → Content A) (whole : List ℕ) → IfOk r (λ x. whole ≡ text (see x)) → IfOk r (λ x. IsPrintable (see x)) → IfOk r (λ x. InRange (see x))
-    → IfOk r (λ x. (u : Content A) → InRange u → IsPrintable u → whole ≡ text u → u ≡ see x)
-only_told (Ok x) see whole found fine range = λ u ru pu e. one_trace u (see x) (record { range = ru; printable = pu }) (record { range = range; printable = fine }) (sym e ∙ found)
-only_told (Err e) see whole found fine range = tt

@@ -1,5 +1,5 @@
 -- Why a text isn't a trace: the first line with a fault, and the first check that it fails.
-use Rattle.std.specs.Prelude.{◌≡◌, ◌≢◌, ◌==◌, ℕ, MatchBool, ◌-◌, ◌<◌, ◌≤◌, ◌⊎◌, ⊤, List, [], ◌∷◌, length, drop, slice_index_or}
+use Rattle.std.specs.Prelude.{◌≡◌, ◌≢◌, ◌==◌, ℕ, MatchBool, ◌-◌, ◌<◌, ◌≤◌, ◌⊎◌, ⊤, List, [], ◌∷◌, ◌++◌, length, drop, slice_index_or}
 use Rattle.trace.specs.declared.fault.FaultKind.{FaultKind}
 use Rattle.trace.specs.declared.fault.FaultKind.TheVariants as kind
 use Rattle.trace.specs.declared.word.Word.{Word}
@@ -78,6 +78,19 @@ abbrev pub AllSay : FaultKind → List Shape → List (List ℕ) → Type 0
 AllSay fault [] fields = ⊤
 AllSay fault (shape ∷ more) [] = ⊤
 AllSay fault (shape ∷ more) (field ∷ fields) = MatchBool (order (fault_of shape) == order fault) (Says shape field) ⊤ × AllSay fault more fields
+
+-- the first of the fields whose fault is of this kind and that says no value of its shape
+pub record IsAtFault (fault : FaultKind) (shapes : List Shape) (fields : List (List ℕ)) (shape : Shape) (field : List ℕ) : Type 0 where
+  pub before : List Shape
+  pub after : List Shape
+  pub front : List (List ℕ)
+  pub rest : List (List ℕ)
+  pub shapes_are : shapes ≡ before ++ shape ∷ after
+  pub fields_are : fields ≡ front ++ field ∷ rest
+  pub as_many : length before ≡ length front
+  pub earlier : AllSay fault before front
+  pub of_kind : fault_of shape ≡ fault
+  pub fails : ¬ Says shape field
 
 -- line k of the text passes the check of a kind
 abbrev pub Passes : List ℕ → ℕ → FaultKind → Type 0

@@ -5,10 +5,10 @@ pub mod Words
 pub mod Text
 pub mod Printable
 pub mod Faults
+pub mod Reading
+pub mod Said
 pub mod Refusals
 pub mod Records
-pub mod LastLine
 pub mod Sends
-pub mod OneSlot
-pub mod Replay
-pub mod Pieces
+pub mod Judging
+pub mod Events

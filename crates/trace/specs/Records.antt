@@ -21,8 +21,21 @@ abbrev pub record_fields : {A : Type 0} → Record A → List (List ℕ)
 record_fields entry =
     num entry.slot ∷ reply_field entry.reply ∷ bytes entry.output ∷ (digit entry.block_irq ∷ []) ∷ (digit entry.console_irq ∷ []) ∷ []
 
+-- a record by its parts, of which the last are the block window's word and the console window's
+abbrev pub entry_of : {A : Type 0} → ℕ → Reply A → List ℕ → ℕ × ℕ → Record A
+entry_of slot reply output words =
+    record { slot = slot; reply = reply; output = output; block_irq = words.0; console_irq = words.1 }
+
 unfoldable pub record_line : {A : Type 0} → Record A → List ℕ
 record_line entry = line (record_fields entry)
+
+-- the line of a record without output whose reply is spelled so
+unfoldable pub quiet_line : ℕ → List ℕ → ℕ × ℕ → List ℕ
+quiet_line slot reply words = line (num slot ∷ reply ∷ bytes [] ∷ (digit words.0 ∷ []) ∷ (digit words.1 ∷ []) ∷ [])
+
+-- the line of a read of memory that gave these bytes
+unfoldable pub read_line : ℕ → List ℕ → ℕ × ℕ → List ℕ
+read_line slot bs words = line (num slot ∷ (codes "b:" ++ bytes bs) ∷ bytes [] ∷ (digit words.0 ∷ []) ∷ (digit words.1 ∷ []) ∷ [])
 
 -- the text of some records
 abbrev pub records_text : {A : Type 0} → List (Record A) → List ℕ

@@ -1,5 +1,5 @@
 -- Why one line is refused, once its word is known: what a function that reads its fields answers.
-use Rattle.std.specs.Prelude.{◌≡◌, ℕ, ◌^◌, ◌<◌, ◌∷◌, ◌++◌, [], ⊤, nat_lt, Bool, true, List, length}
+use Rattle.std.specs.Prelude.{◌≡◌, ◌⊎◌, ℕ, ◌^◌, ◌<◌, ◌∷◌, ◌++◌, [], nat_lt, Bool, true, List, length}
 use Rattle.trace.specs.declared.fault.FaultKind.{FaultKind}
 use Rattle.trace.specs.declared.fault.FaultKind.TheVariants as kind
 use Rattle.board.specs.declared.event.Event.{Event}
@@ -10,22 +10,18 @@ use Rattle.trace.specs.Text.{Content, header, cache_fields, slot_fields, event_f
 use Rattle.trace.specs.Printable.{SlotInRange}
 use Rattle.trace.specs.Version.{IsVersion}
 use Rattle.board.specs.declared.spec.SlotSpec.{SlotSpec}
-use Rattle.trace.specs.declared.entry.Entry.{Entry}
-use Rattle.trace.specs.declared.entry.Entry.TheVariants as entry
+use Rattle.trace.specs.declared.read.entry.Entry.{Entry}
+use Rattle.trace.specs.declared.read.entry.Entry.TheVariants as entry
 use Rattle.trace.specs.declared.word.Word.{Word}
 use Rattle.trace.specs.declared.word.Word.TheVariants.{Cache, Slot}
-use Rattle.trace.specs.Words.{Bytes, Value, Width, Says, spelled, shapes}
+use Rattle.trace.specs.declared.read.said.Said.{Said}
+use Rattle.trace.specs.Said.{IsFineSaid, said_fields}
+use Rattle.trace.specs.Words.{Value, Width, Says, spelled, shapes}
 
 -- an event that its integers admit and that has a line
 pub record IsFine {A : Type 0} (e : Event A) : Type 0 where
   pub fits : EventInRange e
   pub printable : IsPrintableKind e.what
-
--- a field is no bytes, or there was no memory for them
-abbrev pub RefusesBytes : List ℕ → FaultKind → Type 0
-RefusesBytes field kind.Bytes = ¬ Says Bytes field
-RefusesBytes field kind.NoMemory = ⊤
-RefusesBytes field _ = ⊥
 
 -- a width is refused, or the value that is read by it
 abbrev pub RefusesValue : List ℕ → List ℕ → FaultKind → Type 0
@@ -41,7 +37,6 @@ RefusesFields version word fields kind.Choice =
     AreAsMany version word fields × AllSay kind.Number (shapes version word fields) fields × (¬ AllSay kind.Choice (shapes version word fields) fields)
 RefusesFields version word fields kind.Bytes =
     AreAsMany version word fields × AllSay kind.Number (shapes version word fields) fields × AllSay kind.Choice (shapes version word fields) fields × (¬ AllSay kind.Bytes (shapes version word fields) fields)
-RefusesFields version word fields kind.NoMemory = ⊤
 RefusesFields version word fields _ = ⊥
 
 -- a line after the second is refused, where events may have begun before it: it has no word, or is a slot
@@ -63,9 +58,9 @@ abbrev pub RefusesFieldsOf : Word → List (List ℕ) → FaultKind → Type 0
 RefusesFieldsOf word fields fault = (version : ℕ) → RefusesFields version word fields fault
 
 -- the fields of what was read
-abbrev pub entry_fields : {A : Type 0} → ℕ → Entry A → List (List ℕ)
+abbrev pub entry_fields : ℕ → Entry → List (List ℕ)
 entry_fields version (entry.Slot s) = slot_fields version s
-entry_fields version (entry.Event e) = event_fields e
+entry_fields version (entry.Event s) = said_fields s
 
 -- a slot that its integers admit and that has a line
 pub record IsFineSlot (version : ℕ) (s : SlotSpec) : Type 0 where
@@ -73,9 +68,9 @@ pub record IsFineSlot (version : ℕ) (s : SlotSpec) : Type 0 where
   pub printable : IsPrintableSlot version s
 
 -- what was read has a line, and a slot comes before every event
-abbrev pub IsFineEntry : {A : Type 0} → ℕ → Bool → Entry A → Type 0
+abbrev pub IsFineEntry : ℕ → Bool → Entry → Type 0
 IsFineEntry version begun (entry.Slot s) = IsFineSlot version s × (begun ≡ true → ⊥)
-IsFineEntry version begun (entry.Event e) = IsFine e
+IsFineEntry version begun (entry.Event s) = IsFineSaid s
 
 -- the first line is cut off, or isn't the header
 pub record IsOtherHead (text : List ℕ) : Type 0 where
@@ -126,14 +121,41 @@ RefusesSecond text fault = RefusesCache text fault
 abbrev pub has_begun : {A : Type 0} → Content A → Bool
 has_begun c = nat_lt 0 (length c.events)
 
--- a trace with one slot or event more
-abbrev pub with_entry : {A : Type 0} → Content A → Entry A → Content A
-with_entry c (entry.Slot s) = record c { slots = c.slots ++ s ∷ [] }
-with_entry c (entry.Event e) = record c { events = c.events ++ e ∷ [] }
+-- a trace with one slot more, and one with one event more
+abbrev pub with_slot : {A : Type 0} → Content A → SlotSpec → Content A
+with_slot c s = record c { slots = c.slots ++ s ∷ [] }
 
--- the new trace is the old one with what the line says
-pub record AddsLine {A : Type 0} (old : Content A) (line : List ℕ) (new : Content A) : Type 0 where
-  pub entry : Entry A
-  pub fields : fields_of line ≡ entry_fields old.version entry
-  pub fine : IsFineEntry old.version (has_begun old) entry
-  pub added : new ≡ with_entry old entry
+abbrev pub with_event : {A : Type 0} → Content A → Event A → Content A
+with_event c e = record c { events = c.events ++ e ∷ [] }
+
+-- the line is that of a slot, before all events
+pub record SaysSlot (version : ℕ) (begun : Bool) (line : List ℕ) (s : SlotSpec) : Type 0 where
+  pub fields : fields_of line ≡ slot_fields version s
+  pub fine : IsFineSlot version s
+  pub early : begun ≡ true → ⊥
+
+-- the line is that of an event
+pub record SaysEvent {A : Type 0} (line : List ℕ) (e : Event A) : Type 0 where
+  pub fields : fields_of line ≡ event_fields e
+  pub fine : IsFine e
+
+-- the new trace is the old one with the slot that the line says, or with the event
+pub record AddsSlot {A : Type 0} (old : Content A) (line : List ℕ) (new : Content A) : Type 0 where
+  pub slot : SlotSpec
+  pub said : SaysSlot old.version (has_begun old) line slot
+  pub added : new ≡ with_slot old slot
+
+pub record AddsEvent {A : Type 0} (old : Content A) (line : List ℕ) (new : Content A) : Type 0 where
+  pub event : Event A
+  pub said : SaysEvent line event
+  pub added : new ≡ with_event old event
+
+abbrev pub AddsLine : {A : Type 0} → Content A → List ℕ → Content A → Type 0
+AddsLine old line new = AddsSlot old line new ⊎ AddsEvent old line new
+
+-- the event that was said was added
+pub record AddsSaid {A : Type 0} (said : Said) (old new : List (Event A)) : Type 0 where
+  pub event : Event A
+  pub fields : event_fields event ≡ said_fields said
+  pub fine : IsFine event
+  pub added : new ≡ old ++ event ∷ []

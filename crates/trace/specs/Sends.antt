@@ -1,7 +1,12 @@
 -- What goes to a writer through a buffer before it.
-use Rattle.std.specs.Prelude.{◌≡◌, ℕ, List, ◌++◌, Option, None, Some, if◌then◌else◌}
+use Rattle.std.specs.Prelude.{◌≡◌, ℕ, List, ◌++◌, take, Option, None, Some, if◌then◌else◌}
 use Rattle.std.specs.Io.KnownBytes.{Appends, Keeps}
-use Rattle.trace.specs.declared.buffer.Buffer.{Buffer}
+use Rattle.trace.specs.declared.print.buffer.Buffer.{Buffer}
+
+-- known bytes grew by a front of these, which may be none or all of them
+pub record AppendsFront (old new : Option (List ℕ)) (bytes : List ℕ) : Type 0 where
+  pub count : ℕ
+  pub front : Appends old new (take count bytes)
 
 -- what waits in a buffer, unless its writer has failed
 abbrev pub waiting : {A : Type 0} → Buffer A → Option (List ℕ)

@@ -1,6 +1,8 @@
 -- The table of a trace's lines: the word that each begins with, and what the fields after it say.
 use Rattle.std.specs.Prelude.{◌≡◌, ℕ, ◌*◌, ◌^◌, ◌<◌, ◌⊎◌, Bool, List, [], ◌∷◌, codes, length, slice_index_or, ◌%◌, All}
 use Rattle.mmio_window.specs.declared.device_kind.DeviceKind.{DeviceKind}
+use Rattle.trace.specs.declared.table.Field.{Field}
+use Rattle.trace.specs.declared.table.Field.TheVariants as field
 use Rattle.trace.specs.declared.word.Word.{Word}
 use Rattle.trace.specs.declared.word.Word.TheVariants.{Cache, Slot, Read, Write, MemRead, MemWrite, Input, Resize}
 use Rattle.trace.specs.Spelling.{digit, num, fixed, bytes, window, width_digit, mode}
@@ -92,3 +94,27 @@ shapes version MemRead fields = Num 8 ∷ Num 64 ∷ Num 32 ∷ []
 shapes version MemWrite fields = Num 8 ∷ Num 64 ∷ Bytes ∷ []
 shapes version Input fields = Num 8 ∷ Bytes ∷ []
 shapes version Resize fields = Num 8 ∷ Num 16 ∷ Num 16 ∷ []
+
+-- of the fields of a line, the one by which a value is read
+abbrev pub width_among : List (List ℕ) → List ℕ
+width_among fields = slice_index_or fields 3 []
+
+-- the shape of a field, where a value is read by this width
+abbrev pub shape_of : List ℕ → Field → Shape
+shape_of width field.Sectors = Num 32
+shape_of width field.Base = Num 64
+shape_of width field.Size = Num 64
+shape_of width field.Start = Num 64
+shape_of width field.Count = Num 64
+shape_of width field.Mode = Mode
+shape_of width field.Columns = Num 16
+shape_of width field.Rows = Num 16
+shape_of width field.Identity = Identity
+shape_of width field.Slot = Num 8
+shape_of width field.Window = Window
+shape_of width field.Offset = Offset
+shape_of width field.Width = Width
+shape_of width field.Value = Value width
+shape_of width field.Address = Num 64
+shape_of width field.Length = Num 32
+shape_of width field.Bytes = Bytes

@@ -1,4 +1,7 @@
 //! Writing a whole trace.
+//!
+//! `push` writes one field, and `range` says the bounds of its numbers. `records` puts records into the `buffer` before
+//! a writer, and `write` writes whole texts.
 
 ghost use Rattle.std.specs.Prelude.{◌≡◌, ◌*◌, ◌^◌, ◌<◌, ◌↔◌, ◌++◌, ◌∷◌, [], All, IsTrue, IfOk, OnOk, map};
 ghost use Rattle.trace.specs.Printable.{InRange, IsAccess, IsPrintable, IsPrintableKind, IsPrintableSlot, IsWriteAccess};
@@ -7,9 +10,18 @@ ghost use Rattle.trace.specs.Text.{content, text as text_of, cache_line, ended, 
 ghost use Rattle.trace.specs.Version.{IsVersion};
 ghost use Rattle.trace.specs.Words.{IsWidth};
 
+mod buffer;
+mod push;
+mod range;
+mod records;
+mod write;
+
 use crate::no_memory::NoMemory;
-use crate::push::{push_bytes, push_fixed, push_num};
-use crate::range::in_range;
+pub use crate::print::buffer::Buffer;
+use crate::print::push::{push_bytes, push_fixed, push_num};
+use crate::print::range::in_range;
+pub use crate::print::records::{print_records, put_line, put_read};
+pub use crate::print::write::write_whole;
 use crate::trace::Trace;
 use crate::version::{VERSION_1, VERSION_2, header_of, identity_in_version_1};
 use board::{DeviceKind, Event, EventKind, SlotSpec};

@@ -1,23 +1,51 @@
 //! Reading a whole trace.
+//!
+//! `cut` takes lines and fields off, `entry` and `fields` read one line, `frequent` those that come most often, and
+//! `number`, `choice`, `value` and `bytes` one field. `said` is the event that a line says, before anything owns it.
+//! `judging` goes over a whole text and keeps what stands before its events, `events` takes these one by one, and
+//! `at_fault` finds which field of a line is at fault.
 
 ghost use Rattle.std.specs.Prelude.{◌≡◌, ◌≢◌, ◌≤◌, IfOk, IfErr, OnOk};
 ghost use Rattle.trace.specs.Faults.{IsFault, IsCleanBefore};
 ghost use Rattle.trace.specs.Text.{Content, content, text as text_of};
 ghost use Rattle.trace.specs.Printable.{InRange, IsPrintable};
-ghost use Rattle.trace.specs.Refusals.{RefusesHead, IsFirst, IsSecond, RefusesSecond, AddsLine, RefusesLine, has_begun};
+ghost use Rattle.trace.specs.Refusals.{RefusesHead, IsFirst, IsSecond, RefusesSecond, AddsLine, AddsSaid, RefusesLine, has_begun};
+ghost use Rattle.trace.specs.Said.{IsFineSaid};
 ghost use Rattle.trace.specs.Version.{IsVersion};
 
-use crate::cut::{one, take_field, take_line};
-use crate::entry::entry_of;
+mod at_fault;
+mod bytes;
+mod choice;
+mod cut;
+mod entry;
+mod event_line;
+mod events;
+mod fields;
+mod frequent;
+mod judging;
+mod number;
+mod said;
+mod value;
+
 use crate::fault::{FaultKind, TraceFault};
-use crate::number::number_u32;
+pub use crate::read::at_fault::{field_at_fault, first_word};
+pub use crate::read::bytes::{read_bytes, spelled_len};
+pub use crate::read::cut::line_of;
+use crate::read::cut::{one, take_field, take_line};
+use crate::read::entry::{Entry, entry_of};
+pub use crate::read::event_line::event_of_line;
+pub use crate::read::events::take_event;
+pub use crate::read::judging::{Judged, judge};
+use crate::read::number::number_u32;
+pub use crate::read::said::{Said, What};
 use crate::trace::Trace;
 use crate::version::version_of;
 use crate::word::is_cache;
-use std::alloc::Allocator;
+use board::Event;
+use std::alloc::{AllocError, Allocator};
 
 /// The version that the first line names, and what follows it.
-fn after_header(text: &[u8]) -> Result<(u8, &[u8]), FaultKind>
+pub(crate) fn after_header(text: &[u8]) -> Result<(u8, &[u8]), FaultKind>
     ensures ok { IfOk result (λ x. IsFirst text.now x.0 x.1.now) }
     ensures err { IfErr result (λ fault. RefusesHead text.now fault) }
 {
@@ -31,7 +59,7 @@ fn after_header(text: &[u8]) -> Result<(u8, &[u8]), FaultKind>
 }
 
 /// The capacity of the cache, from the second line, and what follows it.
-fn cache_of(rest: &[u8]) -> Result<(u32, &[u8]), FaultKind>
+pub(crate) fn cache_of(rest: &[u8]) -> Result<(u32, &[u8]), FaultKind>
     ensures ok { IfOk result (λ x. IsSecond rest.now x.0 x.1.now) }
     ensures err { IfErr result (λ fault. RefusesSecond rest.now fault) }
 {
@@ -70,18 +98,6 @@ pub fn read_trace<A: Allocator + Copy>(alloc: A, text: &[u8]) -> Result<Trace<A>
     ensures numbered { IfErr result (λ e. 1 ≤ e.line) }
     ensures clean { IfErr result (λ e. IsCleanBefore text.now e.line) }
 {
-    read(alloc, text)
-}
-
-/// The trace that the lines say, one after another.
-fn read<A: Allocator + Copy>(alloc: A, text: &[u8]) -> Result<Trace<A>, TraceFault>
-    ensures found { IfOk result (λ t. text.now ≡ text_of (content t)) }
-    ensures printable { IfOk result (λ t. IsPrintable (content t)) }
-    ensures range { IfOk result (λ t. InRange (content t)) }
-    ensures fault { IfErr result (λ e. e.kind ≢ FaultKind.NoMemory → IsFault text.now e.line e.kind) }
-    ensures numbered { IfErr result (λ e. 1 ≤ e.line) }
-    ensures clean { IfErr result (λ e. IsCleanBefore text.now e.line) }
-{
     let (version, rest) = match after_header(text) {
         Ok(found) => found,
         Err(kind) => return Err(TraceFault { line: 1, kind }),
@@ -114,15 +130,31 @@ fn add_line<A: Allocator + Copy>(
 ) -> Result<(), FaultKind>
     requires { IsVersion trace.old.version }
     ensures ok { OnOk result (AddsLine (content trace.old) line.now (content trace.new)) }
-    ensures err { IfErr result (λ fault. RefusesLine trace.old.version (has_begun (content trace.old)) line.now fault) }
+    ensures err { IfErr result (λ fault. fault ≢ FaultKind.NoMemory →
+        RefusesLine trace.old.version (has_begun (content trace.old)) line.now fault) }
 {
     let begun = !trace.events.is_empty();
-    let entry = match entry_of(alloc, trace.version, line, begun) {
-        Ok(entry) => entry,
+    let added = match entry_of(trace.version, line, begun) {
+        Ok(Entry::Slot(slot)) => trace.slots.push(slot).is_ok(),
+        Ok(Entry::Event(said)) => add_event(alloc, &mut trace.events, said).is_ok(),
         Err(fault) => return Err(fault),
     };
-    if trace.push(entry).is_err() {
+    if !added {
         return Err(FaultKind::NoMemory);
     }
+    Ok(())
+}
+
+// Adds the event that a line says.
+fn add_event<A: Allocator>(
+    alloc: A,
+    events: &mut Vec<Event<A>, A>,
+    said: Said<'_>,
+) -> Result<(), AllocError>
+    requires { IsFineSaid said }
+    ensures { OnOk result (AddsSaid said.entry events.old.items events.new.items) }
+{
+    let event = said.event(alloc)?;
+    events.push(event)?;
     Ok(())
 }

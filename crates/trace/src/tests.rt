@@ -1,18 +1,10 @@
-//! Worked texts from outside, and what stands where memory is refused.
+//! Worked texts from outside.
 //!
 //! What a test compares stands in tables of plain values, a row for each case.
 
-mod each_growth_of_calls;
-mod each_growth_of_replays;
-mod each_growth_refused;
-mod each_image_call_refused;
 mod faults;
-mod last_lines;
 mod printed;
-mod refused_chain;
-mod replayed;
 mod spellings;
-mod two_guests;
 mod versions;
 
 use crate::{FaultKind, TraceFault, is_printable, print_trace, read_trace};

@@ -1,14 +1,12 @@
 //! What a trace is made of.
 
-ghost use Rattle.std.specs.Prelude.{◌≡◌, [], OnOk};
+ghost use Rattle.std.specs.Prelude.{◌≡◌, []};
 ghost use Rattle.trace.specs.Text.{as_version_2, content};
 ghost use Rattle.trace.specs.Printable.{IsPrintable};
-ghost use Rattle.trace.specs.Refusals.{with_entry};
 
-use crate::entry::Entry;
 use crate::version::VERSION_2;
 use board::{Event, SlotSpec};
-use std::alloc::{AllocError, Allocator, Global};
+use std::alloc::{Allocator, Global};
 
 /// A whole trace: the board that it is for, and what its guests do.
 #[derive(Drop)]
@@ -35,19 +33,6 @@ impl<A: Allocator + Copy> Trace<A> {
             slots: Vec::new(alloc),
             events: Vec::new(alloc),
         }
-    }
-}
-
-impl<A: Allocator> Trace<A> {
-    /// Adds a slot or an event at the end of its kind.
-    pub(crate) fn push(&mut self, entry: Entry<A>) -> Result<(), AllocError>
-        ensures { OnOk result (content self.new ≡ with_entry (content self.old) entry) }
-    {
-        match entry {
-            Entry::Slot(slot) => self.slots.push(slot)?,
-            Entry::Event(event) => self.events.push(event)?,
-        }
-        Ok(())
     }
 }
 

@@ -1,15 +1,15 @@
 //! The versions of the format, which the first line names.
 
-ghost use Rattle.std.specs.Prelude.{◌≡◌, ◌*◌, ◌++◌, ◌∷◌, [], IfSome, IfNone, List};
+ghost use Rattle.std.specs.Prelude.{◌≡◌, ◌*◌, IfSome, IfNone};
 ghost use Rattle.trace.specs.Faults.{IsHeader};
 ghost use Rattle.trace.specs.Text.{header};
 ghost use Rattle.trace.specs.Version.{IsVersion, identity_in_version_1};
 
 /// The version whose `slot` lines leave the identity out.
-pub(crate) const VERSION_1: u8 = 1;
+pub const VERSION_1: u8 = 1;
 
 /// The version whose `slot` lines end in the identity.
-pub(crate) const VERSION_2: u8 = 2;
+pub const VERSION_2: u8 = 2;
 
 /// The identity of each slot of a version 1 trace.
 pub(crate) fn identity_in_version_1() -> [u8; 20]
@@ -19,7 +19,7 @@ pub(crate) fn identity_in_version_1() -> [u8; 20]
 }
 
 /// The version that a first line names, where it is one.
-pub(crate) fn version_of(line: &[u8]) -> Option<u8>
+pub fn version_of(line: &[u8]) -> Option<u8>
     ensures one_of { IfSome result IsVersion }
     ensures some { IfSome result (λ version. line.now ≡ header version) }
     ensures none { IfNone result (¬ IsHeader line.now) }

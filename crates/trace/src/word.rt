@@ -6,7 +6,7 @@ ghost use Rattle.trace.specs.declared.word.Word.{Word};
 
 /// The first word of a line after the header. The second line has `Cache`, the later ones the others.
 #[derive(Clone, Copy, Debug, PartialEq, Eq)]
-pub(crate) enum Word {
+pub enum Word {
     Cache,
     Slot,
     Read,

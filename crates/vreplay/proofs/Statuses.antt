@@ -1,11 +1,11 @@
 -- Which status a fault has.
 use Rattle.std.proofs.Common.{◌≡◌, ℕ, List, Option, Result, Ok, Err, OnOk, IfErr, refl, inl, inr, arith}
-use Rattle.trace.specs.declared.replay_fault.ReplayFault.{ReplayFault}
-use Rattle.trace.specs.declared.replay_fault.ReplayFault.TheVariants as replay
-use Rattle.trace.specs.LastLine.{ending_of}
-use Rattle.vreplay.specs.LastLine.{EndsBy}
-use Rattle.vreplay.specs.declared.fault.Fault.{Fault}
-use Rattle.vreplay.specs.declared.fault.Fault.TheVariants.{Usage, Replay}
+use Rattle.replay.specs.declared.fault.ReplayFault.{ReplayFault}
+use Rattle.replay.specs.declared.fault.ReplayFault.TheVariants as replay
+use Rattle.replay.specs.LastLine.{ending_of}
+use Rattle.calls.specs.LastLine.{EndsBy}
+use Rattle.calls.specs.declared.fault.Fault.{Fault}
+use Rattle.calls.specs.declared.fault.Fault.TheVariants.{Usage, Replay}
 
 replay_status : (fault : ReplayFault) → (ending_of fault).status ≡ 2 → ⊥
 replay_status replay.Read two = omega (arith, two)

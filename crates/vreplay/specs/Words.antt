@@ -4,9 +4,9 @@ use Rattle.clap.specs.Walk.{Rule, Text, first_of}
 use Rattle.clap.specs.Simple.{App, matches_of, new_app, new_rule, on_top, with_rule}
 use Rattle.clap.specs.Faults.{fault_of}
 use Rattle.clap.specs.declared.builder.action.ArgAction.TheVariants.{SetTrue}
-use Rattle.trace.specs.declared.replay_fault.ReplayFault.TheVariants.{NoMemory}
-use Rattle.vreplay.specs.declared.fault.Fault.{Fault}
-use Rattle.vreplay.specs.declared.fault.Fault.TheVariants.{Usage, Replay}
+use Rattle.replay.specs.declared.fault.ReplayFault.TheVariants.{NoMemory}
+use Rattle.calls.specs.declared.fault.Fault.{Fault}
+use Rattle.calls.specs.declared.fault.Fault.TheVariants.{Usage, Replay}
 use Rattle.vreplay.specs.declared.words.Call.{Call}
 use Rattle.vreplay.specs.declared.words.Keeping.{Keeping}
 use Rattle.vreplay.specs.declared.words.Keeping.TheVariants.{Unchanged, Saved, InPlace}

@@ -1,22 +1,19 @@
 //! A replay over files.
 
-ghost use Rattle.std.specs.Prelude.{◌≡◌, IfOk, IfErr, OnOk, true, false, is_some};
+ghost use Rattle.std.specs.Prelude.{◌≡◌, IfOk, IfErr, OnOk, is_some};
 ghost use Rattle.std.specs.Io.KnownBytes.{Appends};
-ghost use Rattle.std.specs.Fs.{asks_append, asks_create, asks_create_new, asks_read, asks_truncate, asks_write};
-ghost use Rattle.trace.specs.LastLine.{AppendsFront};
+ghost use Rattle.trace.specs.Sends.{AppendsFront};
 ghost use Rattle.vreplay.specs.Words.{saved_to};
 
-use crate::advice::{Advice, refuse, tell_failures, told};
-use crate::image::{NoImage, read_image};
-use crate::replayed::replayed;
 use crate::words::{Call, Keeping};
+use calls::{Advice, image_in, open, refuse, replayed, tell_failures, text_in, told};
+use replay::{ReplayFault, replay_text};
 use sector_cache::{BackingFile, FileImage, FileImageFault, Image, MemoryImage};
 use std::alloc::Allocator;
 use std::fs;
-use std::fs::OpenOptions;
 use std::io::Write;
 use std::rt::Files;
-use trace::{ReplayFault, gather, replay_text, write_whole};
+use trace::write_whole;
 
 /// Replays the call's trace over its image. Where the call asks for it the image's bytes are then saved, or
 /// else the image is served in place. The answer is the file that was saved to. A person is told of each fault.
@@ -93,21 +90,6 @@ where
     Ok(image)
 }
 
-// The image of a file's bytes.
-fn image_in<A: Allocator, R: Eprint + Files>(
-    rt: &R,
-    alloc: A,
-    path: &str,
-) -> Result<MemoryImage<A>, ReplayFault> {
-    let read = read_image(alloc, &mut open(rt, path, false)?);
-    match read {
-        Ok(image) => Ok(image),
-        Err(NoImage::Unread) => refuse(rt, ReplayFault::Read, Advice::Unread(path)),
-        Err(NoImage::Ragged) => refuse(rt, ReplayFault::Read, Advice::Ragged(path)),
-        Err(NoImage::NoMemory) => refuse(rt, ReplayFault::NoMemory, Advice::Memory("the image")),
-    }
-}
-
 // The image that a file is.
 fn image_at<R: Eprint + Files>(rt: &R, path: &str) -> Result<FileImage<R::File>, ReplayFault>
 where
@@ -121,39 +103,6 @@ where
         Err(FileImageFault::BadKind) => refuse(rt, ReplayFault::Read, Advice::NoFile(path)),
         Err(FileImageFault::Locked) => refuse(rt, ReplayFault::Read, Advice::Locked(path)),
     }
-}
-
-// The text of a file.
-fn text_in<A: Allocator, R: Eprint + Files>(
-    rt: &R,
-    alloc: A,
-    path: &str,
-) -> Result<Vec<u8, A>, ReplayFault> {
-    let gathered = gather(alloc, &mut open(rt, path, false)?);
-    match gathered {
-        Ok(text) => Ok(text),
-        Err(fault) => refuse(rt, fault, Advice::on_reading(fault, path)),
-    }
-}
-
-// Opens a file that is there, to be read and perhaps to be written too.
-fn open<R: Eprint + Files>(rt: &R, path: &str, writes: bool) -> Result<R::File, ReplayFault> {
-    match access(writes).open(rt, path) {
-        Ok(file) => Ok(file),
-        Err(error) => refuse(rt, ReplayFault::Read, Advice::Unopened(path, error)),
-    }
-}
-
-// How a file is opened that is there: it is neither made nor cut.
-fn access(writes: bool) -> OpenOptions
-    ensures reads { asks_read result ≡ true }
-    ensures writes { asks_write result ≡ writes }
-    ensures whole { (asks_truncate result ≡ false) × (asks_append result ≡ false) }
-    ensures there { (asks_create result ≡ false) × (asks_create_new result ≡ false) }
-{
-    let mut options = OpenOptions::new();
-    options.read(true).write(writes);
-    options
 }
 
 // Makes the file anew, and writes the bytes to it.

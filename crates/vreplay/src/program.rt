@@ -3,33 +3,22 @@
 ghost use Rattle.std.specs.Prelude.{◌≡◌, ◌<◌, ◌⊎◌, Err, length};
 ghost use Rattle.vreplay.specs.Words.{NamesNoCall, texts_of};
 
-use crate::advice::{Advice, refuse, tell, told};
-use crate::fault::Fault;
 use crate::files::replay_files;
-use crate::image::zero_image;
-use crate::last_line::end;
-use crate::replayed::replayed;
 use crate::words::read_words;
+use calls::{Advice, Fault, end, refuse, replayed, told, zero_image};
+use replay::{ReplayFault, gather};
 use sector_cache::{BackingFile, Image};
 use std::alloc::Allocator;
 use std::io;
-use std::io::{ErrorKind, Write};
+use std::io::Write;
 use std::rt::Files;
-use trace::{ReplayFault, finish, gather};
 
-/// Does what the words after the program's name ask for, and answers the status.
-pub fn program<R: Input + Print + Eprint + Files + AllocGlobal>(rt: &R, words: &[String]) -> u8
-where
-    R::File: BackingFile,
-    ensures usage { 0 < length words.now → NamesNoCall (texts_of words.now) → (result ≡ 2) ⊎ (result ≡ 3) }
-    ensures only_usage { result ≡ 2 → NamesNoCall (texts_of words.now) }
-    ensures some_words { result ≡ 2 → 0 < length words.now }
-{
-    program_in(rt, rt.alloc(), words)
-}
+/// How a call looks.
+const CALL: &str = "vreplay alone, or vreplay TRACE IMAGE, with --save FILE or --in-place";
 
-/// The same, with the memory for all but the words from this allocator.
-pub(crate) fn program_in<A: Allocator + Copy, R: Input + Print + Eprint + Files + AllocGlobal>(
+/// Does what the words after the program's name ask for, and answers the status. The memory for all but the words comes
+/// from this allocator.
+pub fn program<A: Allocator + Copy, R: Input + Print + Eprint + Files + AllocGlobal>(
     rt: &R,
     alloc: A,
     words: &[String],
@@ -43,26 +32,6 @@ where
     let mut out = io::writer(rt);
     let outcome = carry_out(rt, alloc, words, &mut out);
     end(&outcome, &mut out)
-}
-
-/// Writes the last line for words that are no text, or for which there is no memory, and answers the status.
-pub fn refuse_words<R: Print + Eprint>(rt: &R, error: &io::Error) -> u8
-    ensures { result ≡ 3 }
-{
-    let (fault, advice) = match error.kind() {
-        ErrorKind::OutOfMemory => (ReplayFault::NoMemory, Advice::Memory("the words")),
-        _ => (ReplayFault::Read, Advice::NoText),
-    };
-    tell(rt, advice);
-    finish(&Err(fault), &mut io::writer(rt))
-}
-
-/// Writes the last line where the numbers of the standard streams can't be held, and answers the status.
-pub fn refuse_streams<R: Print + Eprint>(rt: &R, error: io::Error) -> u8
-    ensures { result ≡ 3 }
-{
-    tell(rt, Advice::Streams(error));
-    finish(&Err(ReplayFault::Read), &mut io::writer(rt))
 }
 
 // Does what the words ask for, all but the last line.
@@ -83,7 +52,7 @@ where
     }
     let call = match read_words(rt.alloc(), words) {
         Ok(call) => call,
-        Err(fault) => return refuse(rt, fault, Advice::on_words(fault, words)),
+        Err(fault) => return refuse(rt, fault, Advice::on_words(fault, CALL, words)),
     };
     replay_files(rt, alloc, &call, out)?;
     Ok(())

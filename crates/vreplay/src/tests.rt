@@ -1,6 +1,6 @@
 //! The program over streams and files of the tests' own, and a replay over real files.
 
-mod calls;
+mod calling;
 mod disk;
 mod each_growth_refused;
 mod in_place;

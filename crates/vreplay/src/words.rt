@@ -4,11 +4,11 @@ ghost use Rattle.std.specs.Prelude.{◌≡◌, ◌↔◌, None, Some, IfOk, IfEr
 ghost use Rattle.clap.specs.Words.{FailsBy, HasMatchesOf, fault_of, first_value, found_of, kind_of};
 ghost use Rattle.vreplay.specs.Words.{IsCall, RefusesBy, is_in_place, saved_to, texts_of, vreplay};
 
-use crate::fault::Fault;
+use calls::Fault;
 use clap::error::ErrorKind;
 use clap::{Arg, ArgAction, ArgMatches, Command, Error};
+use replay::ReplayFault;
 use std::alloc::Global;
-use trace::ReplayFault;
 
 /// The files that a call with words names, and what is to become of the image.
 #[derive(Clone, Copy, Debug, PartialEq, Eq)]

@@ -1,13 +1,12 @@
 //! Each request for memory refused in turn, alone and with all that come after it, where guests' bytes take memory too.
 
-use super::calls::{Call, Done, SAVING, made};
+use super::calling::{Call, Done, SAVING, made};
 use super::{numbered_image, same};
 use refusing::RefusingHeap;
 use std::process::Abort;
 use std::test::Fail;
 
-/// A guest that reads its memory and puts out a byte in an emergency: its second and its third event. The fifth asks
-/// for more room for records.
+/// A guest that reads its memory, which takes none, and puts out a byte in an emergency, which does.
 const TRACE: &[u8] = b"vreplay 1
 cache 1
 slot 80000000 1000 0 8 rw 50 19
@@ -31,19 +30,10 @@ static AMPLE: End = (
     0,
 );
 
-/// The ends where one request is refused, in their order: one of those before the second record, the bytes that are
-/// read, the byte that is put out, and the room for the fifth record.
-static ALONE: [End; 4] = [
+/// The ends where one request is refused, in their order: one of those before the first record, and the byte that is
+/// put out.
+static ENDS: [End; 2] = [
     (b"fault memory\n", 3),
-    (
-        b"0 v:00000003 - 0 0
-0 nomem - 0 0
-0 done 41 0 0
-0 v:00000002 - 0 0
-0 v:74726976 - 0 0
-",
-        0,
-    ),
     (
         b"0 v:00000003 - 0 0
 0 b:0000 - 0 0
@@ -52,47 +42,6 @@ static ALONE: [End; 4] = [
 0 v:74726976 - 0 0
 ",
         0,
-    ),
-    (
-        b"0 v:00000003 - 0 0
-0 b:0000 - 0 0
-0 done 41 0 0
-0 v:00000002 - 0 0
-fault memory
-",
-        3,
-    ),
-];
-
-/// The same where all that come after it are refused too.
-static LASTING: [End; 4] = [
-    (b"fault memory\n", 3),
-    (
-        b"0 v:00000003 - 0 0
-0 nomem - 0 0
-0 nomem - 0 0
-0 v:00000002 - 0 0
-fault memory
-",
-        3,
-    ),
-    (
-        b"0 v:00000003 - 0 0
-0 b:0000 - 0 0
-0 nomem - 0 0
-0 v:00000002 - 0 0
-fault memory
-",
-        3,
-    ),
-    (
-        b"0 v:00000003 - 0 0
-0 b:0000 - 0 0
-0 done 41 0 0
-0 v:00000002 - 0 0
-fault memory
-",
-        3,
     ),
 ];
 
@@ -141,39 +90,32 @@ fn place_of(
         same(rt, &n, &end, &Some(AMPLE));
         return Ok(None);
     }
-    let ends = if case.lasts { &LASTING } else { &ALONE };
-    Ok(Some(ends.iter().position(|it| end == Some(*it)).unwrap_or(4)))
+    Ok(Some(ENDS.iter().position(|it| end == Some(*it)).unwrap_or(2)))
 }
 
 /// How often each end is found as each request is refused in turn, until a call meets none. The ends are found in their
 /// order.
-fn times(rt: &(impl Abort + AllocGlobal), case: &Case) -> Result<[u32; 4], Fail> {
+fn times(rt: &(impl Abort + AllocGlobal), case: &Case) -> Result<[u32; 2], Fail> {
     let heap = RefusingHeap::new(rt.alloc());
-    let mut times = [0u32; 4];
+    let mut times = [0u32; 2];
     let mut place = 0;
     for n in 1..100 {
         let Some(next) = place_of(rt, &heap, case, n)? else {
             return Ok(times);
         };
         let row = (n, case.call.words, case.lasts);
-        same(rt, &row, &(place <= next && next < 4), &true);
-        place = next.min(3);
+        same(rt, &row, &(place <= next && next < 2), &true);
+        place = next.min(1);
         times[place] = times[place].saturating_add(1);
     }
     panic!(rt; "memory was never ample")
 }
 
-/// The trace's text, its slot and its events twice, the slots, a memory, the room for what is typed, the cache, the
-/// records' text and the room for the first record are asked for before the guest's bytes.
+/// More than nine requests come before the first record, and one for the byte that is put out.
 fn check_case(rt: &(impl Abort + AllocGlobal), case: &Case) -> Result<(), Fail> {
-    let [before, read, put_out, more] = times(rt, case)?;
+    let [before, put_out] = times(rt, case)?;
     let row = (case.call.words, case.lasts);
-    same(
-        rt,
-        &row,
-        &(before > 9, [read, put_out, more]),
-        &(true, [1; 3]),
-    );
+    same(rt, &row, &(before > 9, put_out), &(true, 1));
     Ok(())
 }
 

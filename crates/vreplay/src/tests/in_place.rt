@@ -1,6 +1,6 @@
 //! An image that is served in place: each call of its file failing or coming short in turn.
 
-use super::calls::{Call, SAVING, made};
+use super::calling::{Call, SAVING, made};
 use super::written::{WRITING, written_image};
 use super::{numbered_image, same};
 use std::process::Abort;

@@ -1,10 +1,10 @@
 //! Calls without words, and words that could not be read.
 
-use super::calls::{Call, SAVING, expect_end};
+use super::calling::{Call, SAVING, expect_end};
 use super::disk::Disk;
 use super::machine::Machine;
 use super::{RECORDS, TRACE, same};
-use crate::program::refuse_words;
+use calls::refuse_words;
 use std::io;
 use std::io::ErrorKind;
 use std::process::Abort;

@@ -1,6 +1,6 @@
 //! Which fault is told where two would apply.
 
-use super::calls::{Call, End, Image, SAVING, expect_end};
+use super::calling::{Call, End, Image, SAVING, expect_end};
 use super::written::WRITING;
 use super::{TRACE, UNSAVED};
 use std::process::Abort;

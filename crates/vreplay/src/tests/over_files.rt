@@ -3,10 +3,9 @@
 use super::in_place::{LAST_RECORDS, LAST_SECTOR};
 use super::written::{Left, WRITING, WRITTEN, expect_bytes};
 use super::{RECORDS, TRACE, UNSAVED, numbered_image, same, wide_image};
-use crate::fault::Fault;
 use crate::files::replay_files;
-use crate::last_line::end;
 use crate::words::{Call, Keeping};
+use calls::{Fault, end};
 use sector_cache::BackingFile;
 use std::fs;
 use std::fs::OpenOptions;

@@ -1,6 +1,6 @@
 //! Each call of the files failing in turn, and an output that fails.
 
-use super::calls::{Call, SAVING, expect_end, made};
+use super::calling::{Call, SAVING, expect_end, made};
 use super::{RECORDS, UNSAVED, numbered_image, same};
 use std::process::Abort;
 use std::test::Fail;

@@ -1,6 +1,6 @@
 //! What a person is told on standard error where a call is refused.
 
-use super::calls::{Call, End, Image, SAVING, expect_end, made};
+use super::calling::{Call, End, Image, SAVING, expect_end, made};
 use super::{TRACE, UNSAVED, same};
 use std::process::Abort;
 use std::test::Fail;

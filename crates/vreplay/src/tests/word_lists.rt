@@ -1,9 +1,9 @@
 //! Lists of words: which call each names, and which are refused.
 
-use super::calls::{Call as Run, SAVING, expect_end};
+use super::calling::{Call as Run, SAVING, expect_end};
 use super::{TRACE, same, words_of};
-use crate::fault::Fault;
 use crate::words::{Call, Keeping, read_words};
+use calls::Fault;
 use std::process::Abort;
 use std::test::Fail;
 

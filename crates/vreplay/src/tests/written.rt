@@ -1,6 +1,6 @@
 //! A guest writes a sector, and what is saved.
 
-use super::calls::{Call, SAVING, made};
+use super::calling::{Call, SAVING, made};
 use super::{numbered_image, same, wide_image};
 use std::alloc::{AllocError, Global};
 use std::process::Abort;

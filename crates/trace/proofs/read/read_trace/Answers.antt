@@ -1,10 +1,77 @@
-use Rattle.std.proofs.lemmas.Result.{IfErr-weaker}
+use Rattle.std.proofs.Common.{length, sym, ap, subst, ◌∙◌, arith}
+use Rattle.std.proofs.lemmas.Bool.{eqb-false, eqb-true, ltb-false, ltb-true}
+use Rattle.trace.specs.declared.fault.FaultKind.TheVariants as kind
 use Rattle.trace.specs.Text.{content}
-use Rattle.trace.proofs.Unique.{no_fault, only_told}
+use Rattle.trace.specs.Refusals.{has_begun}
+use Rattle.trace.proofs.Heads.{head_clean, head_fault, second_fault}
+use Rattle.trace.proofs.Sofar.{Sofar, all_read, begun_so, clean, entry_read, is_cut, is_refused, numbered}
+use Rattle.trace.proofs.Unique.{no_fault, one_trace}
 use Rattle.trace.proofs.read.read_trace.Goals as goal
 
-pub returns-clause-only : goal.returns-clause-only
-returns-clause-only g c = only_told c.read.result content c.args.text.now c.read.ensures.found c.read.ensures.printable c.read.ensures.range
+pub returns-in-Err-clause-fault : goal.returns-in-Err-clause-fault
+returns-in-Err-clause-fault g c known = head_fault c.args.text.now c.in-Err.kind c.in-Err.ensures.err
 
-pub returns-clause-none : goal.returns-clause-none
-returns-clause-none g c = IfErr-weaker c.read.result _ _ (λ e fault known u range printable is. no_fault c.args.text.now u e.line e.kind (record { range = range; printable = printable }) is (fault known)) c.read.ensures.fault
+pub returns-in-Err-clause-none : goal.returns-in-Err-clause-none
+returns-in-Err-clause-none g c known u range printable is =
+    no_fault c.args.text.now u 1 c.in-Err.kind (record { range = range; printable = printable }) is (returns-in-Err-clause-fault g c known)
+
+pub returns-in-Err-cache_of-clause-fault : goal.returns-in-Err-cache_of-clause-fault
+returns-in-Err-cache_of-clause-fault g c known = second_fault c.in-Ok.found.0 c.args.text.now c.in-Ok.found.1.now c.in-Ok.ensures.ok.one_of c.in-Ok.ensures.ok.ended c.in-Err-cache_of.kind c.in-Err-cache_of.ensures.err known
+
+pub returns-in-Err-cache_of-clause-none : goal.returns-in-Err-cache_of-clause-none
+returns-in-Err-cache_of-clause-none g c known u range printable is =
+    no_fault c.args.text.now u 2 c.in-Err-cache_of.kind (record { range = range; printable = printable }) is (returns-in-Err-cache_of-clause-fault g c known)
+
+pub returns-in-Err-cache_of-clause-clean : goal.returns-in-Err-cache_of-clause-clean
+returns-in-Err-cache_of-clause-clean g c = head_clean c.in-Ok.found.0 c.args.text.now c.in-Ok.found.1.now c.in-Ok.ensures.ok.one_of c.in-Ok.ensures.ok.ended
+
+pub loop-rest-init : goal.loop-rest-init
+loop-rest-init g c =
+    let second = c.in-Ok-cache_of.ensures.ok in
+    subst (λ x. Sofar c.args.text.now x 3 c.in-Ok-cache_of.found.1.now) (sym c.new-trace.ensures)
+    (begun_so c.args.text.now c.in-Ok.found.0 c.in-Ok-cache_of.found.0 c.in-Ok.found.1.now second.line c.in-Ok-cache_of.found.1.now c.in-Ok.ensures.ok.one_of c.in-Ok.ensures.ok.ended second.ended second.fields second.fits)
+
+pub returns-in_default-clause-fault : goal.returns-in_default-clause-fault
+returns-in_default-clause-fault g c known =
+    is_cut c.args.text.now (content c.loop-rest.trace) c.loop-rest.line c.loop-rest.rest.now c.loop-rest.invariant c.in_default.ensures.none
+    (λ e. eqb-false (length c.loop-rest.rest.now) 0 (sym c.loop-rest-test.ensures) (ap length e))
+
+pub returns-in_default-clause-none : goal.returns-in_default-clause-none
+returns-in_default-clause-none g c known u range printable is =
+    no_fault c.args.text.now u c.loop-rest.line kind.Cut (record { range = range; printable = printable }) is (returns-in_default-clause-fault g c known)
+
+pub returns-in_default-clause-numbered : goal.returns-in_default-clause-numbered
+returns-in_default-clause-numbered g c = let n = c.loop-rest.invariant.count in omega arith
+
+pub returns-in_default-clause-clean : goal.returns-in_default-clause-clean
+returns-in_default-clause-clean g c = clean c.args.text.now (content c.loop-rest.trace) c.loop-rest.line c.loop-rest.rest.now c.loop-rest.invariant
+
+pub returns-in-Err-add_line-clause-fault : goal.returns-in-Err-add_line-clause-fault
+returns-in-Err-add_line-clause-fault g c known =
+    is_refused c.args.text.now (content c.loop-rest.trace) c.loop-rest.line c.loop-rest.rest.now c.loop-rest.invariant (has_begun (content c.loop-rest.trace)) c.in-Some.this.now c.in-Some.after.now c.in-Err-add_line.kind c.in-Some.ensures.lines
+    (ltb-true 0 (length c.loop-rest.trace.events.items)) (λ e. let none = ltb-false 0 (length c.loop-rest.trace.events.items) e in omega arith) (c.in-Err-add_line.ensures.err known) known
+
+pub returns-in-Err-add_line-clause-none : goal.returns-in-Err-add_line-clause-none
+returns-in-Err-add_line-clause-none g c known u range printable is =
+    no_fault c.args.text.now u c.loop-rest.line c.in-Err-add_line.kind (record { range = range; printable = printable }) is (returns-in-Err-add_line-clause-fault g c known)
+
+pub returns-in-Err-add_line-clause-numbered : goal.returns-in-Err-add_line-clause-numbered
+returns-in-Err-add_line-clause-numbered g c = let n = c.loop-rest.invariant.count in omega arith
+
+pub returns-in-Err-add_line-clause-clean : goal.returns-in-Err-add_line-clause-clean
+returns-in-Err-add_line-clause-clean g c = clean c.args.text.now (content c.loop-rest.trace) c.loop-rest.line c.loop-rest.rest.now c.loop-rest.invariant
+
+pub overflow_add-line : goal.overflow_add-line
+overflow_add-line g c = let n = numbered c.args.text.now (content c.loop-rest.trace) c.loop-rest.line c.loop-rest.rest.now c.loop-rest.invariant in omega arith
+
+pub loop-rest-preserved : goal.loop-rest-preserved
+loop-rest-preserved g c =
+    entry_read c.args.text.now (content c.loop-rest.trace) (content c.add_line.new.trace) c.loop-rest.line c.loop-rest.rest.now c.in-Some.this.now c.in-Some.after.now c.loop-rest.invariant c.in-Some.ensures.ended c.in_default-add_line.ensures.ok
+
+pub returns-clause-found : goal.returns-clause-found
+returns-clause-found g c =
+    all_read c.args.text.now (content c.loop-rest.trace) c.loop-rest.line c.loop-rest.rest.now c.loop-rest.invariant (eqb-true (length c.loop-rest.rest.now) 0 (sym c.loop-rest-test.ensures))
+
+pub returns-clause-only : goal.returns-clause-only
+returns-clause-only g c u range printable is =
+    one_trace u (content c.loop-rest.trace) (record { range = range; printable = printable }) c.loop-rest.invariant.fits (sym is ∙ returns-clause-found g c)

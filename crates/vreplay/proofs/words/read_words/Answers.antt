@@ -1,6 +1,6 @@
 use Rattle.std.proofs.Common.{◌≡◌, ◌∙◌, None, Err, IfErr, inl, inr, codes, rules, subst, sym, IsSome}
 use Rattle.vreplay.specs.Words.{RefusesBy, texts_of, value_of}
-use Rattle.vreplay.specs.declared.fault.Fault.TheVariants.{Usage}
+use Rattle.calls.specs.declared.fault.Fault.TheVariants.{Usage}
 use Rattle.vreplay.proofs.Reading.{asked, given, in_place_apart}
 use Rattle.vreplay.proofs.words.read_words.Goals as goal
 

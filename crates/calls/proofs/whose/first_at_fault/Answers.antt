@@ -1,0 +1,14 @@
+use Rattle.std.proofs.Common.{Some, ap, refl}
+use Rattle.calls.proofs.WhoseLemmas.{is_further, is_here, not_past}
+use Rattle.calls.proofs.whose.first_at_fault.Goals as goal
+
+pub returns-then-has_fault : goal.returns-then-has_fault
+returns-then-has_fault c = λ refused.
+    ap Some (is_here c.args.sectors c.args.slots.now c.args.fault c.loop-number.number _ refused c.loop-number-test.true (c.loop-number.invariant refused) (c.if-has_fault.ensures.bad refl))
+
+pub loop-number-preserved : goal.loop-number-preserved
+loop-number-preserved c = λ refused.
+    is_further c.args.sectors c.args.slots.now c.args.fault c.loop-number.number _ refused c.loop-number-test.true (c.loop-number.invariant refused) c.if-has_fault.ensures.found
+
+pub returns : goal.returns
+returns c = λ refused. absurd (not_past c.args.sectors c.args.slots.now c.args.fault c.loop-number.number refused c.loop-number-test.false (c.loop-number.invariant refused))

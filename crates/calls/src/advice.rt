@@ -1,0 +1,331 @@
+//! What a person is told on standard error where a call doesn't come to its end: what was wanted and what was found.
+
+ghost use Rattle.std.specs.Prelude.{◌≡◌, Err};
+
+use crate::fault::Fault;
+use crate::lines::{Spelling, example_of, spelling_of};
+use crate::whose::{slot_at_fault, slot_of};
+use board::BoardFault;
+use guest_memory::MemoryFault;
+use replay::ReplayFault;
+use sector_cache::{BackingFile, CacheFault, FileCall, FileFailure, FileImage};
+use std::alloc::Allocator;
+use std::fmt::{Display, Formatter};
+use std::{fmt, io};
+use trace::{
+    FaultKind, TraceFault, VERSION_1, VERSION_2, field_at_fault, fields_after, first_word, line_of,
+    version_of,
+};
+
+/// One line for a person.
+#[derive(Clone, Copy)]
+pub enum Advice<'a> {
+    /// Words that name no call, and how one looks.
+    Words(&'static str, &'a [String]),
+    /// A word that isn't text.
+    NoText,
+    /// A file that can't be opened.
+    Unopened(&'a str, io::Error),
+    /// Something that can't be read to its end.
+    Unread(&'a str),
+    /// A file of which the length is none of an image.
+    Ragged(&'a str),
+    /// What can't be served in place, since it is neither a file nor a block device, and what somebody else holds a
+    /// lock on.
+    NoFile(&'a str),
+    Locked(&'a str),
+    /// A file that can't be saved to, because it can't be made, or written whole.
+    Unmade(&'a str, io::Error),
+    Unsaved(&'a str),
+    /// Standard output that can't be written.
+    Output,
+    /// A line of a trace that is refused, its text, and the trace's version.
+    Line(TraceFault, &'a [u8], u8),
+    /// A board that is refused, and the slot at which.
+    Board(BoardFault, Option<usize>),
+    /// A trace of version 1 with more slots than that has.
+    ManySlots,
+    /// How many calls of an image that was served in place failed, the first, and whose sector that was.
+    Failed(&'a str, u64, FileFailure, Option<usize>),
+    /// The numbers of the standard streams can't be held.
+    Streams(io::Error),
+    /// Want of memory, and what it was wanted for.
+    Memory(&'static str),
+}
+
+/// Tells a person. Nothing depends on whether standard error can be written.
+pub fn tell<R: Eprint>(rt: &R, advice: Advice<'_>) {
+    let _ = rt.eprintln(advice);
+}
+
+/// Tells a person, and answers the fault.
+pub fn refuse<T, F, R: Eprint>(rt: &R, fault: F, advice: Advice<'_>) -> Result<T, F>
+    ensures { result ≡ Err fault }
+{
+    tell(rt, advice);
+    Err(fault)
+}
+
+/// Tells a person why this text's replay over so many sectors did not come to its end, where it didn't.
+pub fn told<T, A: Allocator + Copy, R: Eprint>(
+    rt: &R,
+    alloc: A,
+    text: &[u8],
+    sectors: u64,
+    outcome: Result<T, ReplayFault>,
+) -> Result<T, ReplayFault>
+    ensures { result ≡ outcome }
+{
+    if let Err(fault) = &outcome {
+        tell(
+            rt,
+            Advice::on_replay(*fault, text).at_slot(alloc, text, sectors),
+        );
+    }
+    outcome
+}
+
+/// Tells a person how many calls of an image that was served in place have failed, where any has.
+pub fn tell_failures<A: Allocator + Copy, R: Eprint, F: BackingFile>(
+    rt: &R,
+    alloc: A,
+    text: &[u8],
+    path: &str,
+    image: &FileImage<F>,
+) {
+    if let Some(first) = image.first_failure() {
+        let slot = match first.sector {
+            Some(sector) => slot_of(alloc, text, sector),
+            None => None,
+        };
+        tell(rt, Advice::Failed(path, image.failures(), first, slot));
+    }
+}
+
+impl<'a> Advice<'a> {
+    /// On a replay of this text.
+    pub fn on_replay(fault: ReplayFault, text: &'a [u8]) -> Advice<'a> {
+        match fault {
+            ReplayFault::Read => Advice::Unread("the trace"),
+            ReplayFault::Trace(fault) => match fault.kind {
+                FaultKind::NoMemory => Advice::Memory("the trace"),
+                _ => Advice::Line(fault, line_of(text, fault.line), version_in(text)),
+            },
+            ReplayFault::Board(
+                BoardFault::NoMemory
+                | BoardFault::Memory(MemoryFault::NoMemory)
+                | BoardFault::Cache(CacheFault::NoMemory),
+            ) => Advice::Memory("the board"),
+            ReplayFault::Board(BoardFault::TooManySlots) if version_in(text) == VERSION_1 => {
+                Advice::ManySlots
+            }
+            ReplayFault::Board(fault) => Advice::Board(fault, None),
+            ReplayFault::Run(_) | ReplayFault::NoMemory => Advice::Memory("the records"),
+            ReplayFault::Write => Advice::Output,
+        }
+    }
+
+    // The same, with the slot at which a board is refused over an image of so many sectors.
+    fn at_slot<A: Allocator + Copy>(self, alloc: A, text: &[u8], sectors: u64) -> Advice<'a> {
+        match self {
+            Advice::Board(fault, _) => {
+                Advice::Board(fault, slot_at_fault(alloc, text, sectors, fault))
+            }
+            other => other,
+        }
+    }
+
+    /// On words for which there is no call.
+    pub fn on_words(fault: Fault, call: &'static str, words: &'a [String]) -> Advice<'a> {
+        match fault {
+            Fault::Usage => Advice::Words(call, words),
+            Fault::Replay(_) => Advice::Memory("the words"),
+        }
+    }
+
+    /// On bytes that were to be read, of which there is a name for people.
+    pub fn on_reading(fault: ReplayFault, name: &'a str) -> Advice<'a> {
+        match fault {
+            ReplayFault::NoMemory => Advice::Memory("the trace"),
+            _ => Advice::Unread(name),
+        }
+    }
+}
+
+impl Display for Advice<'_> {
+    fn fmt<W: fmt::Write>(&self, f: &mut Formatter<W>) -> fmt::Result {
+        match self {
+            Advice::Words(call, words) => write_words(f, call, words),
+            Advice::NoText => write!(f, "a word is text in UTF-8; found one that isn't"),
+            Advice::Unopened(name, error) => write!(f, "{name:?} can't be opened: {error}"),
+            Advice::Unread(name) => write!(f, "{name:?} can't be read"),
+            Advice::Ragged(name) => write!(
+                f,
+                "{name:?} is no image, which is whole sectors of 512 bytes each"
+            ),
+            Advice::NoFile(name) => write!(
+                f,
+                "{name:?} is neither a file nor a block device, so it can't be served in place"
+            ),
+            Advice::Locked(name) => write!(f, "{name:?} is locked: somebody else uses it"),
+            Advice::Unmade(name, error) => write!(f, "{name:?} can't be made: {error}"),
+            Advice::Unsaved(name) => write!(f, "{name:?} can't be written whole"),
+            Advice::Output => write!(f, "standard output can't be written"),
+            Advice::Line(fault, line, version) => write_line(f, *fault, line, *version),
+            Advice::Board(fault, slot) => write_board(f, *fault, *slot),
+            Advice::ManySlots => write!(
+                f,
+                "the trace's board: in version 1 it has sixteen slots at most, in version 2 sixty-four"
+            ),
+            Advice::Failed(name, count, first, slot) => {
+                write!(f, "{name:?}: {count} failed of its calls, first ")?;
+                write_failure(f, *first, *slot)
+            }
+            Advice::Streams(error) => write!(f, "the standard streams can't be held: {error}"),
+            Advice::Memory(what) => write!(f, "no memory for {what}"),
+        }
+    }
+}
+
+// Why a board is refused, and the slot at which, with the line where that stands.
+fn write_board<W: fmt::Write>(
+    f: &mut Formatter<W>,
+    fault: BoardFault,
+    slot: Option<usize>,
+) -> fmt::Result {
+    match slot {
+        Some(number) => {
+            let line = number.saturating_add(3);
+            write!(f, "slot {number} (line {line}): {fault}")
+        }
+        None => write!(f, "the trace's board: {fault}"),
+    }
+}
+
+// Which call of a file failed, whose sector it was, and the system's error.
+fn write_failure<W: fmt::Write>(
+    f: &mut Formatter<W>,
+    first: FileFailure,
+    slot: Option<usize>,
+) -> fmt::Result {
+    let call = match first.call {
+        FileCall::Read => "a read",
+        FileCall::Write => "a write",
+        FileCall::Sync => "a sync after a write",
+    };
+    let error = first.error;
+    match (first.sector, slot) {
+        (Some(sector), Some(number)) => {
+            write!(f, "{call} of sector {sector} (slot {number}): {error}")
+        }
+        (Some(sector), None) => write!(f, "{call} of sector {sector}: {error}"),
+        (None, _) => write!(f, "a sync: {error}"),
+    }
+}
+
+/// How many words are shown.
+const SHOWN_WORDS: usize = 8;
+
+// The version that a text's first line names, and the second where it names none.
+fn version_in(text: &[u8]) -> u8 {
+    match version_of(line_of(text, 1)) {
+        Some(version) => version,
+        None => VERSION_2,
+    }
+}
+
+// How a call looks, and the words that were found.
+fn write_words<W: fmt::Write>(f: &mut Formatter<W>, call: &str, words: &[String]) -> fmt::Result {
+    write!(f, "a call is {call}; found")?;
+    for word in words.iter().take(SHOWN_WORDS) {
+        let shown = Shown(word.as_bytes());
+        write!(f, " {shown}")?;
+    }
+    Ok(())
+}
+
+// Why a line of a trace is refused.
+fn write_line<W: fmt::Write>(
+    f: &mut Formatter<W>,
+    fault: TraceFault,
+    line: &[u8],
+    version: u8,
+) -> fmt::Result {
+    let number = fault.line;
+    write!(f, "line {number}: ")?;
+    let wanted = match fault.kind {
+        FaultKind::Cut => "each line ends with a line feed, and the first two are there",
+        FaultKind::Header => "the first line is \"vreplay 1\" or \"vreplay 2\"",
+        FaultKind::Word if number == 2 => "the second line is the cache's, as \"cache 8\"",
+        FaultKind::Word => "a line begins with slot, r, w, mr, mw, in or sz",
+        FaultKind::Order => "slots stand before all events",
+        FaultKind::Fields => return write_fields(f, line, version),
+        kind => return write_field(f, kind, line, version),
+    };
+    let shown = Shown(line);
+    write!(f, "{wanted}; found {shown}")
+}
+
+// How many fields a line has, and how it was found.
+fn write_fields<W: fmt::Write>(f: &mut Formatter<W>, line: &[u8], version: u8) -> fmt::Result {
+    let shown = Shown(line);
+    let Some(word) = first_word(line) else {
+        return write!(f, "found {shown}");
+    };
+    let count = fields_after(version, word).len();
+    let (word, example) = example_of(version, word);
+    write!(
+        f,
+        "{word} has {count} fields after it, each after one space, as \"{word} {example}\"; found {shown}"
+    )
+}
+
+// How the field is spelled that is at fault, and how it was found.
+fn write_field<W: fmt::Write>(
+    f: &mut Formatter<W>,
+    kind: FaultKind,
+    line: &[u8],
+    version: u8,
+) -> fmt::Result {
+    let Some((field, bytes)) = field_at_fault(version, line, kind) else {
+        return write!(f, "{kind}");
+    };
+    let spelling = spelling_of(field);
+    let shown = Shown(bytes);
+    write!(f, "{spelling}; found {shown}")
+}
+
+impl Display for Spelling {
+    fn fmt<W: fmt::Write>(&self, f: &mut Formatter<W>) -> fmt::Result {
+        match self {
+            Spelling::Number(name, bits) => write!(
+                f,
+                "{name} is lower case hexadecimal digits without zeros in front, of {bits} bits at most, as 1f"
+            ),
+            Spelling::Other(how) => write!(f, "{how}"),
+        }
+    }
+}
+
+/// How many bytes of what was found are shown.
+const SHOWN_BYTES: usize = 40;
+
+/// Bytes in quotes, at most so many of them, those that aren't printable in hexadecimal.
+#[derive(Clone, Copy)]
+struct Shown<'a>(&'a [u8]);
+
+impl Display for Shown<'_> {
+    fn fmt<W: fmt::Write>(&self, f: &mut Formatter<W>) -> fmt::Result {
+        write!(f, "\"")?;
+        for byte in self.0.iter().take(SHOWN_BYTES) {
+            let byte = *byte;
+            match byte {
+                b'"' | b'\\' => write!(f, "\\{}", char::from(byte))?,
+                b' '..=b'~' => write!(f, "{}", char::from(byte))?,
+                _ => write!(f, "\\x{byte:02x}")?,
+            }
+        }
+        let cut = if self.0.len() > SHOWN_BYTES { ".." } else { "" };
+        write!(f, "\"{cut}")
+    }
+}

@@ -1,0 +1,60 @@
+//! How the lines of a trace and their fields are spelled, for people.
+
+use trace::{Field, VERSION_1, Word};
+
+/// A word, and fields after it as they look in a version.
+pub fn example_of(version: u8, word: Word) -> (&'static str, &'static str) {
+    match word {
+        Word::Cache => ("cache", "8"),
+        Word::Slot if version == VERSION_1 => ("slot", "80000000 1000 0 8 rw 50 19"),
+        Word::Slot => (
+            "slot",
+            "80000000 1000 0 8 rw 50 19 6469736b2d300000000000000000000000000000",
+        ),
+        Word::Read => ("r", "0 b 070 4"),
+        Word::Write => ("w", "0 b 070 4 0000000f"),
+        Word::MemRead => ("mr", "0 80000ffe 2"),
+        Word::MemWrite => ("mw", "0 80000ffe 4142"),
+        Word::Input => ("in", "0 6c730a"),
+        Word::Resize => ("sz", "0 50 19"),
+    }
+}
+
+/// How a field is spelled.
+#[derive(Clone, Copy)]
+pub enum Spelling {
+    /// A number by its name, of so many bits.
+    Number(&'static str, u8),
+    Other(&'static str),
+}
+
+use Spelling::{Number, Other};
+
+/// How this field is spelled.
+pub fn spelling_of(field: Field) -> Spelling {
+    match field {
+        Field::Sectors => Number("a number of sectors", 32),
+        Field::Base => Number("a memory's base", 64),
+        Field::Size => Number("a memory's length", 64),
+        Field::Start => Number("an extent's first sector", 64),
+        Field::Count => Number("an extent's number of sectors", 64),
+        Field::Columns => Number("a number of columns", 16),
+        Field::Rows => Number("a number of rows", 16),
+        Field::Slot => Number("a slot", 8),
+        Field::Address => Number("an address", 64),
+        Field::Length => Number("a length", 32),
+        Field::Offset => Other("a register offset is three lower case hexadecimal digits, as 070"),
+        Field::Value => Other(
+            "a value is two lower case hexadecimal digits for each byte of its width, as 0000000f of width 4",
+        ),
+        Field::Window => Other("a window is b or c"),
+        Field::Width => Other("a width is 1, 2 or 4"),
+        Field::Mode => Other("a slot is rw or ro"),
+        Field::Bytes => {
+            Other("bytes are two lower case hexadecimal digits each, as 4142, or - for none")
+        }
+        Field::Identity => Other(
+            "an identity is 20 bytes by two lower case hexadecimal digits each, so 40 digits",
+        ),
+    }
+}

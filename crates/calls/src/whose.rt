@@ -1,0 +1,104 @@
+//! Which slot of a trace is meant, for people.
+
+ghost use Rattle.std.specs.Prelude.{◌≡◌, Some, IfSome, IsTrue, All, Any};
+ghost use Rattle.std.specs.Bool.{OnFalse, OnTrue};
+ghost use Rattle.std.specs.List.{position};
+ghost use Rattle.board.specs.Extent.{IsApart, Overlaps, has_sector};
+ghost use Rattle.board.specs.Fault.{HasFirstFault, IsFaultOf, IsGoodSlot};
+ghost use Rattle.trace.specs.Reading.{IsTraceOf};
+ghost use Rattle.trace.specs.Text.{Content};
+
+use board::{BoardFault, Extent, SlotSpec};
+use guest_memory::fault_of;
+use std::alloc::Allocator;
+use trace::read_trace;
+
+/// The slot at which the board of this text is refused over an image of so many sectors.
+pub fn slot_at_fault<A: Allocator + Copy>(
+    alloc: A,
+    text: &[u8],
+    sectors: u64,
+    fault: BoardFault,
+) -> Option<usize>
+    ensures { IfSome result (λ number. (trace : Content A) → IsTraceOf text.now trace →
+        (refused : HasFirstFault sectors trace.slots fault) → number ≡ refused.at_slot) }
+{
+    let Ok(trace) = read_trace(alloc, text) else {
+        return None;
+    };
+    first_at_fault(&trace.slots, sectors, fault)
+}
+
+/// The slot whose extent has this sector.
+pub fn slot_of<A: Allocator + Copy>(alloc: A, text: &[u8], sector: u64) -> Option<usize>
+    ensures { IfSome result (λ number. (trace : Content A) → IsTraceOf text.now trace →
+        position (λ slot. has_sector slot.extent sector) trace.slots ≡ Some number) }
+{
+    let Ok(trace) = read_trace(alloc, text) else {
+        return None;
+    };
+    first_with(&trace.slots, sector)
+}
+
+// The slot at which slots are refused that are refused with this fault.
+fn first_at_fault(slots: &[SlotSpec], sectors: u64, fault: BoardFault) -> Option<usize>
+    ensures { (refused : HasFirstFault sectors slots.now fault) → result ≡ Some refused.at_slot }
+{
+    for (number, slot) in slots.iter().enumerate() {
+        if has_fault(slot, &slots[..number], sectors, fault) {
+            return Some(number);
+        }
+    }
+    None
+}
+
+// Whether a slot has this fault, which no good slot has.
+fn has_fault(slot: &SlotSpec, earlier: &[SlotSpec], sectors: u64, fault: BoardFault) -> bool
+    ensures found { IsFaultOf sectors earlier.now slot.now fault → IsTrue result }
+    ensures bad { IsTrue result → IsGoodSlot sectors earlier.now slot.now → ⊥ }
+{
+    match fault {
+        BoardFault::Memory(memory) => fault_of(slot.base, slot.len) == Some(memory),
+        BoardFault::ExtentOutside => {
+            slot.extent.start > sectors || slot.extent.count > sectors - slot.extent.start
+        }
+        BoardFault::ExtentsOverlap => is_shared(slot.extent, earlier),
+        _ => false,
+    }
+}
+
+// Whether an extent has a sector of one of these slots.
+fn is_shared(extent: Extent, slots: &[SlotSpec]) -> bool
+    ensures shared { OnTrue result (Any (λ other. Overlaps other.extent extent) slots.now) }
+    ensures apart { OnFalse result (All (λ other. IsApart other.extent extent) slots.now) }
+{
+    for other in slots {
+        if overlap(other.extent, extent) {
+            return true;
+        }
+    }
+    false
+}
+
+// Whether two extents have a sector in common: the later one's first sector, where any.
+fn overlap(one: Extent, other: Extent) -> bool
+    ensures shared { OnTrue result (Overlaps one other) }
+    ensures apart { OnFalse result (IsApart one other) }
+{
+    let first = one.start.max(other.start);
+    first - one.start < one.count && first - other.start < other.count
+}
+
+// The first slot whose extent has this sector.
+fn first_with(slots: &[SlotSpec], sector: u64) -> Option<usize>
+    ensures { result ≡ position (λ slot. has_sector slot.extent sector) slots.now }
+{
+    slots.iter().position(|slot| has(slot.extent, sector))
+}
+
+// Whether the sector is one of the extent's.
+fn has(extent: Extent, sector: u64) -> bool
+    ensures { result ≡ has_sector extent sector }
+{
+    extent.start <= sector && sector - extent.start < extent.count
+}

@@ -1,0 +1,186 @@
+-- The lines of events, taken one after another.
+use Rattle.std.proofs.Common.{◌≡◌, ◌≢◌, ℕ, suc, ◌≤◌, true, List, [], ◌∷◌, ◌++◌, All, Option, length, get_or, drop, map, refl, sym, ap, subst, ◌∙◌, append_assoc, append-nil, arith, inr}
+use Rattle.std.proofs.lemmas.List.{append_cancel_left, length-append}
+use Rattle.std.proofs.lemmas.List.Elements.{All-cons, All-nil}
+use Rattle.sector_cache.specs.Disk.{Disk}
+use Rattle.board.specs.declared.event.Event.{Event}
+use Rattle.board.specs.World.{BoardState}
+use Rattle.trace.specs.declared.fault.FaultKind.{FaultKind}
+use Rattle.trace.specs.declared.fault.FaultKind.TheVariants as kind
+use Rattle.trace.specs.declared.read.said.Said.{Said}
+use Rattle.trace.specs.Cuts.{fields_of, lines_of}
+use Rattle.trace.specs.Judging.{AreEventLines, AreLinesOf, HaveRoom, bytes_len, said_len}
+use Rattle.replay.specs.Pieces.{SendsRun}
+use Rattle.trace.specs.Printable.{IsPrintableSlot, SlotInRange}
+use Rattle.trace.specs.Refusals.{IsFine, RefusesLine}
+use Rattle.trace.specs.Events.{BeginsWithEvent, TakesEvent}
+use Rattle.replay.specs.Running.{RunsSaid}
+use Rattle.trace.specs.Said.{said_fields}
+use Rattle.trace.specs.Text.{Content, ended, event_fields, event_line, front_text, joined, text, trace_lines}
+use Rattle.trace.proofs.Entries.{cut_event, entered_event}
+use Rattle.replay.proofs.Pieces.{sends_no_run, sends_run_of, sends_runs}
+use Rattle.trace.proofs.Printed.{joined_append, text_is}
+use Rattle.trace.proofs.Saying.{meant}
+use Rattle.trace.proofs.Signs.{Above, lines_of-joined}
+use Rattle.trace.proofs.Sofar.{Fits, Sofar, is_refused, push_event}
+use Rattle.trace.proofs.Unique.{no_fault, one_trace, same_event_fields}
+
+-- ---- a trace of these events alone
+
+abbrev alone : {A : Type 0} → List (Event A) → Content A
+alone events = record { version = 2; cache = 0; slots = []; events = events }
+
+alone_fits : {A : Type 0} (events : List (Event A)) → All IsFine events → Fits (alone events)
+alone_fits events fine = record {
+  range = record { cache = omega arith; slots = All-nil SlotInRange; events = λ k d lt. (fine k d lt).fits };
+  printable = record { version = inr refl; slots = All-nil (IsPrintableSlot 2); events = λ k d lt. (fine k d lt).printable };
+}
+
+-- lines are those of one list of events
+pub one_text : {A : Type 0} (ds es : List (Event A)) (lines : List ℕ) → AreLinesOf ds lines → AreLinesOf es lines → ds ≡ es
+one_text ds es lines hd he =
+    let same = ap (λ (x : List ℕ). (front_text 2 0 ++ joined []) ++ x) (sym hd.spelled ∙ he.spelled) in
+    ap (λ c. c.events) (one_trace (alone ds) (alone es) (alone_fits ds hd.fine) (alone_fits es he.fine) (sym (text_is (alone ds)) ∙ same ∙ text_is (alone es)))
+
+-- ---- the line of an event
+
+above : {A : Type 0} (e : Event A) → IsFine e → Above 10 (event_line e)
+above e fine = (entered_event 2 e fine).entry.unbroken
+
+-- lines cut after the first
+first_cut : (l : List ℕ) (ls : List (List ℕ)) → Above 10 l → lines_of (joined (l ∷ ls)) ≡ l ∷ lines_of (joined ls)
+first_cut l ls h = ap lines_of (joined_append (l ∷ []) ls) ∙ lines_of-joined (l ∷ []) (joined ls) (h, tt)
+
+-- it is refused in no way: it would be a fault of a text of two such lines
+refused_not : {A : Type 0} (e : Event A) (fault : FaultKind) → IsFine e → fault ≢ kind.NoMemory → RefusesLine 2 true (event_line e) fault → ⊥
+refused_not {A} e fault fine known h =
+    let one : Content A = alone (e ∷ []) in
+    let two : Content A = alone (e ∷ e ∷ []) in
+    let all : All IsFine (e ∷ e ∷ []) = All-cons IsFine e (e ∷ []) fine (All-cons IsFine e [] fine (All-nil IsFine)) in
+    let rest : List ℕ = joined (event_line e ∷ []) in
+    let so : Sofar (text two) one 4 rest = record {
+      spelled = ap joined (push_event one e) ∙ joined_append (trace_lines one) (event_line e ∷ []);
+      fits = alone_fits (e ∷ []) (All-cons IsFine e [] fine (All-nil IsFine));
+      count = refl;
+    } in
+    no_fault (text two) two 4 fault (alone_fits (e ∷ e ∷ []) all) refl
+    (is_refused (text two) one 4 rest so true (event_line e) (joined []) fault (first_cut (event_line e) [] (above e fine)) (λ _. omega arith) (λ no'. absurd cc) h known)
+
+never_refused : {A : Type 0} (e : Event A) → IsFine e → (fault : FaultKind) → RefusesLine 2 true (event_line e) fault → ⊥
+never_refused e fine kind.Cut h = refused_not e kind.Cut fine (λ is. cc) h
+never_refused e fine kind.Header h = refused_not e kind.Header fine (λ is. cc) h
+never_refused e fine kind.Word h = refused_not e kind.Word fine (λ is. cc) h
+never_refused e fine kind.Order h = refused_not e kind.Order fine (λ is. cc) h
+never_refused e fine kind.Fields h = refused_not e kind.Fields fine (λ is. cc) h
+never_refused e fine kind.Number h = refused_not e kind.Number fine (λ is. cc) h
+never_refused e fine kind.Choice h = refused_not e kind.Choice fine (λ is. cc) h
+never_refused e fine kind.Bytes h = refused_not e kind.Bytes fine (λ is. cc) h
+never_refused e fine kind.NoMemory h = h.refused
+
+-- ---- the next line
+
+begins_at : {A : Type 0} (left : List (Event A)) (rest : List ℕ) → AreLinesOf left rest → length rest ≢ 0 → BeginsWithEvent rest
+unfolding joined
+begins_at [] rest more some = absurd (some (ap length more.spelled))
+begins_at (e ∷ left) rest more some =
+    let fine = more.fine 0 e (omega arith) in
+    record {
+      line = event_line e;
+      after = joined (map event_line left);
+      cut = ap lines_of more.spelled ∙ first_cut (event_line e) (map event_line left) (above e fine);
+      never = never_refused e fine;
+    }
+
+-- what was taken off is the first of the events, and the others are left
+record IsNext {A : Type 0} (e : Event A) (left : List (Event A)) (said : Said) (after : List ℕ) : Type 0 where
+  fields : event_fields e ≡ said_fields said
+  fine : IsFine e
+  more : AreLinesOf left after
+
+next_is : {A : Type 0} (e : Event A) (left : List (Event A)) (rest : List ℕ) (said : Said) (after : List ℕ) → AreLinesOf (e ∷ left) rest → TakesEvent rest said after → IsNext e left said after
+unfolding joined
+next_is e left rest said after more takes =
+    let fine = more.fine 0 e (omega arith) in
+    let cut = ap lines_of more.spelled ∙ first_cut (event_line e) (map event_line left) (above e fine) in
+    let same : takes.line ≡ event_line e = ap (λ (ls : List (List ℕ)). get_or ls 0 []) (sym takes.lines ∙ cut) in
+    let whole : event_line e ++ 10 ∷ after ≡ event_line e ++ 10 ∷ joined (map event_line left) =
+    ap (λ (l : List ℕ). l ++ 10 ∷ after) (sym same) ∙ sym takes.ended ∙ more.spelled ∙ append_assoc (event_line e) (10 ∷ []) (joined (map event_line left)) in
+    record {
+      fields = sym (cut_event e fine.fits) ∙ ap fields_of (sym same) ∙ takes.fields;
+      fine = fine;
+      more = record { fine = λ k d lt. more.fine (suc k) d (omega arith); spelled = ap (drop 1) (append_cancel_left (event_line e) (10 ∷ after) (10 ∷ joined (map event_line left)) whole) };
+    }
+
+none_taken : (rest : List ℕ) (said : Said) (after : List ℕ) → TakesEvent rest said after → rest ≡ [] → ⊥
+none_taken rest said after takes none = omega (arith, ap length (sym none ∙ takes.ended), length-append takes.line (10 ∷ after))
+
+-- there is room for its bytes
+fits_at : {A : Type 0} (left : List (Event A)) (room : ℕ) (rest : List ℕ) (said : Said) (after : List ℕ) → AreLinesOf left rest → HaveRoom room left → TakesEvent rest said after → said_len said.what ≤ room
+unfolding joined
+fits_at [] room rest said after more fit takes = absurd (none_taken rest said after takes more.spelled)
+fits_at {A} (e ∷ left) room rest said after more fit takes =
+    let next = next_is e left rest said after more takes in
+    let it = meant {A = A} said takes.fine in
+    let same = same_event_fields it.event e it.fine next.fine (it.fields_are ∙ sym next.fields) in
+    let first : bytes_len e.what ≤ room = fit 0 e (omega arith) in
+    let len = it.len in
+    omega (arith, ap (λ (d : Event A). bytes_len d.what) same)
+
+-- ---- the run so far
+
+-- the first of the events are run, and the lines of the others left
+pub record RunSofar (A : Type 0) {I : Type 0} (disk : I → Disk) (lines : List ℕ) (room : ℕ) (old board : BoardState I) (rest : List ℕ) (a b s t : Option (List ℕ)) : Type 0 where
+  pub done : List (Event A)
+  pub left : List (Event A)
+  pub whole : AreLinesOf (done ++ left) lines
+  pub more : AreLinesOf left rest
+  pub fit : HaveRoom room left
+  pub sent : SendsRun disk old board done a b s t
+
+pub run_none : (A : Type 0) {I : Type 0} (disk : I → Disk) (lines : List ℕ) (room : ℕ) (board : BoardState I) (a s : Option (List ℕ)) → AreEventLines A room lines → RunSofar A disk lines room board board lines a a s s
+run_none A disk lines room board a s h =
+    record { done = []; left = h.events; whole = h.lines_of; more = h.lines_of; fit = h.fit; sent = sends_no_run disk board a s }
+
+module _ (A : Type 0) {I : Type 0} (disk : I → Disk) (lines : List ℕ) (room : ℕ) (old board : BoardState I) (rest : List ℕ) (a b s t : Option (List ℕ)) (so : RunSofar A disk lines room old board rest a b s t) where
+  pub begins : length rest ≢ 0 → BeginsWithEvent rest
+  begins some = begins_at so.left rest so.more some
+
+  pub fits : (said : Said) (after : List ℕ) → TakesEvent rest said after → said_len said.what ≤ room
+  fits said after takes = fits_at so.left room rest said after so.more so.fit takes
+
+-- one event more
+more_at : (A : Type 0) {I : Type 0} (disk : I → Disk) (lines : List ℕ) (room : ℕ) (old mid new : BoardState I) (rest : List ℕ) (said : Said) (after : List ℕ) (done left : List (Event A)) (a b c s t u : Option (List ℕ))
+    → AreLinesOf (done ++ left) lines → AreLinesOf left rest → HaveRoom room left → SendsRun disk old mid done a b s t → TakesEvent rest said after → RunsSaid A disk said mid new b c t u → RunSofar A disk lines room old new after a c s u
+unfolding joined
+more_at A disk lines room old mid new rest said after done [] a b c s t u whole more fit sent takes it = absurd (none_taken rest said after takes more.spelled)
+more_at A disk lines room old mid new rest said after done (e ∷ left) a b c s t u whole more fit sent takes it =
+    let next = next_is e left rest said after more takes in
+    let same = same_event_fields it.event e it.fine next.fine (it.fields ∙ sym next.fields) in
+    record {
+      done = done ++ e ∷ [];
+      left = left;
+      whole = subst (λ (es : List (Event A)). AreLinesOf es lines) (sym (append_assoc done (e ∷ []) left)) whole;
+      more = next.more;
+      fit = λ k d lt. fit (suc k) d (omega arith);
+      sent =
+          sends_runs disk old mid new done (e ∷ []) a b c s t u sent
+          (subst (λ (x : Event A). SendsRun disk mid new (x ∷ []) b c t u) same it.run);
+    }
+
+pub run_more : (A : Type 0) {I : Type 0} (disk : I → Disk) (lines : List ℕ) (room : ℕ) (old mid new : BoardState I) (rest : List ℕ) (said : Said) (after : List ℕ) (a b c s t u : Option (List ℕ))
+    → RunSofar A disk lines room old mid rest a b s t → TakesEvent rest said after → RunsSaid A disk said mid new b c t u → RunSofar A disk lines room old new after a c s u
+run_more A disk lines room old mid new rest said after a b c s t u so takes it =
+    more_at A disk lines room old mid new rest said after so.done so.left a b c s t u so.whole so.more so.fit so.sent takes it
+
+-- no line is left
+all_at : (A : Type 0) {I : Type 0} (disk : I → Disk) (lines : List ℕ) (old new : BoardState I) (rest : List ℕ) (done left events : List (Event A)) (a b s t : Option (List ℕ))
+    → AreLinesOf (done ++ left) lines → AreLinesOf left rest → SendsRun disk old new done a b s t → length rest ≡ 0 → AreLinesOf events lines → SendsRun disk old new events a b s t
+unfolding joined
+all_at A disk lines old new rest done [] events a b s t whole more sent none are =
+    sends_run_of disk old new done events a b s t (sym (append-nil done) ∙ one_text (done ++ []) events lines whole are) sent
+all_at A disk lines old new rest done (e ∷ left) events a b s t whole more sent none are =
+    absurd (omega (arith, ap length more.spelled, length-append (ended (event_line e)) (joined (map event_line left)), length-append (event_line e) (10 ∷ [])))
+
+pub run_all : (A : Type 0) {I : Type 0} (disk : I → Disk) (lines : List ℕ) (room : ℕ) (old new : BoardState I) (rest : List ℕ) (events : List (Event A)) (a b s t : Option (List ℕ))
+    → RunSofar A disk lines room old new rest a b s t → length rest ≡ 0 → AreLinesOf events lines → SendsRun disk old new events a b s t
+run_all A disk lines room old new rest events a b s t so none are = all_at A disk lines old new rest so.done so.left events a b s t so.whole so.more so.sent none are

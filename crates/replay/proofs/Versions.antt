@@ -1,0 +1,98 @@
+-- Two traces that differ in their version alone are replayed alike.
+use Rattle.std.proofs.Common.{◌≡◌, ℕ, List, Option, Some, Result, Ok, Err, refl, sym, subst, arith, inl, inr}
+use Rattle.sector_cache.specs.Disk.{Disk}
+use Rattle.board.specs.declared.event.Event.{Event}
+use Rattle.board.specs.declared.fault.BoardFault.{BoardFault}
+use Rattle.board.specs.declared.spec.SlotSpec.{SlotSpec}
+use Rattle.board.specs.Fault.{IsAccepted}
+use Rattle.trace.specs.declared.fault.TraceFault.{TraceFault}
+use Rattle.replay.specs.declared.fault.ReplayFault.{ReplayFault}
+use Rattle.replay.specs.declared.fault.ReplayFault.TheVariants.{Read, Trace, Board, Run, Write, NoMemory}
+use Rattle.trace.specs.Printable.{IsPrintable}
+use Rattle.replay.specs.Replay.{AfterRun, HasTooMany, Plays, RefusesBoard, RefusesBoardOf, RefusesTrace, Replays}
+use Rattle.trace.specs.Reading.{IsTraceOf}
+use Rattle.trace.specs.Text.{Content, as_version_2, text}
+use Rattle.trace.proofs.Sofar.{Fits}
+use Rattle.trace.proofs.Unique.{no_fault, one_trace, text_clean}
+
+-- a trace that has a text has one in version 2
+pub fits_version_2 : {A : Type 0} (t : Content A) → IsPrintable t → IsPrintable (as_version_2 t)
+fits_version_2 t h = record { version = inr refl; slots = λ k d lt one. absurd (omega arith); events = h.events }
+
+-- it has a text, and its version doesn't refuse its slots
+pub record MayReplay {A : Type 0} (t : Content A) : Type 0 where
+  pub fits : Fits t
+  pub few : ¬ HasTooMany t
+
+pub as_version_2_may : {A : Type 0} (t : Content A) → MayReplay t → MayReplay (as_version_2 t)
+as_version_2_may t h = record {
+  fits = record {
+    range = record { cache = h.fits.range.cache; slots = h.fits.range.slots; events = h.fits.range.events };
+    printable = fits_version_2 t h.fits.printable;
+  };
+  few = λ many. absurd (omega (arith, many.version));
+}
+
+is_trace : {A : Type 0} (t : Content A) → Fits t → IsTraceOf (text t) t
+is_trace t h = record {
+  found = refl;
+  range = h.range;
+  printable = h.printable;
+  only = λ u range printable is. one_trace u t (record { range = range; printable = printable }) h (sym is);
+}
+
+-- the trace that was read of a text is the one whose text it is
+read_is : {A : Type 0} (t read : Content A) → Fits t → IsTraceOf (text t) read → read ≡ t
+read_is t read h is = sym (is.only t h.range h.printable refl)
+
+-- two traces with the same slots, events and cache
+module _ {A I : Type 0} (disk : I → Disk) (old new : Option (List ℕ)) (before after : I) (v w cache : ℕ) (slots : List SlotSpec) (events : List (Event A)) where
+  abbrev one : Content A
+  one = record { version = v; cache = cache; slots = slots; events = events }
+
+  abbrev other : Content A
+  other = record { version = w; cache = cache; slots = slots; events = events }
+
+  plays : MayReplay one → MayReplay other → (outcome : Result (Unit {0}) ReplayFault) → Plays A disk (Some (text one)) old new before after outcome → Plays A disk (Some (text other)) old new before after outcome
+  plays first second outcome p =
+      let is = read_is one p.trace first.fits p.read in
+      record {
+        trace = other;
+        read = is_trace other second.fits;
+        few = second.few;
+        accepted = subst (λ (t : Content A). IsAccepted (disk before).sector_count t.slots t.cache) is p.accepted;
+        ended = subst (λ (t : Content A). AfterRun disk t.slots t.events before after old new outcome) is p.ended;
+      }
+
+  refused : MayReplay one → MayReplay other → (fault : BoardFault) → RefusesBoard A disk (Some (text one)) old new before after fault → RefusesBoard A disk (Some (text other)) old new before after fault
+  refused first second fault p =
+      let is = read_is one p.trace first.fits p.read in
+      record {
+        untouched = p.untouched;
+        trace = other;
+        read = is_trace other second.fits;
+        refused = elim (subst (λ (t : Content A). RefusesBoardOf (disk before).sector_count t fault) is p.refused) [ inl many ↦ absurd (first.few many.0) | inr own ↦ inr (second.few, own.1) ];
+      }
+
+  -- only memory may have been wanting
+  unread : MayReplay one → MayReplay other → (fault : TraceFault) → RefusesTrace A (Some (text one)) old new before after fault → RefusesTrace A (Some (text other)) old new before after fault
+  unread first second fault p =
+      let numbered = p.fault_is.numbered in
+      record {
+        untouched = p.untouched;
+        fault_is = record {
+          named = λ known. absurd (no_fault (text one) one fault.line fault.kind first.fits refl (p.fault_is.named known));
+          none = λ known. absurd (no_fault (text one) one fault.line fault.kind first.fits refl (p.fault_is.named known));
+          numbered = numbered;
+          clean = text_clean other fault.line second.fits;
+        };
+      }
+
+  pub alike : MayReplay one → MayReplay other → (outcome : Result (Unit {0}) ReplayFault) → Replays A disk (Some (text one)) old new before after outcome → Replays A disk (Some (text other)) old new before after outcome
+  alike first second (Ok done) h = plays first second (Ok done) h
+  alike first second (Err Read) h = h
+  alike first second (Err (Trace fault)) h = unread first second fault h
+  alike first second (Err (Board fault)) h = refused first second fault h
+  alike first second (Err (Run done)) h = plays first second (Err (Run done)) h
+  alike first second (Err Write) h = plays first second (Err Write) h
+  alike first second (Err NoMemory) h = plays first second (Err NoMemory) h

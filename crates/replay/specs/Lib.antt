@@ -1,0 +1,5 @@
+pub mod LastLine
+pub mod OneSlot
+pub mod Replay
+pub mod Pieces
+pub mod Running

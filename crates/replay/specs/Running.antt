@@ -1,0 +1,52 @@
+-- Running the events of lines that were judged, one after another.
+use Rattle.std.specs.Prelude.{◌≡◌, ℕ, List, [], ◌∷◌, Option, None, Some}
+use Rattle.guest_memory.specs.Memory.{Inside, part_of}
+use Rattle.std.specs.List.{slice_get}
+use Rattle.sector_cache.specs.Disk.{Disk}
+use Rattle.board.specs.declared.event.Event.{Event}
+use Rattle.board.specs.declared.reply.Reply.{Reply}
+use Rattle.board.specs.Image.{Tells}
+use Rattle.board.specs.Slot.{BoardSlot, interrupt_words}
+use Rattle.board.specs.World.{Answers, BoardState, extents_of, world_of}
+use Rattle.trace.specs.declared.read.said.Said.{Said}
+use Rattle.replay.specs.Pieces.{SendsRun}
+use Rattle.trace.specs.Refusals.{IsFine}
+use Rattle.trace.specs.Said.{said_fields}
+use Rattle.trace.specs.Text.{event_fields}
+
+-- these bytes lie in the memory of a slot that is there
+pub record IsPart {I : Type 0} (board : BoardState I) (slot addr len : ℕ) (part : List ℕ) : Type 0 where
+  pub found : BoardSlot
+  pub here : slice_get board.slots slot ≡ Some found
+  pub inside : Inside found.memory addr len
+  pub is : part ≡ part_of found.memory addr len
+
+-- the interrupt words of a slot's windows, and zeros where there is no such slot
+abbrev pub words_of : Option BoardSlot → ℕ × ℕ
+words_of None = (0, 0)
+words_of (Some slot) = interrupt_words slot
+
+-- what goes on of a board and its image while an event is handled
+pub record KeepsTelling {I : Type 0} (disk : I → Disk) (old new : BoardState I) : Type 0 where
+  pub told : Tells (disk old.image) → Tells (disk new.image)
+  pub extents : extents_of new.slots ≡ extents_of old.slots
+
+-- a board answered an event of a slot
+pub record AnswersEvent {A I : Type 0} (disk : I → Disk) (old : BoardState I) (event : Event A) (reply : Reply A) (out : List ℕ) (new : BoardState I) : Type 0 where
+  pub answers : Tells (disk old.image) → Answers (world_of disk old) event reply [] out (world_of disk new)
+  pub keeps : KeepsTelling disk old new
+
+-- it answered the event that was said
+pub record AnswersSaid (A : Type 0) {I : Type 0} (disk : I → Disk) (said : Said) (old : BoardState I) (reply : Reply A) (out : List ℕ) (new : BoardState I) : Type 0 where
+  pub event : Event A
+  pub slot : event.slot ≡ said.slot
+  pub fields : event_fields event ≡ said_fields said
+  pub fine : IsFine event
+  pub answered : AnswersEvent disk old event reply out new
+
+-- the event that was said was run, and the text of its record sent
+pub record RunsSaid (A : Type 0) {I : Type 0} (disk : I → Disk) (said : Said) (old new : BoardState I) (before after waiting waiting' : Option (List ℕ)) : Type 0 where
+  pub event : Event A
+  pub fields : event_fields event ≡ said_fields said
+  pub fine : IsFine event
+  pub run : SendsRun disk old new (event ∷ []) before after waiting waiting'

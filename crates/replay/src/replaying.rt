@@ -1,0 +1,121 @@
+//! Replaying a trace: from its text to the text of its records.
+//!
+//! The text goes through two passes: `judge` looks at all of it, and `run_lines` then reads and runs line by line.
+
+ghost use Rattle.std.specs.Prelude.{◌≡◌, ◌≢◌, ℕ, List, Some, Err, IfErr, IfOk, OnOk, length, map};
+ghost use Rattle.board.specs.declared.event.Event.{Event};
+ghost use Rattle.board.specs.declared.spec.SlotSpec.{SlotSpec};
+ghost use Rattle.board.specs.Fault.{IsAccepted};
+ghost use Rattle.board.specs.Slot.{opened};
+ghost use Rattle.replay.specs.declared.fault.ReplayFault.{ReplayFault};
+ghost use Rattle.trace.specs.Judging.{AreEventLines, AreLinesOf, judgement, kept};
+ghost use Rattle.replay.specs.Replay.{AfterRun, EndsReading, HasTooMany, RefusesBoardOf, Replays};
+
+use crate::fault::ReplayFault;
+use crate::input::gather;
+use crate::running::run_lines;
+use board::{Board, BoardFault};
+use sector_cache::{Image, Refused};
+use std::alloc::Allocator;
+use std::io::{Read, Write};
+use trace::{Buffer, FaultKind, Judged, TraceFault, VERSION_1, judge};
+
+/// The fault where there is no memory for the input.
+const NO_ROOM: TraceFault = TraceFault {
+    line: 1,
+    kind: FaultKind::NoMemory,
+};
+
+/// How many bytes of text wait for the writer at most.
+const TEXT_ROOM: usize = 65536;
+
+/// How many slots a trace of version 1 has at most.
+const MOST_SLOTS_IN_VERSION_1: usize = 16;
+
+/// Reads a trace to the reader's end, makes its board over the image, runs its events, and writes the
+/// text of their records, whole. The image is handed back as it then stands.
+pub fn replay<R: Read, W: Write, I: Image, A: Allocator + Copy>(
+    alloc: A,
+    reader: &mut R,
+    writer: &mut W,
+    image: I,
+) -> (I, Result<(), ReplayFault>)
+    ensures comes_to { Replays A I.disk (R.remaining reader.old) (W.contents writer.old) (W.contents writer.new) image result.0 result.1 }
+    ensures end { EndsReading result.1 (R.remaining reader.new) }
+    ensures whole { (done : ℕ) → result.1 ≢ Err (ReplayFault.Run done) }
+{
+    match gather(alloc, reader) {
+        Ok(text) => replay_text(alloc, &text, writer, image),
+        Err(ReplayFault::NoMemory) => (image, Err(ReplayFault::Trace(NO_ROOM))),
+        Err(_) => (image, Err(ReplayFault::Read)),
+    }
+}
+
+/// The same of a text that was gathered before. It is judged whole before the first event, of which none is kept.
+pub fn replay_text<W: Write, I: Image, A: Allocator + Copy>(
+    alloc: A,
+    text: &[u8],
+    writer: &mut W,
+    image: I,
+) -> (I, Result<(), ReplayFault>)
+    ensures comes_to { Replays A I.disk (Some text.now) (W.contents writer.old) (W.contents writer.new) image result.0 result.1 }
+    ensures read { result.1 ≢ Err ReplayFault.Read }
+    ensures whole { (done : ℕ) → result.1 ≢ Err (ReplayFault.Run done) }
+{
+    let judged = match judge(alloc, text) {
+        Ok(judged) => judged,
+        Err(fault) => return (image, Err(ReplayFault::Trace(fault))),
+    };
+    let Ok(mut room) = vec![in alloc; 0; judged.longest] else {
+        return (image, Err(ReplayFault::Trace(judged.no_room())));
+    };
+    match board_of(alloc, &judged, image) {
+        Ok(board) => run_judged(alloc, board, judged.events, room.as_mut_slice(), writer),
+        Err(Refused { image, why }) => (image, Err(ReplayFault::Board(why))),
+    }
+}
+
+// The board of a trace that was judged, over an image.
+fn board_of<I: Image, A: Allocator + Copy>(
+    alloc: A,
+    judged: &Judged<'_, A>,
+    image: I,
+) -> Result<Board<I, A>, Refused<I, BoardFault>>
+    ensures made { IfOk result (λ board. board ≡ record { slots = map opened judged.now.slots.items; image = image }) }
+    ensures few { OnOk result (¬ HasTooMany (kept A (judgement judged.now))) }
+    ensures accepted { OnOk result (IsAccepted (I.disk image).sector_count judged.now.slots.items judged.now.cache) }
+    ensures fault { IfErr result (λ refused. RefusesBoardOf (I.disk image).sector_count (kept A (judgement judged.now)) refused.why) }
+    ensures returned { IfErr result (λ refused. refused.image ≡ image) }
+{
+    if judged.version == VERSION_1 && judged.slots.len() > MOST_SLOTS_IN_VERSION_1 {
+        let why = BoardFault::TooManySlots;
+        return Err(Refused { image, why });
+    }
+    Board::new(alloc, &judged.slots, image, judged.cache)
+}
+
+// Runs the events of the lines on their board, which is new, and writes the text of their records.
+fn run_judged<W: Write, I: Image, A: Allocator + Copy>(
+    alloc: A,
+    mut board: Board<I, A>,
+    lines: &[u8],
+    room: &mut [u8],
+    writer: &mut W,
+) -> (I, Result<(), ReplayFault>)
+    requires { AreEventLines A (length room.old) lines.now }
+    ensures ended { (slots : List SlotSpec) (events : List (Event A)) → board.slots ≡ map opened slots → AreLinesOf events lines.now →
+        AfterRun I.disk slots events board.image result.0 (W.contents writer.old) (W.contents writer.new) result.1 }
+    ensures whole { (done : ℕ) → result.1 ≢ Err (ReplayFault.Run done) }
+{
+    let Ok(mut text) = Buffer::with_room(alloc, TEXT_ROOM) else {
+        return (board.into_image(), Err(ReplayFault::NoMemory));
+    };
+    run_lines(alloc, &mut board, lines, room, &mut text, writer);
+    text.flush(writer);
+    let outcome = if text.is_broken() {
+        Err(ReplayFault::Write)
+    } else {
+        Ok(())
+    };
+    (board.into_image(), outcome)
+}

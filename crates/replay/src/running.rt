@@ -1,0 +1,173 @@
+//! Running the events of lines that were judged, one after another.
+//!
+//! Each line is read, its event handled and the text of its record sent before the next. Bytes that it spells are
+//! written into room that is lent.
+
+ghost use Rattle.std.specs.Prelude.{◌≡◌, ◌≤◌, [], List, IfSome, length};
+ghost use Rattle.std.specs.List.{slice_get};
+ghost use Rattle.board.specs.declared.event.Event.{Event};
+ghost use Rattle.board.specs.declared.event.EventKind.{EventKind};
+ghost use Rattle.trace.specs.Judging.{AreEventLines, AreLinesOf, said_len};
+ghost use Rattle.replay.specs.Pieces.{SendsRun};
+ghost use Rattle.replay.specs.Running.{AnswersEvent, AnswersSaid, IsPart, RunsSaid, words_of};
+ghost use Rattle.trace.specs.Said.{IsFineSaid};
+ghost use Rattle.trace.specs.Sends.{waiting};
+
+use board::{Board, Event, EventKind, Reply};
+use sector_cache::Image;
+use std::alloc::Allocator;
+use std::io::Write;
+use trace::{Buffer, Said, What, put_line, put_read, read_bytes, spelled_len, take_event};
+
+/// Runs the events that the lines say, and sends the text of their records. Where the writer fails the run goes on, so
+/// that what becomes of the image isn't decided by the writer.
+pub(crate) fn run_lines<W: Write, I: Image, A: Allocator + Copy>(
+    alloc: A,
+    board: &mut Board<I, A>,
+    lines: &[u8],
+    room: &mut [u8],
+    text: &mut Buffer<A>,
+    writer: &mut W,
+)
+    requires { AreEventLines A (length room.old) lines.now }
+    ensures { (events : List (Event A)) → AreLinesOf events lines.now →
+        SendsRun I.disk board.old board.new events (W.contents writer.old) (W.contents writer.new) (waiting text.old) (waiting text.new) }
+{
+    let mut output = Vec::new(alloc);
+    let mut rest = lines;
+    while !rest.is_empty() {
+        let (said, after) = take_event(rest);
+        run_event(board, said, room, &mut output, text, writer);
+        rest = after;
+    }
+}
+
+// Runs an event, and sends the text of its record. What the console puts out waits in `output` meanwhile. Memory that
+// is read is printed where it lies.
+fn run_event<W: Write, I: Image, A: Allocator + Copy>(
+    board: &mut Board<I, A>,
+    said: Said<'_>,
+    room: &mut [u8],
+    output: &mut Vec<u8, A>,
+    text: &mut Buffer<A>,
+    writer: &mut W,
+)
+    requires fine { IsFineSaid said }
+    requires room { said_len said.what ≤ length room.old }
+    requires empty { output.old.items ≡ [] }
+    ensures sent { RunsSaid A I.disk said.entry board.old board.new (W.contents writer.old) (W.contents writer.new) (waiting text.old) (waiting text.new) }
+    ensures empty { output.new.items ≡ [] }
+{
+    if let What::MemRead { addr, len } = said.what {
+        if let Some(part) = part_of(board, said.slot, addr, len) {
+            put_read(text, writer, said.slot, part, words(board, said.slot));
+            return;
+        }
+    }
+    let reply = answer(board, said, room, output);
+    let words = words(board, said.slot);
+    put_line(text, writer, said.slot, &reply, output.as_slice(), words);
+    output.clear();
+}
+
+// The bytes of a slot's memory from an address on, where they lie.
+fn part_of<I: Image, A: Allocator>(
+    board: &Board<I, A>,
+    slot: u8,
+    addr: u64,
+    len: u32,
+) -> Option<&[u8]>
+    ensures { IfSome result (λ part. IsPart board.now slot addr len part.now) }
+{
+    board.memory(slot)?.part(addr, u64::from(len))
+}
+
+// The interrupt words of a slot.
+fn words<I: Image, A: Allocator>(board: &Board<I, A>, slot: u8) -> (u8, u8)
+    ensures is { result ≡ words_of (slice_get board.now.slots slot) }
+    ensures block { result.0 ≤ 3 }
+    ensures console { result.1 ≤ 3 }
+{
+    match board.interrupts(slot) {
+        Some(words) => words,
+        None => (0, 0),
+    }
+}
+
+// Handles an event.
+fn answer<I: Image, A: Allocator + Copy>(
+    board: &mut Board<I, A>,
+    said: Said<'_>,
+    room: &mut [u8],
+    output: &mut Vec<u8, A>,
+) -> Reply<A>
+    requires fine { IsFineSaid said }
+    requires room { said_len said.what ≤ length room.old }
+    requires empty { output.old.items ≡ [] }
+    ensures { AnswersSaid A I.disk said.entry board.old result output.new.items board.new }
+{
+    let slot = said.slot;
+    let what = match said.what {
+        What::MemWrite { addr, bytes: field } => {
+            let bytes = &mut room[..spelled_len(field)];
+            read_bytes(field, bytes);
+            return write_memory(board, slot, addr, bytes);
+        }
+        What::Input { bytes: field } => {
+            let bytes = &mut room[..spelled_len(field)];
+            read_bytes(field, bytes);
+            return input(board, slot, bytes);
+        }
+        What::Read {
+            window,
+            offset,
+            width,
+        } => EventKind::Read {
+            window,
+            offset,
+            width,
+        },
+        What::Write {
+            window,
+            offset,
+            width,
+            value,
+        } => EventKind::Write {
+            window,
+            offset,
+            width,
+            value,
+        },
+        What::MemRead { addr, len } => EventKind::MemRead { addr, len },
+        What::Resize { cols, rows } => EventKind::Resize { cols, rows },
+    };
+    board.step(&Event { slot, what }, output)
+}
+
+// Writes bytes to a slot's memory.
+fn write_memory<I: Image, A: Allocator>(
+    board: &mut Board<I, A>,
+    slot: u8,
+    addr: u64,
+    bytes: &[u8],
+) -> Reply<A>
+    ensures { AnswersEvent I.disk board.old (record { slot = slot; what = EventKind.MemWrite addr bytes.now }) result [] board.new }
+{
+    if board.write_memory(slot, addr, bytes) {
+        Reply::Done
+    } else if (slot as usize) < board.slots() {
+        Reply::BadRange
+    } else {
+        Reply::BadSlot
+    }
+}
+
+// Types bytes to a slot's console.
+fn input<I: Image, A: Allocator + Copy>(board: &mut Board<I, A>, slot: u8, bytes: &[u8]) -> Reply<A>
+    ensures { AnswersEvent I.disk board.old (record { slot = slot; what = EventKind.Input bytes.now }) result [] board.new }
+{
+    match board.input(slot, bytes) {
+        Some(taken) => Reply::Took(taken),
+        None => Reply::BadSlot,
+    }
+}

@@ -1,0 +1,212 @@
+-- What was judged of a text so far, and one line more.
+use Rattle.std.proofs.Common.{◌≡◌, ◌≢◌, ℕ, ◌+◌, ◌<◌, ◌≤◌, ◌==◌, Bool, true, false, not, nat_lt, if◌then◌else◌, List, [], ◌∷◌, ◌++◌, length, map, refl, sym, ap, subst, ◌∙◌, arith, inl, inr}
+use Rattle.std.proofs.lemmas.Bool.{cases_Bool, cases_lt, eq-eqb, eqb-true, ltb-false, ltb-true}
+use Rattle.std.proofs.lemmas.List.{append-nil, length-append, length-map, map_push, nil_from_length}
+use Rattle.std.proofs.lemmas.List.Elements.{All-nil, All-push, All-weaker}
+use Rattle.board.specs.declared.event.Event.{Event}
+use Rattle.board.specs.declared.spec.SlotSpec.{SlotSpec}
+use Rattle.trace.specs.declared.fault.FaultKind.{FaultKind}
+use Rattle.trace.specs.declared.fault.FaultKind.TheVariants as kind
+use Rattle.trace.specs.declared.fault.TraceFault.{TraceFault}
+use Rattle.trace.specs.declared.read.said.Said.{Said}
+use Rattle.trace.specs.Cuts.{fields_of, lines_of}
+use Rattle.trace.specs.Faults.{IsFault, IsCleanBefore}
+use Rattle.trace.specs.Judging.{HaveRoom, IsJudged, JudgesLine, Judgement, bytes_len, said_len}
+use Rattle.trace.specs.Refusals.{IsFineSlot, RefusesLine, SaysEvent, SaysSlot, with_event, with_slot}
+use Rattle.trace.specs.Reading.{IsTraceFault}
+use Rattle.trace.specs.Said.{IsFineSaid, said_fields}
+use Rattle.trace.specs.Text.{Content, event_fields, event_line, joined, slot_fields}
+use Rattle.trace.proofs.Saying.{meant}
+use Rattle.trace.proofs.Signs.{line-fields_of}
+use Rattle.trace.proofs.Sofar.{Sofar, all_read, clean, event_read, is_cut, is_refused, length_joined, slot_read, taken}
+use Rattle.trace.proofs.Unique.{no_fault, one_trace, text_clean}
+
+-- a line that says an event was judged
+pub event_judged : (A : Type 0) (begun : Bool) (line after : List ℕ) (n : ℕ) (s : Said) (old new : Judgement) → fields_of line ≡ said_fields s → IsFineSaid s → 1 ≤ n
+    → new ≡ (if nat_lt old.longest (said_len s.what) then record old { longest = said_len s.what; longest_line = n } else old) → JudgesLine A begun line after old new
+event_judged A begun line after n s old new is fine numbered counted =
+    let it = meant {A = A} s fine in
+    elim (cases_Bool (nat_lt old.longest (said_len s.what))) [
+      | inl more ↦
+          let now = rw more at counted in
+          let lt = ltb-true old.longest (said_len s.what) more in
+          let len = it.len in
+          inr (record {
+            event = it.event;
+            said = record { fields = is ∙ sym it.fields_are; fine = it.fine };
+            fits = rw now (omega arith);
+            longer = rw now (omega arith);
+            numbered = rw now (λ _. numbered);
+            is = rw now refl;
+          })
+      | inr same ↦
+          let now = rw same at counted in
+          let le = ltb-false old.longest (said_len s.what) same in
+          let len = it.len in
+          inr (record {
+            event = it.event;
+            said = record { fields = is ∙ sym it.fields_are; fine = it.fine };
+            fits = rw now (omega arith);
+            longer = rw now (omega arith);
+            numbered = rw now (λ h. h);
+            is = rw now refl;
+          })
+    ]
+
+-- the lines so far are those of a trace, of which this is kept
+pub record JudgedSofar (A : Type 0) (whole : List ℕ) (j : Judgement) (k : ℕ) (rest : List ℕ) : Type 0 where
+  pub trace : Content A
+  pub so : Sofar whole trace k rest
+  pub version : trace.version ≡ j.version
+  pub cache : trace.cache ≡ j.cache
+  pub slots : trace.slots ≡ j.slots
+  pub lines : j.events ≡ joined (map event_line trace.events) ++ rest
+  pub fit : HaveRoom j.longest trace.events
+  pub numbered : 1 ≤ j.longest_line
+
+-- the first two lines
+pub judged_first : (A : Type 0) (whole : List ℕ) (version cache : ℕ) (rest : List ℕ) → Sofar {A = A} whole (record { version = version; cache = cache; slots = []; events = [] }) 3 rest
+    → JudgedSofar A whole (record { version = version; cache = cache; slots = []; events = rest; longest = 0; longest_line = 1 }) 3 rest
+unfolding joined
+judged_first A whole version cache rest so = record {
+  trace = record { version = version; cache = cache; slots = []; events = [] };
+  so = so;
+  version = refl;
+  cache = refl;
+  slots = refl;
+  lines = refl;
+  fit = All-nil (λ (e : Event A). bytes_len e.what ≤ 0);
+  numbered = omega arith;
+}
+
+-- no events, no lines of them
+no_lines : {A : Type 0} (es : List (Event A)) (rest : List ℕ) → length es ≡ 0 → rest ≡ joined (map event_line es) ++ rest
+unfolding joined
+no_lines [] rest none = refl
+no_lines (e ∷ es) rest none = absurd (omega arith)
+
+module _ (A : Type 0) (whole : List ℕ) (j : Judgement) (k : ℕ) (rest : List ℕ) (s : JudgedSofar A whole j k rest) where
+  -- events have begun where their lines begin before the rest
+  pub some_events : length j.events ≢ length rest → 0 < length s.trace.events
+  some_events other =
+      elim (cases_lt 0 (length s.trace.events)) [
+        | inl some ↦ some
+        | inr none ↦ absurd (other (ap length (s.lines ∙ sym (no_lines s.trace.events rest (omega arith)))))
+      ]
+
+  pub no_events : length j.events ≡ length rest → length s.trace.events ≡ 0
+  no_events same =
+      omega (arith, ap length s.lines, length-append (joined (map event_line s.trace.events)) rest, length_joined (map event_line s.trace.events), length-map s.trace.events event_line)
+
+-- one line more
+slot_more : (A : Type 0) (whole : List ℕ) (j : Judgement) (k : ℕ) (rest l after : List ℕ) (begun : Bool) (slot : SlotSpec) → JudgedSofar A whole j k rest → rest ≡ l ++ 10 ∷ after
+    → begun ≡ not (length j.events == length rest) → SaysSlot j.version begun l slot → JudgedSofar A whole (record j { slots = j.slots ++ slot ∷ []; events = after }) (k + 1) after
+slot_more A whole j k rest l after begun slot s cut test said =
+    let same : (length j.events == length rest) ≡ true = elim (cases_Bool (length j.events == length rest)) [ inl same ↦ same | inr other ↦ absurd (said.early (test ∙ ap not other)) ] in
+    let none = no_events A whole j k rest s (eqb-true (length j.events) (length rest) same) in
+    let is = subst (λ (v : ℕ). fields_of l ≡ slot_fields v slot) (sym s.version) said.fields in
+    let fine = subst (λ (v : ℕ). IsFineSlot v slot) (sym s.version) said.fine in
+    record {
+      trace = with_slot s.trace slot;
+      so = slot_read whole s.trace k rest l after slot s.so cut is fine none;
+      version = s.version;
+      cache = s.cache;
+      slots = ap (λ (ss : List SlotSpec). ss ++ slot ∷ []) s.slots;
+      lines = no_lines s.trace.events after none;
+      fit = s.fit;
+      numbered = s.numbered;
+    }
+
+event_more : (A : Type 0) (whole : List ℕ) (j : Judgement) (k longest longest_line : ℕ) (rest l after : List ℕ) (event : Event A) → JudgedSofar A whole j k rest → rest ≡ l ++ 10 ∷ after
+    → SaysEvent l event → bytes_len event.what ≤ longest → j.longest ≤ longest → 1 ≤ longest_line → JudgedSofar A whole (record j { longest = longest; longest_line = longest_line }) (k + 1) after
+unfolding event_line
+event_more A whole j k longest longest_line rest l after event s cut said fits longer numbered =
+    let es = s.trace.events in
+    record {
+      trace = with_event s.trace event;
+      so = event_read whole s.trace k rest l after event s.so cut said.fields said.fine;
+      version = s.version;
+      cache = s.cache;
+      slots = s.slots;
+      lines = taken j.events (map event_line es) (map event_line (es ++ event ∷ [])) rest l after s.lines cut
+          (map_push event_line es event ∙ ap (λ (x : List ℕ). map event_line es ++ x ∷ []) (sym (line-fields_of l (event_fields event) said.fields)));
+      fit = All-push (λ (e : Event A). bytes_len e.what ≤ longest) es event
+          (All-weaker (λ (e : Event A). bytes_len e.what ≤ j.longest) (λ (e : Event A). bytes_len e.what ≤ longest) (λ e h. omega arith) es s.fit) fits;
+      numbered = numbered;
+    }
+
+pub judged_more : (A : Type 0) (whole : List ℕ) (j new : Judgement) (k : ℕ) (rest l after : List ℕ) (begun : Bool) → JudgedSofar A whole j k rest → rest ≡ l ++ 10 ∷ after
+    → begun ≡ not (length j.events == length rest) → JudgesLine A begun l after j new → JudgedSofar A whole new (k + 1) after
+judged_more A whole j new k rest l after begun s cut test (inl judges) =
+    subst (λ (n : Judgement). JudgedSofar A whole n (k + 1) after) (sym judges.is) (slot_more A whole j k rest l after begun judges.slot s cut test judges.said)
+judged_more A whole j new k rest l after begun s cut test (inr judges) =
+    subst (λ (n : Judgement). JudgedSofar A whole n (k + 1) after) (sym judges.is)
+    (event_more A whole j k new.longest new.longest_line rest l after judges.event s cut judges.said judges.fits judges.longer (judges.numbered s.numbered))
+
+-- ---- what is answered
+
+-- a fault of the text, which is then no trace's
+pub is_fault : (A : Type 0) (whole : List ℕ) (fault : TraceFault) → (fault.kind ≢ kind.NoMemory → IsFault whole fault.line fault.kind) → 1 ≤ fault.line → IsCleanBefore whole fault.line → IsTraceFault A whole fault
+is_fault A whole fault named numbered clean' = record {
+  named = named;
+  none = λ known other range printable is. no_fault whole other fault.line fault.kind (record { range = range; printable = printable }) is (named known);
+  numbered = numbered;
+  clean = clean';
+}
+
+-- the fault of a line after the second
+pub fault_later : (A : Type 0) (whole : List ℕ) (j : Judgement) (k : ℕ) (rest : List ℕ) (fault : TraceFault) → JudgedSofar A whole j k rest → fault.line ≡ k → (fault.kind ≢ kind.NoMemory → IsFault whole k fault.kind) → IsTraceFault A whole fault
+fault_later A whole j k rest fault s here named =
+    let count = s.so.count in
+    is_fault A whole fault (rw here named) (omega arith) (rw here (clean whole s.trace k rest s.so))
+
+-- the next line isn't ended
+pub is_cut_off : (A : Type 0) (whole : List ℕ) (j : Judgement) (k : ℕ) (rest : List ℕ) → JudgedSofar A whole j k rest → lines_of rest ≡ rest ∷ [] → length rest ≢ 0 → IsFault whole k kind.Cut
+is_cut_off A whole j k rest s last some = is_cut whole s.trace k rest s.so last (λ e. some (ap length e))
+
+true_not_false : true ≡ false → ⊥
+true_not_false e = absurd cc
+
+not_false : (b : Bool) → not b ≡ false → b ≡ true
+not_false true e = refl
+not_false false e = absurd cc
+
+-- the next line is refused
+pub is_refused_now : (A : Type 0) (whole : List ℕ) (j : Judgement) (k : ℕ) (rest l after : List ℕ) (begun : Bool) (fault : FaultKind) → JudgedSofar A whole j k rest → lines_of rest ≡ l ∷ lines_of after
+    → begun ≡ not (length j.events == length rest) → RefusesLine j.version begun l fault → fault ≢ kind.NoMemory → IsFault whole k fault
+is_refused_now A whole j k rest l after begun fault s cut test h known =
+    is_refused whole s.trace k rest s.so begun l after fault cut
+    (λ so. some_events A whole j k rest s (λ e. absurd (true_not_false (sym so ∙ test ∙ ap not (eq-eqb (length j.events) (length rest) e)))))
+    (λ no'. no_events A whole j k rest s (eqb-true (length j.events) (length rest) (not_false (length j.events == length rest) (sym test ∙ no'))))
+    (subst (λ (v : ℕ). RefusesLine v begun l fault) (sym s.version) h) known
+
+-- nothing is left
+pub judged_whole : (A : Type 0) (whole : List ℕ) (j : Judgement) (k : ℕ) (rest : List ℕ) → JudgedSofar A whole j k rest → length rest ≡ 0 → IsJudged A whole j
+judged_whole A whole j k rest s none =
+    let t = s.trace in
+    let found = all_read whole t k rest s.so none in
+    record {
+      trace = t;
+      read = record {
+        found = found;
+        range = s.so.fits.range;
+        printable = s.so.fits.printable;
+        only = λ u ru pu e. one_trace u t (record { range = ru; printable = pu }) s.so.fits (sym e ∙ found);
+      };
+      version = s.version;
+      cache = s.cache;
+      slots = s.slots;
+      lines_of = record {
+        fine = λ i d lt. record { fits = s.so.fits.range.events i d lt; printable = s.so.fits.printable.events i d lt };
+        spelled = s.lines ∙ ap (λ (xs : List ℕ). joined (map event_line t.events) ++ xs) (nil_from_length rest none) ∙ append-nil (joined (map event_line t.events));
+      };
+      fit = s.fit;
+      numbered = s.numbered;
+    }
+
+-- there is no memory for the bytes of a line of a trace
+pub no_room : (A : Type 0) (whole : List ℕ) (j : Judgement) (fault : TraceFault) → IsJudged A whole j → fault.line ≡ j.longest_line → fault.kind ≡ kind.NoMemory → IsTraceFault A whole fault
+no_room A whole j fault judged here want =
+    let numbered = judged.numbered in
+    is_fault A whole fault (λ known. absurd (known want)) (omega (arith, here))
+    (subst (λ (text' : List ℕ). IsCleanBefore text' fault.line) (sym judged.read.found) (text_clean judged.trace fault.line (record { range = judged.read.range; printable = judged.read.printable })))

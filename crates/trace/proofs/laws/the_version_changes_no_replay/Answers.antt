@@ -1,9 +1,0 @@
-use Rattle.trace.proofs.Versions.{MayReplay, alike, as_version_2_may}
-use Rattle.trace.proofs.laws.the_version_changes_no_replay.Goals as goal
-
-pub returns : goal.returns
-returns g c t old new before after outcome range printable few =
-    let disk = g.I.Image.disk in
-    let may : MayReplay t = record { fits = record { range = range; printable = printable }; few = few } in
-    let other = as_version_2_may t may in
-    (alike disk old new before after t.version 2 t.cache t.slots t.events may other outcome, alike disk old new before after 2 t.version t.cache t.slots t.events other may outcome)

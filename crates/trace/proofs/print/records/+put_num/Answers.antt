@@ -1,0 +1,12 @@
+use Rattle.std.proofs.Common.{◌∷◌, [], ℕ, ap, sym, ◌∙◌, arith}
+use Rattle.trace.proofs.Numbers.{num_digit, num_split}
+use Rattle.trace.proofs.Passing.{sends_more, sends_same}
+use Rattle.trace.proofs.print.records.+put_num.Goals as goal
+
+pub returns-then-n-lt16 : goal.returns-then-n-lt16
+returns-then-n-lt16 g t c = sends_same _ _ _ _ _ _ (ap (λ (d : ℕ). d ∷ []) c.digit_of.ensures ∙ sym (num_digit c.args.n (omega arith))) c.put.ensures
+
+pub returns : goal.returns
+returns g t c =
+    sends_same _ _ _ _ _ _ (sym (num_split c.args.n (omega arith)))
+    (sends_more _ _ _ _ _ _ _ _ c.put_num.ensures (rw c.digit_of-2.ensures at c.put-2.ensures))

@@ -1,0 +1,15 @@
+use Rattle.std.proofs.Common.{◌-◌, ◌∙◌, arith, drop, length, length-drop}
+use Rattle.std.proofs.lemmas.List.{take_all}
+use Rattle.trace.proofs.Passing.{sends_same}
+use Rattle.trace.proofs.RecordLines.{numbered_one, numbered_two}
+use Rattle.trace.proofs.print.records.put_numbered.Goals as goal
+
+pub returns-then-slot-lt16 : goal.returns-then-slot-lt16
+returns-then-slot-lt16 g c =
+    sends_same _ _ _ _ _ _
+    (take_all (length c.args.line.now - 1) (drop 1 c.args.line.now) (omega (arith, length-drop 1 c.args.line.now)) ∙ numbered_one c.args.slot c.args.line.now (omega arith) c.requires)
+    c.put.ensures
+
+pub returns-else-slot-lt16 : goal.returns-else-slot-lt16
+returns-else-slot-lt16 g c =
+    sends_same _ _ _ _ _ _ (numbered_two c.args.slot c.args.line.now (omega arith) (omega arith) c.requires) c.put-else-slot-lt16.ensures

@@ -1,0 +1,53 @@
+use Rattle.std.proofs.Common.{List, length, refl, sym, subst, arith}
+use Rattle.std.proofs.lemmas.Bool.{eqb-false, eqb-true}
+use Rattle.board.specs.declared.spec.SlotSpec.{SlotSpec}
+use Rattle.trace.proofs.Heads.{head_clean, head_fault, nothing_before, second_fault}
+use Rattle.trace.proofs.Judgements.{JudgedSofar, fault_later, is_cut_off, is_fault, is_refused_now, judged_first, judged_more, judged_whole}
+use Rattle.trace.proofs.Sofar.{begun_so, numbered}
+use Rattle.trace.proofs.read.judging.judge.Goals as goal
+
+pub returns-in-Err-clause-fault : goal.returns-in-Err-clause-fault
+returns-in-Err-clause-fault g c =
+    is_fault g.row.A.Denot c.args.text.now _ (λ known. head_fault c.args.text.now c.in-Err.kind c.in-Err.ensures.err) (omega arith) (nothing_before c.args.text.now)
+
+pub returns-in-Err-cache_of-clause-fault : goal.returns-in-Err-cache_of-clause-fault
+returns-in-Err-cache_of-clause-fault g c =
+    let first = c.in-Ok.ensures.ok in
+    is_fault g.row.A.Denot c.args.text.now _
+    (second_fault c.in-Ok.found.0 c.args.text.now c.in-Ok.found.1.now first.one_of first.ended c.in-Err-cache_of.kind c.in-Err-cache_of.ensures.err) (omega arith)
+    (head_clean c.in-Ok.found.0 c.args.text.now c.in-Ok.found.1.now first.one_of first.ended)
+
+pub loop-rest-init : goal.loop-rest-init
+loop-rest-init g c =
+    let first = c.in-Ok.ensures.ok in
+    let second = c.in-Ok-cache_of.ensures.ok in
+    let rest = c.in-Ok-cache_of.found.1.now in
+    subst (λ (slots : List SlotSpec). JudgedSofar g.row.A.Denot c.args.text.now (record { version = c.in-Ok.found.0; cache = c.in-Ok-cache_of.found.0; slots = slots; events = rest; longest = 0; longest_line = 1 }) 3 rest)
+    (sym c.new.ensures.items)
+    (judged_first g.row.A.Denot c.args.text.now c.in-Ok.found.0 c.in-Ok-cache_of.found.0 rest
+    (begun_so c.args.text.now c.in-Ok.found.0 c.in-Ok-cache_of.found.0 c.in-Ok.found.1.now second.line rest first.one_of first.ended second.ended second.fields second.fits))
+
+pub returns-in_default-clause-fault : goal.returns-in_default-clause-fault
+returns-in_default-clause-fault g c =
+    fault_later g.row.A.Denot c.args.text.now _ c.loop-rest.line c.loop-rest.rest.now _ c.loop-rest.invariant refl
+    (λ known. is_cut_off g.row.A.Denot c.args.text.now _ c.loop-rest.line c.loop-rest.rest.now c.loop-rest.invariant c.in_default.ensures.none (eqb-false (length c.loop-rest.rest.now) 0 (sym c.loop-rest-test.ensures)))
+
+pub returns-in-Err-judge_line-clause-fault : goal.returns-in-Err-judge_line-clause-fault
+returns-in-Err-judge_line-clause-fault g c =
+    fault_later g.row.A.Denot c.args.text.now _ c.loop-rest.line c.loop-rest.rest.now _ c.loop-rest.invariant refl
+    (λ known. is_refused_now g.row.A.Denot c.args.text.now _ c.loop-rest.line c.loop-rest.rest.now c.in-Some.this.now c.in-Some.after.now _ c.in-Err-judge_line.kind c.loop-rest.invariant c.in-Some.ensures.lines refl
+    (c.in-Err-judge_line.ensures.err known) known)
+
+pub overflow_add-line : goal.overflow_add-line
+overflow_add-line g c =
+    let s = c.loop-rest.invariant in
+    let n = numbered c.args.text.now s.trace c.loop-rest.line c.loop-rest.rest.now s.so in
+    omega arith
+
+pub loop-rest-preserved : goal.loop-rest-preserved
+loop-rest-preserved g c =
+    judged_more g.row.A.Denot c.args.text.now _ _ c.loop-rest.line c.loop-rest.rest.now c.in-Some.this.now c.in-Some.after.now _ c.loop-rest.invariant c.in-Some.ensures.ended refl c.in_default-judge_line.ensures.ok
+
+pub returns-clause-ok : goal.returns-clause-ok
+returns-clause-ok g c =
+    judged_whole g.row.A.Denot c.args.text.now _ c.loop-rest.line c.loop-rest.rest.now c.loop-rest.invariant (eqb-true (length c.loop-rest.rest.now) 0 (sym c.loop-rest-test.ensures))

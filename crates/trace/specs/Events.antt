@@ -1,0 +1,22 @@
+-- The events of lines that were judged, one after another.
+use Rattle.std.specs.Prelude.{◌≡◌, ℕ, true, List, ◌∷◌, ◌++◌}
+use Rattle.trace.specs.declared.fault.FaultKind.{FaultKind}
+use Rattle.trace.specs.declared.read.said.Said.{Said}
+use Rattle.trace.specs.Cuts.{fields_of, lines_of}
+use Rattle.trace.specs.Refusals.{RefusesLine}
+use Rattle.trace.specs.Said.{IsFineSaid, said_fields}
+
+-- the first line of a text is that of an event: it is refused in no way
+pub record BeginsWithEvent (text : List ℕ) : Type 0 where
+  pub line : List ℕ
+  pub after : List ℕ
+  pub cut : lines_of text ≡ line ∷ lines_of after
+  pub never : (fault : FaultKind) → ¬ RefusesLine 2 true line fault
+
+-- that line was taken off, and says this
+pub record TakesEvent (text : List ℕ) (said : Said) (after : List ℕ) : Type 0 where
+  pub line : List ℕ
+  pub ended : text ≡ line ++ 10 ∷ after
+  pub lines : lines_of text ≡ line ∷ lines_of after
+  pub fields : fields_of line ≡ said_fields said
+  pub fine : IsFineSaid said

@@ -1,0 +1,90 @@
+-- A text that was judged whole: what is kept of it is what stands before its events, and their lines.
+use Rattle.std.specs.Prelude.{◌≡◌, ◌⊎◌, ℕ, ◌/◌, ◌≤◌, Bool, List, [], ◌∷◌, ◌++◌, All, length, map}
+use Rattle.board.specs.declared.event.Event.{Event}
+use Rattle.board.specs.declared.event.EventKind.{EventKind}
+use Rattle.board.specs.declared.event.EventKind.TheVariants as event
+use Rattle.board.specs.declared.spec.SlotSpec.{SlotSpec}
+use Rattle.trace.specs.declared.read.judging.Judged.{Judged}
+use Rattle.trace.specs.declared.read.said.What.{What}
+use Rattle.trace.specs.declared.read.said.What.TheVariants as what
+use Rattle.trace.specs.Refusals.{IsFine, SaysEvent, SaysSlot}
+use Rattle.trace.specs.Reading.{IsTraceOf}
+use Rattle.trace.specs.Text.{Content, event_line, joined}
+
+-- how many bytes an event has, and how many a field spells
+abbrev pub bytes_len : {A : Type 0} → EventKind A → ℕ
+bytes_len (event.MemWrite addr bs) = length bs
+bytes_len (event.Input bs) = length bs
+bytes_len _ = 0
+
+abbrev pub said_len : What → ℕ
+said_len (what.MemWrite addr field) = length field.now / 2
+said_len (what.Input field) = length field.now / 2
+said_len _ = 0
+
+-- these are the lines of the events
+pub record AreLinesOf {A : Type 0} (events : List (Event A)) (lines : List ℕ) : Type 0 where
+  pub fine : All IsFine events
+  pub spelled : lines ≡ joined (map event_line events)
+
+-- there is room for the bytes of each event
+abbrev pub HaveRoom : {A : Type 0} → ℕ → List (Event A) → Type 0
+HaveRoom room events = All (λ event. bytes_len event.what ≤ room) events
+
+-- the lines of some events, whose bytes have room
+pub record AreEventLines (A : Type 0) (room : ℕ) (lines : List ℕ) : Type 0 where
+  pub events : List (Event A)
+  pub lines_of : AreLinesOf events lines
+  pub fit : HaveRoom room events
+
+-- what was judged, without where it lies in memory
+pub record Judgement : Type 0 where
+  pub version : ℕ
+  pub cache : ℕ
+  pub slots : List SlotSpec
+  pub events : List ℕ
+  pub longest : ℕ
+  pub longest_line : ℕ
+
+abbrev pub judgement : {A : Type 0} → Judged A → Judgement
+judgement j = record {
+  version = j.version;
+  cache = j.cache;
+  slots = j.slots.items;
+  events = j.events.now;
+  longest = j.longest;
+  longest_line = j.longest_line;
+}
+
+-- the trace without its events
+abbrev pub kept : (A : Type 0) → Judgement → Content A
+kept A j = record { version = j.version; cache = j.cache; slots = j.slots; events = [] }
+
+-- the text is that of one trace, of which this is kept
+pub record IsJudged (A : Type 0) (text : List ℕ) (j : Judgement) : Type 0 where
+  pub trace : Content A
+  pub read : IsTraceOf text trace
+  pub version : trace.version ≡ j.version
+  pub cache : trace.cache ≡ j.cache
+  pub slots : trace.slots ≡ j.slots
+  pub lines_of : AreLinesOf trace.events j.events
+  pub fit : HaveRoom j.longest trace.events
+  pub numbered : 1 ≤ j.longest_line
+
+-- a line was judged: it is that of a slot, before all events, which is kept, or that of an event, whose bytes are
+-- counted
+pub record JudgesSlot (begun : Bool) (line after : List ℕ) (old new : Judgement) : Type 0 where
+  pub slot : SlotSpec
+  pub said : SaysSlot old.version begun line slot
+  pub is : new ≡ record old { slots = old.slots ++ slot ∷ []; events = after }
+
+pub record JudgesEvent (A : Type 0) (line : List ℕ) (old new : Judgement) : Type 0 where
+  pub event : Event A
+  pub said : SaysEvent line event
+  pub fits : bytes_len event.what ≤ new.longest
+  pub longer : old.longest ≤ new.longest
+  pub numbered : 1 ≤ old.longest_line → 1 ≤ new.longest_line
+  pub is : new ≡ record old { longest = new.longest; longest_line = new.longest_line }
+
+abbrev pub JudgesLine : Type 0 → Bool → List ℕ → List ℕ → Judgement → Judgement → Type 0
+JudgesLine A begun line after old new = JudgesSlot begun line after old new ⊎ JudgesEvent A line old new

@@ -1,0 +1,295 @@
+//! The text of records.
+
+ghost use Rattle.std.specs.Prelude.{◌≡◌, ◌≤◌, ◌/◌, ◌%◌, ◌∷◌, [], ◌++◌, All, IfOk, codes, drop, length, take};
+ghost use Rattle.board.specs.Line.{HasInterruptWords};
+ghost use Rattle.hex.specs.Hex.{encode_lower};
+ghost use Rattle.trace.specs.Records.{entry_of, quiet_line, read_line, record_line, records_text, reply_field};
+ghost use Rattle.trace.specs.Sends.{Sends, waiting};
+ghost use Rattle.trace.specs.Spelling.{bytes as bytes_field, digit, fixed, num};
+ghost use Rattle.trace.specs.Text.{ended};
+
+use crate::digit::digit_of;
+use crate::no_memory::NoMemory;
+use crate::pairs::spell;
+use crate::print::buffer::{Buffer, Nowhere};
+use board::{Record, Reply};
+use std::alloc::Allocator;
+use std::io::Write;
+
+/// The room that is made ahead for a line. A line without bytes has no more.
+const LINE_ROOM: usize = 24;
+
+/// The text of records, a line for each in their order.
+pub fn print_records<A: Allocator>(alloc: A, records: &[Record<A>]) -> Result<Vec<u8, A>, NoMemory>
+    requires { All HasInterruptWords records.now }
+    ensures { IfOk result (λ text. text.items ≡ records_text records.now) }
+{
+    let mut text = Buffer::growing(alloc, records.len().saturating_mul(LINE_ROOM))?;
+    put_records(&mut text, &mut Nowhere, records);
+    text.into_bytes()
+}
+
+// Puts the text of records.
+fn put_records<W: Write, A: Allocator, B: Allocator>(
+    buffer: &mut Buffer<B>,
+    out: &mut W,
+    records: &[Record<A>],
+)
+    requires { All HasInterruptWords records.now }
+    ensures { Sends (W.contents out.old) (W.contents out.new) (waiting buffer.old) (records_text records.now) (waiting buffer.new) }
+{
+    for entry in records {
+        put_record(buffer, out, entry);
+    }
+}
+
+// Puts the line of a record.
+fn put_record<W: Write, A: Allocator, B: Allocator>(
+    buffer: &mut Buffer<B>,
+    out: &mut W,
+    entry: &Record<A>,
+)
+    requires { HasInterruptWords entry.now }
+    ensures { Sends (W.contents out.old) (W.contents out.new) (waiting buffer.old) (ended (record_line entry.now)) (waiting buffer.new) }
+{
+    let words = (entry.block_irq, entry.console_irq);
+    put_line(
+        buffer,
+        out,
+        entry.slot,
+        &entry.reply,
+        entry.output.as_slice(),
+        words,
+    );
+}
+
+/// Puts the line of a record that is told by its parts.
+pub fn put_line<W: Write, A: Allocator, B: Allocator>(
+    buffer: &mut Buffer<B>,
+    out: &mut W,
+    slot: u8,
+    reply: &Reply<A>,
+    output: &[u8],
+    words: (u8, u8),
+)
+    requires block { words.0 ≤ 3 }
+    requires console { words.1 ≤ 3 }
+    ensures { Sends (W.contents out.old) (W.contents out.new) (waiting buffer.old) (ended (record_line (entry_of slot reply.now output.now words))) (waiting buffer.new) }
+{
+    if !output.is_empty() {
+        put_fields(buffer, out, slot, reply, output, words);
+        return;
+    }
+    match reply {
+        Reply::Value(value) => put_value(buffer, out, slot, *value, words),
+        Reply::Done => put_done(buffer, out, slot, words),
+        _ => put_fields(buffer, out, slot, reply, output, words),
+    }
+}
+
+// Puts such a line field after field.
+fn put_fields<W: Write, A: Allocator, B: Allocator>(
+    buffer: &mut Buffer<B>,
+    out: &mut W,
+    slot: u8,
+    reply: &Reply<A>,
+    output: &[u8],
+    words: (u8, u8),
+)
+    requires block { words.0 ≤ 3 }
+    requires console { words.1 ≤ 3 }
+    ensures { Sends (W.contents out.old) (W.contents out.new) (waiting buffer.old) (ended (record_line (entry_of slot reply.now output.now words))) (waiting buffer.new) }
+{
+    put_slot(buffer, out, slot);
+    put_reply(buffer, out, reply);
+    put_output(buffer, out, output);
+    put_words(buffer, out, words);
+}
+
+// Puts the line of a value without output, all of it at once.
+fn put_value<W: Write, B: Allocator>(
+    buffer: &mut Buffer<B>,
+    out: &mut W,
+    slot: u8,
+    value: u32,
+    words: (u8, u8),
+)
+    requires block { words.0 ≤ 3 }
+    requires console { words.1 ≤ 3 }
+    ensures { Sends (W.contents out.old) (W.contents out.new) (waiting buffer.old) (ended (quiet_line slot (codes "v:" ++ fixed 8 value) words)) (waiting buffer.new) }
+{
+    let (one, two) = (digit_of(slot / 16), digit_of(slot % 16));
+    let [v, colon, a, b, c, d, e, f, g, h] = value_field(value);
+    let (x, y) = (digit_of(words.0), digit_of(words.1));
+    let line = [
+        one, two, b' ', v, colon, a, b, c, d, e, f, g, h, b' ', b'-', b' ', x, b' ', y, b'\n',
+    ];
+    put_numbered(buffer, out, slot, &line);
+}
+
+// The same of `done`.
+fn put_done<W: Write, B: Allocator>(buffer: &mut Buffer<B>, out: &mut W, slot: u8, words: (u8, u8))
+    requires block { words.0 ≤ 3 }
+    requires console { words.1 ≤ 3 }
+    ensures { Sends (W.contents out.old) (W.contents out.new) (waiting buffer.old) (ended (quiet_line slot (codes "done") words)) (waiting buffer.new) }
+{
+    let (one, two) = (digit_of(slot / 16), digit_of(slot % 16));
+    let (x, y) = (digit_of(words.0), digit_of(words.1));
+    let line = [
+        one, two, b' ', b'd', b'o', b'n', b'e', b' ', b'-', b' ', x, b' ', y, b'\n',
+    ];
+    put_numbered(buffer, out, slot, &line);
+}
+
+// Puts a line that begins with a slot's number by two digits, and leaves out the first where it is `0`.
+fn put_numbered<W: Write, B: Allocator>(buffer: &mut Buffer<B>, out: &mut W, slot: u8, line: &[u8])
+    requires { take 2 line.now ≡ digit (slot / 16) ∷ digit (slot % 16) ∷ [] }
+    ensures { Sends (W.contents out.old) (W.contents out.new) (waiting buffer.old) (num slot ++ drop 2 line.now) (waiting buffer.new) }
+{
+    if slot < 16 {
+        buffer.put(out, &line[1..]);
+    } else {
+        buffer.put(out, line);
+    }
+}
+
+/// Puts the line of the record of a read of memory, whose bytes lie where they were read.
+pub fn put_read<W: Write, B: Allocator>(
+    buffer: &mut Buffer<B>,
+    out: &mut W,
+    slot: u8,
+    bytes: &[u8],
+    words: (u8, u8),
+)
+    requires block { words.0 ≤ 3 }
+    requires console { words.1 ≤ 3 }
+    ensures { Sends (W.contents out.old) (W.contents out.new) (waiting buffer.old) (ended (read_line slot bytes.now words)) (waiting buffer.new) }
+{
+    put_slot(buffer, out, slot);
+    buffer.put(out, b"b:");
+    put_bytes(buffer, out, bytes);
+    put_output(buffer, out, &[]);
+    put_words(buffer, out, words);
+}
+
+// Puts both interrupt words, each after a space, and the line's end.
+fn put_words<W: Write, B: Allocator>(buffer: &mut Buffer<B>, out: &mut W, words: (u8, u8))
+    requires block { words.0 ≤ 3 }
+    requires console { words.1 ≤ 3 }
+    ensures { Sends (W.contents out.old) (W.contents out.new) (waiting buffer.old) (32 ∷ digit words.0 ∷ 32 ∷ digit words.1 ∷ 10 ∷ []) (waiting buffer.new) }
+{
+    let end = [b' ', digit_of(words.0), b' ', digit_of(words.1), b'\n'];
+    buffer.put(out, &end);
+}
+
+// Puts a slot's number and a space.
+fn put_slot<W: Write, B: Allocator>(buffer: &mut Buffer<B>, out: &mut W, slot: u8)
+    ensures { Sends (W.contents out.old) (W.contents out.new) (waiting buffer.old) (num slot ++ 32 ∷ []) (waiting buffer.new) }
+{
+    if slot < 16 {
+        buffer.put(out, &[digit_of(slot), b' ']);
+    } else {
+        buffer.put(out, &[digit_of(slot / 16), digit_of(slot % 16), b' ']);
+    }
+}
+
+// Puts what was answered.
+fn put_reply<W: Write, A: Allocator, B: Allocator>(
+    buffer: &mut Buffer<B>,
+    out: &mut W,
+    reply: &Reply<A>,
+)
+    ensures { Sends (W.contents out.old) (W.contents out.new) (waiting buffer.old) (reply_field reply.now) (waiting buffer.new) }
+{
+    match reply {
+        Reply::Value(value) => buffer.put(out, &value_field(*value)),
+        Reply::Done => buffer.put(out, b"done"),
+        Reply::Bytes(bytes) => {
+            buffer.put(out, b"b:");
+            put_bytes(buffer, out, bytes.as_slice());
+        }
+        Reply::Took(n) => {
+            buffer.put(out, b"took:");
+            put_num(buffer, out, *n as u64);
+        }
+        Reply::BadSlot => buffer.put(out, b"badslot"),
+        Reply::BadRange => buffer.put(out, b"badrange"),
+        Reply::NoMemory => buffer.put(out, b"nomem"),
+    }
+}
+
+// Puts a number without leading zeros.
+fn put_num<W: Write, B: Allocator>(buffer: &mut Buffer<B>, out: &mut W, n: u64)
+    ensures { Sends (W.contents out.old) (W.contents out.new) (waiting buffer.old) (num n) (waiting buffer.new) }
+{
+    if n < 16 {
+        buffer.put(out, &[digit_of(n as u8)]);
+        return;
+    }
+    put_num(buffer, out, n / 16);
+    buffer.put(out, &[digit_of((n % 16) as u8)]);
+}
+
+// A value by eight digits, after the letter for it.
+#[tactic(auto, unfolding(crate::specs::Spelling::fixed))]
+fn value_field(value: u32) -> [u8; 10]
+    ensures { result ≡ codes "v:" ++ fixed 8 value }
+{
+    let (a, b, c, d) = (value, value / 16, value / 16 / 16, value / 16 / 16 / 16);
+    let top = d / 16;
+    let (e, f, g, h) = (top, top / 16, top / 16 / 16, top / 16 / 16 / 16);
+    [
+        b'v',
+        b':',
+        digit_of((h % 16) as u8),
+        digit_of((g % 16) as u8),
+        digit_of((f % 16) as u8),
+        digit_of((e % 16) as u8),
+        digit_of((d % 16) as u8),
+        digit_of((c % 16) as u8),
+        digit_of((b % 16) as u8),
+        digit_of((a % 16) as u8),
+    ]
+}
+
+// Puts a space and the output.
+fn put_output<W: Write, B: Allocator>(buffer: &mut Buffer<B>, out: &mut W, output: &[u8])
+    ensures { Sends (W.contents out.old) (W.contents out.new) (waiting buffer.old) (32 ∷ bytes_field output.now) (waiting buffer.new) }
+{
+    if output.is_empty() {
+        buffer.put(out, b" -");
+        return;
+    }
+    buffer.put(out, b" ");
+    put_bytes(buffer, out, output);
+}
+
+/// How many bytes are spelled at a time.
+const BLOCK: usize = 512;
+
+// Puts bytes by two digits each, or `-` where there are none.
+fn put_bytes<W: Write, B: Allocator>(buffer: &mut Buffer<B>, out: &mut W, bytes: &[u8])
+    ensures { Sends (W.contents out.old) (W.contents out.new) (waiting buffer.old) (bytes_field bytes.now) (waiting buffer.new) }
+{
+    if bytes.is_empty() {
+        buffer.put(out, b"-");
+        return;
+    }
+    let mut rest = bytes;
+    while !rest.is_empty() {
+        let (block, after) = rest.split_at(rest.len().min(BLOCK));
+        put_block(buffer, out, block);
+        rest = after;
+    }
+}
+
+// Puts at most `BLOCK` bytes, by two digits each.
+fn put_block<W: Write, B: Allocator>(buffer: &mut Buffer<B>, out: &mut W, bytes: &[u8])
+    requires { length bytes.now ≤ 512 }
+    ensures { Sends (W.contents out.old) (W.contents out.new) (waiting buffer.old) (encode_lower bytes.now) (waiting buffer.new) }
+{
+    let mut digits = [0; 2 * BLOCK];
+    let text = &mut digits[..2 * bytes.len()];
+    spell(bytes, text);
+    buffer.put(out, text);
+}

@@ -1,0 +1,104 @@
+//! Which field of a line is at fault.
+
+ghost use Rattle.std.specs.Prelude.{◌≡◌, ◌≢◌, ◌↔◌, [], ℕ, List, IsTrue, IfSome, IsNone, map, slice_index_or};
+ghost use Rattle.std.specs.Option.{option_copied};
+ghost use Rattle.trace.specs.Cuts.{fields_left};
+ghost use Rattle.trace.specs.Faults.{AllSay, IsAtFault, fault_of, first_field, other_fields};
+ghost use Rattle.trace.specs.Words.{Says, shape_of, shapes, spelled, width_among};
+ghost use Rattle.trace.specs.declared.word.Word.{Word};
+
+use crate::fault::FaultKind;
+use crate::read::bytes::{are_bytes, identity_of};
+use crate::read::choice::{mode_of, width_of, window_of};
+use crate::read::cut::take_field;
+use crate::read::number::{number, number_u8, number_u16, number_u32, offset_of};
+use crate::read::value::width_and_value;
+use crate::table::{Field, fields_after};
+use crate::word::{Word, word_of};
+
+/// The first field of a line that has a fault of this kind, and the bytes that stand there.
+pub fn field_at_fault(version: u8, line: &[u8], kind: FaultKind) -> Option<(Field, &[u8])>
+    ensures some { IfSome result (λ found. (word : Word) → first_field line.now ≡ spelled word →
+        IsAtFault kind (shapes version word (other_fields line.now)) (other_fields line.now) (shape_of (width_among (other_fields line.now)) found.0) found.1.now) }
+    ensures none { IsNone result → (word : Word) → first_field line.now ≡ spelled word →
+        AllSay kind (shapes version word (other_fields line.now)) (other_fields line.now) }
+{
+    let word = first_word(line)?;
+    let (_, rest) = take_field(line);
+    first_at_fault(fields_after(version, word), rest, nth_field(rest, 3), kind)
+}
+
+/// The word that a line begins with.
+pub fn first_word(line: &[u8]) -> Option<Word>
+    ensures some { IfSome result (λ word. first_field line.now ≡ spelled word) }
+    ensures none { IsNone result → (word : Word) → first_field line.now ≢ spelled word }
+{
+    let (first, _) = take_field(line);
+    word_of(first)
+}
+
+// The nth of the fields that are left, from 0 on, or none of its bytes.
+fn nth_field(rest: Option<&[u8]>, n: usize) -> &[u8]
+    ensures { result.now ≡ slice_index_or (fields_left (option_copied rest.entry)) n [] }
+{
+    let Some(line) = rest else {
+        return &[];
+    };
+    let (field, rest) = take_field(line);
+    if n == 0 {
+        return field;
+    }
+    nth_field(rest, n - 1)
+}
+
+// The first of the fields that are left that has a fault of this kind. A value is read by this width.
+fn first_at_fault<'a>(
+    fields: &[Field],
+    rest: Option<&'a [u8]>,
+    width: &[u8],
+    kind: FaultKind,
+) -> Option<(Field, &'a [u8])>
+    ensures some { IfSome result (λ found. IsAtFault kind (map (shape_of width.now) fields.now) (fields_left (option_copied rest.entry)) (shape_of width.now found.0) found.1.now) }
+    ensures none { IsNone result → AllSay kind (map (shape_of width.now) fields.now) (fields_left (option_copied rest.entry)) }
+{
+    let [first, others @ ..] = fields else {
+        return None;
+    };
+    let (bytes, rest) = take_field(rest?);
+    if fault_for(*first) == kind && !says(*first, width, bytes) {
+        return Some((*first, bytes));
+    }
+    first_at_fault(others, rest, width, kind)
+}
+
+// Which fault a field has that says no value.
+fn fault_for(field: Field) -> FaultKind
+    ensures { (width : List ℕ) → result ≡ fault_of (shape_of width field) }
+{
+    match field {
+        Field::Window | Field::Width | Field::Mode => FaultKind::Choice,
+        Field::Bytes | Field::Identity => FaultKind::Bytes,
+        _ => FaultKind::Number,
+    }
+}
+
+// Whether these bytes say a value of the field, which is read by this width.
+fn says(field: Field, width: &[u8], bytes: &[u8]) -> bool
+    ensures { IsTrue result ↔ Says (shape_of width.now field) bytes.now }
+{
+    match field {
+        Field::Base | Field::Size | Field::Start | Field::Count | Field::Address => {
+            number(bytes).is_some()
+        }
+        Field::Sectors | Field::Length => number_u32(bytes).is_some(),
+        Field::Columns | Field::Rows => number_u16(bytes).is_some(),
+        Field::Slot => number_u8(bytes).is_some(),
+        Field::Offset => offset_of(bytes).is_some(),
+        Field::Value => !matches!(width_and_value(width, bytes), Err(FaultKind::Number)),
+        Field::Window => window_of(bytes).is_some(),
+        Field::Width => width_of(bytes).is_some(),
+        Field::Mode => mode_of(bytes).is_some(),
+        Field::Bytes => are_bytes(bytes),
+        Field::Identity => identity_of(bytes).is_some(),
+    }
+}

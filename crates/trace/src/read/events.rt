@@ -1,0 +1,40 @@
+//! The events of lines that were judged, one after another.
+
+ghost use Rattle.std.specs.Prelude.{◌≡◌, true};
+ghost use Rattle.trace.specs.Cuts.{fields_of};
+ghost use Rattle.trace.specs.Events.{BeginsWithEvent, TakesEvent};
+ghost use Rattle.trace.specs.declared.fault.FaultKind.{FaultKind};
+ghost use Rattle.trace.specs.Refusals.{RefusesLine};
+ghost use Rattle.trace.specs.Said.{IsFineSaid, said_fields};
+
+use crate::read::cut::take_line;
+use crate::read::entry::{Entry, by_fields};
+use crate::read::frequent::frequent;
+use crate::read::said::Said;
+use crate::version::VERSION_2;
+
+/// The event of the first line, and what follows that.
+pub fn take_event(rest: &[u8]) -> (Said<'_>, &[u8])
+    requires { BeginsWithEvent rest.now }
+    ensures { TakesEvent rest.now result.0 result.1.now }
+{
+    let Some((line, after)) = take_line(rest) else {
+        unreachable!()
+    };
+    (event_of(line), after)
+}
+
+// The event that a line says.
+fn event_of(line: &[u8]) -> Said<'_>
+    requires { (fault : FaultKind) → ¬ RefusesLine 2 true line.now fault }
+    ensures fields { fields_of line.now ≡ said_fields result }
+    ensures fine { IsFineSaid result }
+{
+    if let Some(said) = frequent(line) {
+        return said;
+    }
+    match by_fields(VERSION_2, line, true) {
+        Ok(Entry::Event(said)) => said,
+        _ => unreachable!(),
+    }
+}

@@ -1,0 +1,123 @@
+//! Judging a whole text, line after line. No event is kept.
+
+ghost use Rattle.std.specs.Prelude.{◌≡◌, ◌≢◌, ◌≤◌, nat_lt, if◌then◌else◌, IfOk, IfErr, OnOk};
+ghost use Rattle.trace.specs.Judging.{IsJudged, JudgesLine, judgement};
+ghost use Rattle.trace.specs.Refusals.{RefusesLine};
+ghost use Rattle.trace.specs.Reading.{IsTraceFault};
+ghost use Rattle.trace.specs.Version.{IsVersion};
+
+use crate::fault::{FaultKind, TraceFault};
+use crate::read::cut::take_line;
+use crate::read::entry::{Entry, by_fields};
+use crate::read::frequent::frequent;
+use crate::read::{after_header, cache_of};
+use board::SlotSpec;
+use std::alloc::{Allocator, Global};
+
+/// What is kept of a text that is a trace's.
+#[derive(Drop)]
+pub struct Judged<'a, A: Allocator = Global> {
+    pub version: u8,
+    pub cache: u32,
+    pub slots: Vec<SlotSpec, A>,
+    /// The lines of its events.
+    pub events: &'a [u8],
+    /// How many bytes one of them spells at most, and which line that is.
+    pub longest: usize,
+    pub longest_line: u64,
+}
+
+/// Judges a text: it is a trace's, or has this fault. A `line` beside a fault is numbered from 1.
+pub fn judge<A: Allocator + Copy>(alloc: A, text: &[u8]) -> Result<Judged<'_, A>, TraceFault>
+    ensures ok { IfOk result (λ j. IsJudged A text.now (judgement j)) }
+    ensures fault { IfErr result (λ e. IsTraceFault A text.now e) }
+{
+    let (version, rest) = match after_header(text) {
+        Ok(found) => found,
+        Err(kind) => return Err(TraceFault { line: 1, kind }),
+    };
+    let (cache, mut rest) = match cache_of(rest) {
+        Ok(found) => found,
+        Err(kind) => return Err(TraceFault { line: 2, kind }),
+    };
+    let mut judged = Judged {
+        version,
+        cache,
+        slots: Vec::new(alloc),
+        events: rest,
+        longest: 0,
+        longest_line: 1,
+    };
+    let mut line = 3;
+    while !rest.is_empty() {
+        let Some((this, after)) = take_line(rest) else {
+            let kind = FaultKind::Cut;
+            return Err(TraceFault { line, kind });
+        };
+        let begun = judged.events.len() != rest.len();
+        if let Err(kind) = judged.judge_line(line, begun, this, after) {
+            return Err(TraceFault { line, kind });
+        }
+        rest = after;
+        line += 1;
+    }
+    Ok(judged)
+}
+
+impl<'a, A: Allocator> Judged<'a, A> {
+    /// The fault where there is no room for the bytes of a line.
+    pub fn no_room(&self) -> TraceFault
+        ensures line { result.line ≡ self.now.longest_line }
+        ensures kind { result.kind ≡ FaultKind.NoMemory }
+    {
+        TraceFault {
+            line: self.longest_line,
+            kind: FaultKind::NoMemory,
+        }
+    }
+
+    // Judges a line, where events may have `begun` before it and this stands after it. After an error nothing has
+    // changed.
+    fn judge_line(
+        &mut self,
+        line: u64,
+        begun: bool,
+        this: &[u8],
+        after: &'a [u8],
+    ) -> Result<(), FaultKind>
+        requires version { IsVersion self.old.version }
+        requires numbered { 1 ≤ line }
+        ensures ok { OnOk result (JudgesLine A begun this.now after.now (judgement self.old) (judgement self.new)) }
+        ensures err { IfErr result (λ fault. fault ≢ FaultKind.NoMemory →
+            RefusesLine self.old.version begun this.now fault) }
+    {
+        if let Some(said) = frequent(this) {
+            self.count(line, said.spelled_len());
+            return Ok(());
+        }
+        match by_fields(self.version, this, begun) {
+            Ok(Entry::Slot(slot)) => {
+                if self.slots.push(slot).is_err() {
+                    return Err(FaultKind::NoMemory);
+                }
+                self.events = after;
+                Ok(())
+            }
+            Ok(Entry::Event(said)) => {
+                self.count(line, said.spelled_len());
+                Ok(())
+            }
+            Err(fault) => Err(fault),
+        }
+    }
+
+    // Counts the bytes that a line spells.
+    fn count(&mut self, line: u64, len: usize)
+        ensures { judgement self.new ≡ (if nat_lt (judgement self.old).longest len then record (judgement self.old) { longest = len; longest_line = line } else judgement self.old) }
+    {
+        if len > self.longest {
+            self.longest = len;
+            self.longest_line = line;
+        }
+    }
+}

@@ -1,0 +1,55 @@
+//! The table of a trace's lines: which fields stand after each word.
+
+ghost use Rattle.std.specs.Prelude.{◌≡◌, ℕ, List, map};
+ghost use Rattle.trace.specs.Words.{shape_of, shapes, width_among};
+
+use crate::version::VERSION_2;
+use crate::word::Word;
+
+/// What a field after the first one says.
+#[derive(Clone, Copy, Debug, PartialEq, Eq)]
+pub enum Field {
+    /// How many sectors the cache keeps.
+    Sectors,
+    /// Where a slot's memory begins, and how many bytes it has.
+    Base,
+    Size,
+    /// The first sector of a slot's extent, and how many it has.
+    Start,
+    Count,
+    /// Whether a slot's disk is read-only.
+    Mode,
+    Columns,
+    Rows,
+    Identity,
+    /// The number of a slot.
+    Slot,
+    Window,
+    Offset,
+    Width,
+    /// What is written to a register. It is read by the width beside it.
+    Value,
+    Address,
+    Length,
+    Bytes,
+}
+
+/// The fields after a word in a version, in their order.
+pub fn fields_after(version: u8, word: Word) -> &'static [Field]
+    ensures { (fields : List (List ℕ)) → map (shape_of (width_among fields)) result.now ≡ shapes version word fields }
+{
+    use Field::*;
+    match word {
+        Word::Cache => &[Sectors],
+        Word::Slot if version == VERSION_2 => {
+            &[Base, Size, Start, Count, Mode, Columns, Rows, Identity]
+        }
+        Word::Slot => &[Base, Size, Start, Count, Mode, Columns, Rows],
+        Word::Read => &[Slot, Window, Offset, Width],
+        Word::Write => &[Slot, Window, Offset, Width, Value],
+        Word::MemRead => &[Slot, Address, Length],
+        Word::MemWrite => &[Slot, Address, Bytes],
+        Word::Input => &[Slot, Bytes],
+        Word::Resize => &[Slot, Columns, Rows],
+    }
+}

@@ -1,6 +1,0 @@
-use Rattle.std.proofs.Common.{◌∙◌, ap}
-use Rattle.sector_cache.specs.Disk.{new_disk}
-use Rattle.vreplay.proofs.image.zero_image.Goals as goal
-
-pub returns-clause-zeros : goal.returns-clause-zeros
-returns-clause-zeros g c = c.in-Ok-new.ensures.seen ∙ ap new_disk c.in-Ok.ensures
