@@ -92,7 +92,7 @@ static void check_order(const char *steps, const char *wanted, uint64_t number)
 
 /* ---- an outlet's room to the byte */
 
-/* Offers a chain of so many bytes in the place of the one on offer, and notifies. */
+/* Offers a chain of so many bytes instead of the one on offer, and notifies. */
 static uint32_t put_out(struct kalyubos *board, uint32_t len)
 {
     static const uint8_t one[] = { 1, 0, 0, 0 };

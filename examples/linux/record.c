@@ -237,7 +237,7 @@ uint32_t record_read(struct kalyubos *board, uint8_t slot, uint8_t window, uint1
     return answer;
 }
 
-/* A write that is refused for want of room is written down once it is made again and done, and what it changed then. */
+/* A write for which there is no room is recorded when it is made again and done, with what it changed then. */
 uint32_t record_write(struct kalyubos *board, uint8_t slot, uint8_t window, uint16_t offset, uint8_t width,
                       uint32_t value, struct kalyubos_pending *pending)
 {

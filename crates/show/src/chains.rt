@@ -1,0 +1,203 @@
+//! The chain that a service takes next, asked of a copy of its ring before the service goes on.
+
+ghost use Rattle.std.specs.Prelude.{IfSome, All};
+ghost use Rattle.chain.specs.Buffers.{Good};
+
+use crate::request::{RequestSeen, request_seen};
+use crate::text::Text;
+use block_device::BlockDevice;
+use chain::{Buffer, Chain, Fault};
+use guest_memory::GuestMemory;
+use indirect::INDIRECT;
+use mmio_window::{Queue, Token};
+use packed_ring::PackedRing;
+use split_ring::SplitRing;
+use std::alloc::Allocator;
+
+/// What stands before a service at its ring's place.
+#[derive(Clone, Copy, Debug, PartialEq, Eq)]
+pub enum Ahead {
+    /// A chain, by its head or its buffer id, and what it asks of a block device.
+    Chain {
+        place: u16,
+        head: u16,
+        request: Option<RequestSeen>,
+    },
+    /// What can't be served.
+    Fault(Fault),
+    /// No chain.
+    Nothing,
+}
+
+/// Asks a copy of the ring what a service takes next, which opens where `opens`. The chain is left in `chain`, and said.
+pub fn look_ahead<A: Allocator, T: Allocator>(
+    mem: &GuestMemory<A>,
+    queue: &Queue,
+    device: Option<&BlockDevice>,
+    opens: bool,
+    chain: &mut Chain,
+    text: &mut Text<T>,
+) -> Ahead {
+    chain.clear();
+    if !queue.lies_in(mem) {
+        return Ahead::Nothing;
+    }
+    let mut copy = queue.copied();
+    if opens {
+        if let Err(fault) = copy.open(mem) {
+            return Ahead::Fault(fault);
+        }
+    }
+    match copy.take(mem, chain) {
+        Ok(Some(token)) => {
+            let request = match device {
+                Some(device) => Some(request_seen(device, mem, chain)),
+                None => None,
+            };
+            say_chain(text, mem, queue, &token, chain);
+            let (place, head) = parts_of(&token);
+            Ahead::Chain {
+                place,
+                head,
+                request,
+            }
+        }
+        Ok(None) => Ahead::Nothing,
+        Err(fault) => Ahead::Fault(fault),
+    }
+}
+
+// The place of a token, and the head or the buffer id.
+fn parts_of(token: &Token) -> (u16, u16) {
+    match token {
+        Token::Split(token) => (token.place, token.head),
+        Token::Packed(token) => (token.place, token.id),
+    }
+}
+
+// Says a chain with its buffers, and which descriptor each of them came from.
+fn say_chain<A: Allocator, T: Allocator>(
+    text: &mut Text<T>,
+    mem: &GuestMemory<A>,
+    queue: &Queue,
+    token: &Token,
+    chain: &Chain,
+) {
+    let (_, head) = parts_of(token);
+    text.say("  chain ");
+    text.count(u64::from(head));
+    text.say(":");
+    let mut origin = match (queue, token) {
+        (Queue::Packed(ring), Token::Packed(_)) => Origin::At(ring.position()),
+        _ => Origin::At(head),
+    };
+    let mut gap = " ";
+    for buffer in chain.buffers() {
+        text.say(gap);
+        say_buffer(text, *buffer);
+        origin = match queue {
+            Queue::Split(ring) => say_split_origin(text, mem, ring, origin),
+            Queue::Packed(ring) => say_packed_origin(text, mem, ring, origin),
+        };
+        gap = ", ";
+    }
+    if chain.buffers().is_empty() {
+        text.say(" no buffers");
+    }
+    text.say("\n");
+}
+
+/// Says a buffer: whether it is read or written, its address and its length.
+pub fn say_buffer<T: Allocator>(text: &mut Text<T>, buffer: Buffer) {
+    text.say(if buffer.writable { "writes " } else { "reads " });
+    text.hex(buffer.segment.addr);
+    text.say("+");
+    text.hex(u64::from(buffer.segment.len));
+}
+
+/// Where a buffer of a chain came from.
+#[derive(Clone, Copy)]
+enum Origin {
+    /// The descriptor at this index or position.
+    At(u16),
+    /// An indirect table at this address.
+    Table(u64),
+    Nowhere,
+}
+
+// Says which descriptor of a split ring the next buffer came from, and answers that of the buffer behind it.
+fn say_split_origin<A: Allocator, T: Allocator>(
+    text: &mut Text<T>,
+    mem: &GuestMemory<A>,
+    ring: &SplitRing,
+    origin: Origin,
+) -> Origin {
+    match origin {
+        Origin::At(index) => {
+            if !ring.lies_in(mem) {
+                return Origin::Nowhere;
+            }
+            match ring.descriptor(mem, index) {
+                Some(found) if found.indirect => say_table(text, found.buffer.segment.addr),
+                Some(found) => {
+                    say_index(text, index);
+                    match found.next {
+                        Some(next) => Origin::At(next),
+                        None => Origin::Nowhere,
+                    }
+                }
+                None => Origin::Nowhere,
+            }
+        }
+        Origin::Table(addr) => say_table(text, addr),
+        Origin::Nowhere => Origin::Nowhere,
+    }
+}
+
+// The same of a packed ring.
+fn say_packed_origin<A: Allocator, T: Allocator>(
+    text: &mut Text<T>,
+    mem: &GuestMemory<A>,
+    ring: &PackedRing,
+    origin: Origin,
+) -> Origin {
+    match origin {
+        Origin::At(position) => {
+            if !ring.lies_in(mem) {
+                return Origin::Nowhere;
+            }
+            match ring.descriptor(mem, position) {
+                Some((table, _, flags)) if flags & INDIRECT != 0 => {
+                    say_table(text, table.segment.addr)
+                }
+                Some(_) => {
+                    say_index(text, position);
+                    let next = position.wrapping_add(1);
+                    if ring.descriptor(mem, next).is_some() {
+                        Origin::At(next)
+                    } else {
+                        Origin::At(0)
+                    }
+                }
+                None => Origin::Nowhere,
+            }
+        }
+        Origin::Table(addr) => say_table(text, addr),
+        Origin::Nowhere => Origin::Nowhere,
+    }
+}
+
+// Says the index of a descriptor.
+fn say_index<T: Allocator>(text: &mut Text<T>, index: u16) {
+    text.say(" (");
+    text.count(u64::from(index));
+    text.say(")");
+}
+
+// Says the table that a buffer came from.
+fn say_table<T: Allocator>(text: &mut Text<T>, addr: u64) -> Origin {
+    text.say(" (table ");
+    text.hex(addr);
+    text.say(")");
+    Origin::Table(addr)
+}

@@ -1,0 +1,428 @@
+//! Going along with a replay: each event is handled by a board of one's own, and said.
+
+use crate::event::{SHOWN, say_event, say_place, say_value};
+use crate::guest::{ring_of, window_of};
+use crate::mistakes::{Mistake, read_mistake, write_mistake};
+use crate::names::say_interrupts;
+use crate::service::{Served, serve};
+use crate::state::{NEW_WINDOW, WindowSeen, say_changes, window_seen};
+use crate::tables::{Table, say_on_offer};
+use crate::text::Text;
+use board::{Board, DeviceKind, Event, EventKind, Image, Reply, SlotSpec};
+use chain::{Chain, Fault};
+use mmio_window::Queue;
+use negotiation::{Features, Flags};
+use std::alloc::{AllocError, Allocator};
+use trace::Trace;
+
+/// The offset of QueueNotify (4.2.2).
+const QUEUE_NOTIFY: u16 = 0x050;
+
+/// How many mistakes are listed.
+const MOST_LISTED: u64 = 1000;
+
+/// What was said last of a guest's windows, and of its queues' descriptors.
+#[derive(Drop)]
+struct Guest<A: Allocator> {
+    block: WindowSeen,
+    console: WindowSeen,
+    requests: Table<A>,
+    receive: Table<A>,
+    transmit: Table<A>,
+}
+
+/// A board that goes along, and what was seen of it.
+#[derive(Drop)]
+pub struct Watcher<I: Image + Drop, A: Allocator> {
+    board: Board<I, A>,
+    alloc: A,
+    guests: Vec<Guest<A>, A>,
+    chain: Chain,
+    output: Vec<u8, A>,
+    /// The list of mistakes.
+    list: Text<A>,
+    events: u64,
+    mistakes: u64,
+    faults: u64,
+}
+
+impl<I: Image + Drop, A: Allocator + Copy> Watcher<I, A> {
+    /// One over a new board.
+    pub fn new(alloc: A, board: Board<I, A>) -> Result<Watcher<I, A>, AllocError> {
+        let mut guests = Vec::with_capacity(alloc, board.slots())?;
+        for slot in 0..board.slots().min(64) {
+            guests.push(Guest {
+                block: seen(&board, slot as u8, DeviceKind::Block),
+                console: seen(&board, slot as u8, DeviceKind::Console),
+                requests: Table::new(alloc),
+                receive: Table::new(alloc),
+                transmit: Table::new(alloc),
+            })?;
+        }
+        Ok(Watcher {
+            board,
+            alloc,
+            guests,
+            chain: Chain::new(),
+            output: Vec::new(alloc),
+            list: Text::new(alloc),
+            events: 0,
+            mistakes: 0,
+            faults: 0,
+        })
+    }
+
+    /// Says the board of a trace, a line for each of the trace's.
+    pub fn say_board(&self, trace: &Trace<A>, text: &mut Text<A>) {
+        text.say("1 version ");
+        text.count(u64::from(trace.version));
+        text.say("\n2 cache of ");
+        text.counted(u64::from(trace.cache), "sector");
+        text.say("\n");
+        for (number, slot) in trace.slots.iter().enumerate() {
+            say_slot(text, number as u64, slot);
+        }
+    }
+
+    /// Handles the event of a line. What it was goes to `head`, and what came of it to `tail`.
+    pub fn event(&mut self, line: u64, event: &Event<A>, head: &mut Text<A>, tail: &mut Text<A>) {
+        self.events = self.events.saturating_add(1);
+        let slot = event.slot;
+        head.count(line);
+        head.say(" guest ");
+        head.count(u64::from(slot));
+        head.say(" ");
+        say_place(head, &event.what);
+        head.say(": ");
+        say_event(head, &event.what);
+        let Some(words) = self.board.interrupts(slot) else {
+            head.say(" -> no such guest");
+            return;
+        };
+        match &event.what {
+            EventKind::Read {
+                window,
+                offset,
+                width,
+            } => {
+                if let Reply::Value(value) = self.board.step(event, &mut self.output) {
+                    head.say(" -> ");
+                    say_value(head, *offset, *width, value);
+                }
+                self.note(line, slot, read_mistake(*offset, *width), tail);
+                let _ = window;
+            }
+            EventKind::MemRead { addr, len } => self.read_memory(slot, *addr, *len, head),
+            _ => self.change(line, event, words, head, tail),
+        }
+    }
+
+    // A read of memory, of which the bytes stand in the record.
+    fn read_memory(&self, slot: u8, addr: u64, len: u32, head: &mut Text<A>) {
+        if let Some(mem) = self.board.memory(slot) {
+            if !mem.holds(addr, u64::from(len)) {
+                head.say(" -> outside memory");
+            }
+        }
+    }
+
+    // An event that may change something.
+    fn change(
+        &mut self,
+        line: u64,
+        event: &Event<A>,
+        words: (u8, u8),
+        head: &mut Text<A>,
+        tail: &mut Text<A>,
+    ) {
+        self.output.clear();
+        let slot = event.slot;
+        let mut fault = None;
+        let mut mistake = None;
+        let mut is_packed = false;
+        let reply = match served_of(&self.board, event) {
+            Some(served) => {
+                let service = serve(
+                    &mut self.board,
+                    served,
+                    &event.what,
+                    &mut self.chain,
+                    &mut self.output,
+                    self.alloc,
+                    tail,
+                );
+                fault = service.fault;
+                mistake = service.mistake;
+                is_packed = is_packed_queue(&self.board, served);
+                service.reply
+            }
+            None => self.board.step(event, &mut self.output),
+        };
+        self.say_answer(slot, &reply, words, head);
+        if fault.is_some() {
+            self.faults = self.faults.saturating_add(1);
+        }
+        self.say_states(slot, event, line, tail);
+        self.note(line, slot, mistake, tail);
+        self.note(line, slot, fault_mistake(fault, is_packed), tail);
+    }
+
+    // Says the answer of an event, the interrupts that it raised and what the console put out.
+    fn say_answer(&mut self, slot: u8, reply: &Reply<A>, words: (u8, u8), head: &mut Text<A>) {
+        match reply {
+            Reply::Took(count) => {
+                head.say(" -> took ");
+                head.count(*count as u64);
+            }
+            Reply::BadRange => head.say(" -> outside memory"),
+            Reply::NoMemory => head.say(" -> no memory"),
+            Reply::BadSlot => head.say(" -> no such guest"),
+            _ => {}
+        }
+        if let Some((block, console)) = self.board.interrupts(slot) {
+            say_raised(head, "block", words.0, block);
+            say_raised(head, "console", words.1, console);
+        }
+        if !self.output.is_empty() {
+            head.say("; puts out ");
+            head.quoted(self.output.as_slice(), SHOWN);
+        }
+    }
+
+    // Says what of the slot's windows isn't as it was said last, and what was wrong with a write to one.
+    fn say_states(&mut self, slot: u8, event: &Event<A>, line: u64, tail: &mut Text<A>) {
+        let Some(guest) = self.guests.get_mut(usize::from(slot)) else {
+            return;
+        };
+        let old = (guest.block, guest.console);
+        let new = (
+            seen(&self.board, slot, DeviceKind::Block),
+            seen(&self.board, slot, DeviceKind::Console),
+        );
+        guest.block = new.0;
+        guest.console = new.1;
+        guest.say_changes(&self.board, slot, &old, &new, tail);
+        if let EventKind::Write {
+            window,
+            offset,
+            width,
+            value,
+        } = &event.what
+        {
+            let mistake = match window {
+                DeviceKind::Block => { write_mistake(*offset, *width, *value, &old.0, &new.0) }
+                DeviceKind::Console => { write_mistake(*offset, *width, *value, &old.1, &new.1) }
+            };
+            self.note(line, slot, mistake, tail);
+        }
+    }
+
+    // Says a mistake where it was made, and puts it into the list.
+    fn note(&mut self, line: u64, slot: u8, mistake: Option<Mistake>, tail: &mut Text<A>) {
+        let Some(mistake) = mistake else {
+            return;
+        };
+        self.mistakes = self.mistakes.saturating_add(1);
+        tail.say("  mistake ");
+        tail.say(mistake.section());
+        tail.say(": ");
+        tail.say(mistake.sentence());
+        tail.say("\n");
+        if self.mistakes <= MOST_LISTED {
+            self.list.say("  line ");
+            self.list.count(line);
+            self.list.say(", guest ");
+            self.list.count(u64::from(slot));
+            self.list.say(", ");
+            self.list.say(mistake.section());
+            self.list.say(": ");
+            self.list.say(mistake.sentence());
+            self.list.say("\n");
+        }
+    }
+
+    /// Says how many events there were, and the list of mistakes.
+    pub fn say_end(&self, text: &mut Text<A>) {
+        text.say("end: ");
+        text.counted(self.events, "event");
+        text.say(", ");
+        text.counted(self.faults, "fault");
+        text.say(", ");
+        text.counted(self.mistakes, "mistake");
+        text.say("\n");
+        text.put(self.list.bytes());
+        if self.mistakes > MOST_LISTED {
+            text.say("  and ");
+            text.count(self.mistakes - MOST_LISTED);
+            text.say(" more\n");
+        }
+    }
+}
+
+impl<A: Allocator> Guest<A> {
+    // Says what of the windows and of the queues isn't as it was.
+    fn say_changes<I: Image>(
+        &mut self,
+        board: &Board<I, A>,
+        slot: u8,
+        old: &(WindowSeen, WindowSeen),
+        new: &(WindowSeen, WindowSeen),
+        text: &mut Text<A>,
+    ) {
+        let (block, console) = (DeviceKind::Block, DeviceKind::Console);
+        say_changes(text, block, &old.0, &new.0);
+        say_changes(text, console, &old.1, &new.1);
+        say_queue(
+            text,
+            board,
+            slot,
+            (block, 0),
+            &mut self.requests,
+            &old.0,
+            &new.0,
+        );
+        say_queue(
+            text,
+            board,
+            slot,
+            (console, 0),
+            &mut self.receive,
+            &old.1,
+            &new.1,
+        );
+        say_queue(
+            text,
+            board,
+            slot,
+            (console, 1),
+            &mut self.transmit,
+            &old.1,
+            &new.1,
+        );
+    }
+}
+
+// Says what is on offer in a queue, and its descriptors, where they aren't as they were.
+fn say_queue<I: Image, A: Allocator>(
+    text: &mut Text<A>,
+    board: &Board<I, A>,
+    slot: u8,
+    queue: (DeviceKind, u32),
+    table: &mut Table<A>,
+    old: &WindowSeen,
+    new: &WindowSeen,
+) {
+    let (kind, index) = queue;
+    let (Some(mem), Some(window)) = (board.memory(slot), window_of(board, slot, kind)) else {
+        return;
+    };
+    let Some(registers) = window.registers(index) else {
+        return;
+    };
+    table.say_changes(text, mem, kind, index, registers);
+    let ([old_0, old_1], [new_0, new_1]) = (&old.queues, &new.queues);
+    if index == 0 {
+        say_on_offer(text, mem, kind, index, old_0, new_0);
+    } else {
+        say_on_offer(text, mem, kind, index, old_1, new_1);
+    }
+}
+
+// Says a slot of a trace.
+fn say_slot<A: Allocator>(text: &mut Text<A>, number: u64, slot: &SlotSpec) {
+    text.count(number.wrapping_add(3));
+    text.say(" guest ");
+    text.count(number);
+    text.say(": memory ");
+    text.hex(slot.base);
+    text.say("+");
+    text.hex(slot.len);
+    text.say(", ");
+    text.counted(slot.extent.count, "sector");
+    text.say(" from ");
+    text.count(slot.extent.start);
+    text.say(if slot.read_only {
+        ", read-only"
+    } else {
+        ", writable"
+    });
+    text.say(", console ");
+    text.count(u64::from(slot.cols));
+    text.say(" by ");
+    text.count(u64::from(slot.rows));
+    text.say("\n");
+}
+
+// What is seen of a slot's window.
+fn seen<I: Image, A: Allocator>(board: &Board<I, A>, slot: u8, kind: DeviceKind) -> WindowSeen {
+    let window = window_of(board, slot, kind);
+    match (board.memory(slot), window) {
+        (Some(mem), Some(window)) => window_seen(mem, window),
+        _ => NEW_WINDOW,
+    }
+}
+
+// The queue that an event serves, where it may serve one.
+fn served_of<I: Image, A: Allocator>(board: &Board<I, A>, event: &Event<A>) -> Option<Served> {
+    let slot = event.slot;
+    let (kind, queue) = match &event.what {
+        EventKind::Write {
+            window,
+            offset: QUEUE_NOTIFY,
+            width: 4,
+            value,
+        } => (*window, queue_named(board, slot, *window, *value)?),
+        EventKind::Input { .. } => (DeviceKind::Console, 0),
+        _ => return None,
+    };
+    let window = window_of(board, slot, kind)?;
+    let registers = window.registers(queue)?;
+    if window.negotiation().live() && registers.ring.is_some() {
+        Some(Served { slot, kind, queue })
+    } else {
+        None
+    }
+}
+
+// The queue that a value of QueueNotify names (4.2.3.3).
+fn queue_named<I: Image, A: Allocator>(
+    board: &Board<I, A>,
+    slot: u8,
+    kind: DeviceKind,
+    value: u32,
+) -> Option<u32> {
+    let window = window_of(board, slot, kind)?;
+    let features = window.negotiation().negotiated();
+    if features.contains(Features::NOTIFICATION_DATA) {
+        Some(value % 0x1_0000)
+    } else {
+        Some(value)
+    }
+}
+
+// Whether a queue's ring is packed.
+fn is_packed_queue<I: Image, A: Allocator>(board: &Board<I, A>, served: Served) -> bool {
+    matches!(
+        ring_of(board, served.slot, served.kind, served.queue),
+        Some(Queue::Packed(_))
+    )
+}
+
+// What a fault shows that the standard forbids a driver. Its sections are those of split rings.
+fn fault_mistake(fault: Option<Fault>, is_packed: bool) -> Option<Mistake> {
+    match fault {
+        Some(fault) if !is_packed => Mistake::of_fault(fault),
+        _ => None,
+    }
+}
+
+// Says the reasons of interrupts that an event raised.
+fn say_raised<A: Allocator>(text: &mut Text<A>, device: &str, old: u8, new: u8) {
+    let raised = new & !old;
+    if raised != 0 {
+        text.say("; raises ");
+        text.say(device);
+        text.say(" ");
+        say_interrupts(text, u32::from(raised));
+    }
+}
