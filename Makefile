@@ -1,6 +1,6 @@
 # The two commands of the README, the library and its installing, the measurements, tries from outside, the hosts of the
 # library, and the suite. The first sentence above a target is its line in make help.
-.PHONY: run test help library install uninstall bench fuzz broken trouble embed linux linux-test linux-picture stress doors peer mutants
+.PHONY: run show vshow look-test look-picture show-check test help library install uninstall bench fuzz broken trouble embed linux linux-test linux-picture stress doors peer mutants
 
 TRACE ?= examples/two-guests.trace
 IMAGE ?=
@@ -20,6 +20,28 @@ run:
 	@cd crates/vreplay && mkdir -p out && rt run < stdin > out/run.log || { tail -20 out/run.log >&2; exit 1; }
 	@echo "Replaying $(TRACE):" >&2
 	@$(if $(IMAGE),$(PROGRAM) "$(TRACE)" "$(IMAGE)" $(if $(SAVE),--save "$(SAVE)"),$(PROGRAM) < "$(TRACE)")
+
+# Says what happened in a trace, in the standard's names. TRACE=FILE names it, IMAGE=FILE an image to replay it over, and
+# PAGE=FILE has it as one page to look at.
+show: vshow
+	@crates/show/out/vshow "$(TRACE)" $(if $(IMAGE),"$(IMAGE)") $(if $(PAGE),--page "$(PAGE)")
+
+# Proves and builds vshow.
+vshow:
+	@cd crates/show && mkdir -p out && rt run > out/run.log 2>&1 || { tail -20 out/run.log >&2; exit 1; }
+	@cp crates/show/out/show crates/show/out/vshow
+
+# Opens pages of vshow in a headless Chromium, and compares what they show with the text; it wants chromium and python3.
+look-test: vshow
+	@crates/show/look/test crates/show/out/vshow
+
+# Draws the picture of the page in the README anew.
+look-picture: look-test
+	@cp crates/show/look/out/broken-driver.png examples/broken-driver.png
+
+# Compares what vshow says with records, over every scenario and N traces of the fuzzer from the seed FROM on.
+show-check: vshow
+	@crates/show/look/check --fuzz $(N) --from $(FROM) crates/show/out/vshow
 
 # The gate: every proof from nothing, the must-fail edits, the tests and the programs.
 test:

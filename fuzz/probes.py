@@ -33,7 +33,7 @@ class Probes:
         driver.bring_up()
 
     def bring_up(self, kind, size, tells_next):
-        """Brings the driver up over a virtqueue of that kind and size, in the place of its own."""
+        """Brings the driver up over a virtqueue of that kind and size, instead of its own."""
         own = self.driver.queues[0]
         queue = kind(self.guest, "b", 0, size, own.at, own.indirect, tells_next)
         self.driver.queues = [queue]
