@@ -175,7 +175,7 @@ static void open_board(uint8_t guests)
             .size = sizeof *slots, .base = MEMORY, .len = 0x100000, .count = i + 1 == guests ? SECTORS : 0,
             .cols = 80, .rows = 25, .outlet = OUTLET,
         };
-    must(kalyubos_create(&board, slots, guests, image, sizeof image, 8));
+    must(kalyubos_create(&board, slots, guests, image, sizeof image, 8, 0, 0));
     guest = guests - 1;
     idx = 0;
     must(kalyubos_memory(&board, guest, &memory, &memory_len));

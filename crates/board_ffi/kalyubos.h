@@ -17,13 +17,15 @@
  *    them turns a smaller stack into a fault.
  *  - No call is made in the forked child of a process that had threads. The heap functions return: they neither jump
  *    out by longjmp nor throw.
- *  - While a call for a guest runs, no CPU of that guest runs, and nobody reads or writes its memory in place
- *    (kalyubos_memory). CPUs of other guests may run then: a call reads and writes no memory but that of its guest.
+ *  - While a call for a guest runs, and from a KALYUBOS_MORE until its service is done, no CPU of that guest runs, and
+ *    nobody reads or writes its memory in place (kalyubos_memory). CPUs of other guests may run then: a call reads and
+ *    writes no memory but that of its guest.
  *
  * The library is built for x86-64-v2 (SSE4.2 and POPCNT) and Linux's calling convention.
  *
  * Nothing of the caller's is kept: a call copies what it needs. Each answers a number, and after any but
- * KALYUBOS_DONE its out parameters are as they were, but that `pending` is told after KALYUBOS_NO_ROOM as well.
+ * KALYUBOS_DONE its out parameters are as they were, but that `pending` is told after every number that a slot which is
+ * there is answered, and `took` after KALYUBOS_MORE as well.
  * The numbers of the answers are fixed for good; a later version only adds some.
  *
  * A struct that the host fills begins with its `size`, its sizeof in the header that the host was built with. This
@@ -49,8 +51,8 @@
 extern "C" {
 #endif
 
-/* The version of this header, 0.1.0: 10000 for each major version, 100 for each minor one, and the patch. */
-#define KALYUBOS_VERSION 100
+/* The version of this header, 0.2.0: 10000 for each major version, 100 for each minor one, and the patch. */
+#define KALYUBOS_VERSION 200
 
 /*
  * The KALYUBOS_VERSION that the library was built with. A host fits a library of the same major version and, before
@@ -77,7 +79,9 @@ enum {
     KALYUBOS_BAD_CACHE = 14,        /* a cache keeps 1 to 65536 sectors */
     KALYUBOS_NO_ROOM = 15,          /* the console's next output doesn't fit behind what waits; see kalyubos_write */
     KALYUBOS_BAD_OUTLET = 16,       /* an outlet keeps 2^24 bytes at most */
-    KALYUBOS_BAD_SIZE = 17          /* a struct has another size than this version's */
+    KALYUBOS_BAD_SIZE = 17,         /* a struct has another size than this version's */
+    KALYUBOS_MORE = 18,             /* the slot's service pauses; see kalyubos_go_on */
+    KALYUBOS_BUSY = 19              /* a service of the slot is paused; nothing changed */
 };
 
 /* A slot's windows, each of 4096 bytes. */
@@ -119,11 +123,15 @@ struct kalyubos_slot {
  * that holds, else BAD_OUTLET, else the first of the numbers from NO_SLOTS to BAD_CACHE that holds, those of a slot
  * looked for slot by slot; NO_MEMORY may come in the place of the latter.
  *
+ * `chains` and `bytes` are the budget of one call, and 0 is no limit: a call serves no more than so many chains, and
+ * begins no further chain once those before it had so many bytes in their buffers. So one call moves `bytes` and one
+ * chain at most. Without a limit nothing ever pauses.
+ *
  * Choose each outlet for the longest chain that the guest's driver sends: one that is longer than `outlet` is never
  * let through, however often it is tried. Linux's console sends up to 32 KiB at once.
  */
 uint32_t kalyubos_create(struct kalyubos *board, const struct kalyubos_slot *slots, size_t slots_len,
-                         const uint8_t *image, size_t image_len, uint32_t cache);
+                         const uint8_t *image, size_t image_len, uint32_t cache, uint32_t chains, uint64_t bytes);
 
 /*
  * Ends the board, frees its memory and leaves the handle empty. Take the image's bytes out before, and let go of
@@ -139,8 +147,9 @@ uint32_t kalyubos_read(struct kalyubos *board, uint8_t slot, uint8_t window, uin
                        uint32_t *value);
 
 /*
- * A guest's write. What it notifies is served before the call returns, and `pending` is what then waits, after DONE
- * and after NO_ROOM: set both lines by it, and take the output where there is some.
+ * A guest's write. What it notifies is served before the call returns, or up to the budget: then the answer is MORE.
+ * `pending` is what then waits, also after NO_ROOM and MORE: set both lines by it, and take the output where there is
+ * some.
  *
  * NO_ROOM: what the console puts out next, a chain of its transmit queue or the byte of an emergency write, doesn't
  * fit behind what waits in the slot's outlet. The chains before it are served; it is still on offer, and nothing of it
@@ -149,6 +158,17 @@ uint32_t kalyubos_read(struct kalyubos *board, uint8_t slot, uint8_t window, uin
  */
 uint32_t kalyubos_write(struct kalyubos *board, uint8_t slot, uint8_t window, uint16_t offset, uint8_t width,
                         uint32_t value, struct kalyubos_pending *pending);
+
+/*
+ * Goes on with the service of a slot that is paused, within the budget, and answers as the call did that it serves:
+ * DONE at its end, NO_ROOM, or MORE again. Where none is paused it answers DONE and changes nothing. `pending` is what
+ * then waits.
+ *
+ * From MORE until the end of the service the guest waits as in a long call: every call for its slot but this one is
+ * answered BUSY and changes nothing, except kalyubos_interrupts, kalyubos_disturbed and kalyubos_take_output. Calls for
+ * other slots may stand in between, and no guest sees that one paused.
+ */
+uint32_t kalyubos_go_on(struct kalyubos *board, uint8_t slot, struct kalyubos_pending *pending);
 
 /*
  * Lends the slot's memory in place: `bytes` is where its first byte lies, that of address `base`, and `len` how many
@@ -167,7 +187,7 @@ uint32_t kalyubos_write_memory(struct kalyubos *board, uint8_t slot, uint64_t ad
  * Types bytes to the slot's console; `took` is how many it took, the first ones: it keeps 4096 until its guest reads
  * them. `pending` is what then waits. Type the others again until none is taken, then after the guest's next calls:
  * what was taken may have gone to the guest's buffers at once, and a driver that finds buffers enough doesn't notify
- * for more.
+ * for more. After MORE too `took` bytes were taken; kalyubos_go_on brings them to the guest.
  */
 uint32_t kalyubos_input(struct kalyubos *board, uint8_t slot, const uint8_t *bytes, size_t bytes_len, size_t *took,
                         struct kalyubos_pending *pending);

@@ -121,7 +121,7 @@ int main(void)
         { sizeof *slots, MEMORY, MEMORY_LEN, 0, 2, 80, 25, OUTLET, false, "first half" },
         { sizeof *slots, MEMORY, MEMORY_LEN, 2, 2, 80, 25, OUTLET, false, "second half" },
     };
-    must(kalyubos_create(&board, slots, GUESTS, image, sizeof image, 8), "create");
+    must(kalyubos_create(&board, slots, GUESTS, image, sizeof image, 8, 0, 0), "create");
 
     static struct guest guests[GUESTS];
     for (uint8_t slot = 0; slot < GUESTS; slot++)

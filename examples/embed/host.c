@@ -159,7 +159,7 @@ int main(void)
         .size = sizeof slot, .base = MEMORY, .len = MEMORY_LEN, .start = 0, .count = 2, .cols = 80, .rows = 25,
         .outlet = OUTLET, .identity = "a disk of two",
     };
-    must(kalyubos_create(&board, &slot, 1, image, sizeof image, 8), "create");
+    must(kalyubos_create(&board, &slot, 1, image, sizeof image, 8, 0, 0), "create");
 
     guest();
 

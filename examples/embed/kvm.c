@@ -179,7 +179,7 @@ int main(void)
         { .size = sizeof *slots, .len = MEMORY_LEN, .start = 2, .count = 2, .cols = 80, .rows = 25, .outlet = OUTLET,
           .identity = "second half" },
     };
-    must_do(kalyubos_create(&board, slots, GUESTS, image, sizeof image, 8), "create");
+    must_do(kalyubos_create(&board, slots, GUESTS, image, sizeof image, 8, 0, 0), "create");
 
     static struct guest guests[GUESTS];
     pthread_t threads[GUESTS];

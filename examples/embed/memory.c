@@ -125,7 +125,7 @@ int main(void)
         { .size = sizeof *slots, .base = MEMORY, .len = MEMORY_LEN, .start = SECTORS, .count = SECTORS, .outlet = 8 },
     };
     need(kalyubos_version() == KALYUBOS_VERSION, "the library is of another version than the header");
-    need(kalyubos_create(&board, slots, GUESTS, image, sizeof image, 4) == KALYUBOS_DONE, "create");
+    need(kalyubos_create(&board, slots, GUESTS, image, sizeof image, 4, 0, 0) == KALYUBOS_DONE, "create");
     lend();
     copy();
     serve();

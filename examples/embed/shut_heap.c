@@ -41,7 +41,7 @@ uint32_t create(struct kalyubos *board, const struct kalyubos_slot *slots, size_
                 size_t image_len, uint32_t cache)
 {
     is_open = true;
-    uint32_t answer = kalyubos_create(board, slots, count, image, image_len, cache);
+    uint32_t answer = kalyubos_create(board, slots, count, image, image_len, cache, 0, 0);
     is_open = false;
     return answer;
 }

@@ -289,7 +289,7 @@ static void make(struct kalyubos *board)
     size_t count = chance(50) ? SLOTS : chance(MOST + 1), which = chance(MOST);
     bool other_size = chance(50) == 0;
     slots[which].size += other_size;
-    uint32_t answer = kalyubos_create(board, slots, count, image, sizeof image, chance(50) ? 8 : 0);
+    uint32_t answer = kalyubos_create(board, slots, count, image, sizeof image, chance(50) ? 8 : 0, 0, 0);
     slots[which].size -= other_size;
     heap_is_open = false;
     if ((answer == KALYUBOS_BAD_SIZE) != (!had && other_size && which < count))
@@ -363,7 +363,7 @@ int main(int argc, char **argv)
         open_files(argv[3], argv[4]);
     heap_is_open = true;
     for (int i = 0; i < BOARDS; i++)
-        if (kalyubos_create(&boards[i], slots, SLOTS, image, sizeof image, 8) != KALYUBOS_DONE)
+        if (kalyubos_create(&boards[i], slots, SLOTS, image, sizeof image, 8, 0, 0) != KALYUBOS_DONE)
             fail("first create", 0);
     heap_is_open = false;
     refuses = records == NULL ? 50 : 0;

@@ -27,9 +27,10 @@ static void put_out(const char *text)
 }
 
 uint32_t kalyubos_create(struct kalyubos *board, const struct kalyubos_slot *slots, size_t slots_len,
-                         const uint8_t *image, size_t image_len, uint32_t cache)
+                         const uint8_t *image, size_t image_len, uint32_t cache, uint32_t chains, uint64_t bytes)
 {
     (void)slots, (void)slots_len, (void)image, (void)image_len, (void)cache;
+    (void)chains, (void)bytes;
     board->at = memory = calloc(LEN, 1);
     return memory != NULL ? KALYUBOS_DONE : KALYUBOS_NO_MEMORY;
 }

@@ -211,7 +211,7 @@ static void put_slot(struct kalyubos *board, uint8_t index, const struct kalyubo
 uint32_t record_create(struct kalyubos *board, const struct kalyubos_slot *slots, size_t slots_len,
                        const uint8_t *image, size_t image_len, uint32_t cache)
 {
-    uint32_t answer = kalyubos_create(board, slots, slots_len, image, image_len, cache);
+    uint32_t answer = kalyubos_create(board, slots, slots_len, image, image_len, cache, 0, 0);
     if (trace == NULL || answer != KALYUBOS_DONE)
         return answer;
     fprintf(trace, "vreplay 2\ncache %x\n", (unsigned)cache);

@@ -3,10 +3,14 @@
 use crate::error::{CreateError, Error};
 use crate::ffi;
 use crate::slot::Slot;
+use std::num::{NonZeroU32, NonZeroU64};
 use std::ptr::{self, NonNull};
 
 /// The version of the header that `ffi` declares.
-const HEADER: u32 = 100;
+const HEADER: u32 = 200;
+
+/// The number of a service that pauses.
+const MORE: u32 = 18;
 
 /// A guest's two windows, each of 4096 bytes.
 #[derive(Clone, Copy, Debug, PartialEq, Eq, Hash)]
@@ -34,18 +38,35 @@ pub struct Pending {
     pub interrupts: Interrupts,
     /// How many bytes of the console's output wait to be taken.
     pub output: u64,
+    /// Whether the slot's service pauses: [`Board::go_on`] goes on with it.
+    pub more: bool,
+}
+
+/// How much one call serves before a service pauses.
+#[derive(Clone, Copy, Debug, Default, PartialEq, Eq, Hash)]
+pub struct Budget {
+    /// How many chains; without a limit by default.
+    pub chains: Option<NonZeroU32>,
+    /// How many bytes the buffers of these chains may have, the last chain's not counted; without a limit by default.
+    pub bytes: Option<NonZeroU64>,
 }
 
 impl Pending {
-    fn of_c(told: ffi::Pending) -> Pending {
+    // What a call that answered this number told; a service that pauses is no error.
+    fn told(number: u32, told: ffi::Pending) -> Result<Pending, Error> {
+        let more = number == MORE;
+        if !more {
+            Error::check(number)?;
+        }
         let interrupts = Interrupts {
             block: told.block,
             console: told.console,
         };
-        Pending {
+        Ok(Pending {
             interrupts,
             output: told.output,
-        }
+            more,
+        })
     }
 }
 
@@ -83,6 +104,16 @@ impl Board {
     /// # Ok::<(), CreateError>(())
     /// ```
     pub fn new(slots: &[Slot], image: &[u8], cache: u32) -> Result<Board, CreateError> {
+        Board::with_budget(slots, image, cache, Budget::default())
+    }
+
+    /// A board whose services pause once the budget of a call is spent, so that no guest holds the others up for long.
+    pub fn with_budget(
+        slots: &[Slot],
+        image: &[u8],
+        cache: u32,
+        budget: Budget,
+    ) -> Result<Board, CreateError> {
         let version = unsafe { ffi::kalyubos_version() };
         if version / 100 != HEADER / 100 {
             return Err(CreateError::WrongLibrary(version));
@@ -97,6 +128,8 @@ impl Board {
                 image.as_ptr(),
                 image.len(),
                 cache,
+                budget.chains.map_or(0, NonZeroU32::get),
+                budget.bytes.map_or(0, NonZeroU64::get),
             )
         })?;
         Ok(Board { handle })
@@ -128,7 +161,8 @@ impl Board {
         Ok(value)
     }
 
-    /// A guest's write. What it notifies is served before the call returns, which tells what then waits.
+    /// A guest's write. What it notifies is served before the call returns, or up to the budget, and the call tells what
+    /// then waits.
     ///
     /// [`Error::NoRoom`]: the next chain of the console's transmit queue, or the byte of an emergency write, doesn't fit
     /// behind the output that waits. The chains before it are served, and it stays on offer. Take the output and make the
@@ -157,7 +191,7 @@ impl Board {
         value: u32,
     ) -> Result<Pending, Error> {
         let mut told = ffi::Pending::default();
-        Error::check(unsafe {
+        let number = unsafe {
             ffi::kalyubos_write(
                 &mut self.handle,
                 slot,
@@ -167,8 +201,16 @@ impl Board {
                 value,
                 &mut told,
             )
-        })?;
-        Ok(Pending::of_c(told))
+        };
+        Pending::told(number, told)
+    }
+
+    /// Goes on with a slot's service that pauses, and tells what then waits. Until it is done every other call for the
+    /// slot is [`Error::Busy`], but those that tell its interrupts or take its output, and none of its CPUs runs.
+    pub fn go_on(&mut self, slot: u8) -> Result<Pending, Error> {
+        let mut told = ffi::Pending::default();
+        let number = unsafe { ffi::kalyubos_go_on(&mut self.handle, slot, &mut told) };
+        Pending::told(number, told)
     }
 
     /// A guest's memory in place: byte 0 is that of address `base`. What is written there is a write of that guest's.
@@ -195,7 +237,7 @@ impl Board {
     /// page of 4096 bytes where the heap is the library's own.
     ///
     /// Whoever writes through it keeps two duties: no CPU of the guest runs while a call for it does, or while its
-    /// [`memory`](Board::memory) is lent; and none runs on once the board is dropped. CPUs of other guests may run.
+    /// [`memory`](Board::memory) is lent, or a service of it is paused; and none runs on once the board is dropped. CPUs of other guests may run.
     pub fn memory_parts(&mut self, slot: u8) -> Result<NonNull<[u8]>, Error> {
         let (mut bytes, mut len) = (ptr::null_mut(), 0);
         Error::check(unsafe {
@@ -242,7 +284,7 @@ impl Board {
     /// ```
     pub fn input(&mut self, slot: u8, bytes: &[u8]) -> Result<(usize, Pending), Error> {
         let (mut took, mut told) = (0, ffi::Pending::default());
-        Error::check(unsafe {
+        let number = unsafe {
             ffi::kalyubos_input(
                 &mut self.handle,
                 slot,
@@ -251,17 +293,15 @@ impl Board {
                 &mut took,
                 &mut told,
             )
-        })?;
-        Ok((took, Pending::of_c(told)))
+        };
+        Ok((took, Pending::told(number, told)?))
     }
 
     /// Gives a console another size, of which its driver is told, and tells what then waits.
     pub fn resize(&mut self, slot: u8, cols: u16, rows: u16) -> Result<Pending, Error> {
         let mut told = ffi::Pending::default();
-        Error::check(unsafe {
-            ffi::kalyubos_resize(&mut self.handle, slot, cols, rows, &mut told)
-        })?;
-        Ok(Pending::of_c(told))
+        let number = unsafe { ffi::kalyubos_resize(&mut self.handle, slot, cols, rows, &mut told) };
+        Pending::told(number, told)
     }
 
     /// Moves out the first bytes of what a console put out, as many as find room, and tells how many they are. The others

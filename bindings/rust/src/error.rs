@@ -13,6 +13,8 @@ pub enum Error {
     BadRange,
     /// What the console puts out next doesn't fit behind what waits; see [`Board::write`](crate::Board::write).
     NoRoom,
+    /// A service of the slot is paused; see [`Board::go_on`](crate::Board::go_on).
+    Busy,
     /// A number that this crate doesn't know, of a newer library.
     Other(u32),
 }
@@ -57,6 +59,7 @@ impl Error {
             3 => Err(Error::BadSlot),
             4 => Err(Error::BadRange),
             15 => Err(Error::NoRoom),
+            19 => Err(Error::Busy),
             number => Err(Error::Other(number)),
         }
     }
@@ -92,6 +95,7 @@ impl fmt::Display for Error {
             Error::NoRoom => {
                 f.write_str("the console's next output does not fit behind what waits")
             }
+            Error::Busy => f.write_str("a service of the slot is paused"),
             Error::Other(number) => write!(f, "the library answered {number}"),
         }
     }

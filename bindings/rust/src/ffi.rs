@@ -50,6 +50,8 @@ unsafe extern "C" {
         image: *const u8,
         image_len: usize,
         cache: u32,
+        chains: u32,
+        bytes: u64,
     ) -> u32;
     pub fn kalyubos_destroy(board: *mut Handle) -> u32;
     pub fn kalyubos_read(
@@ -69,6 +71,7 @@ unsafe extern "C" {
         value: u32,
         pending: *mut Pending,
     ) -> u32;
+    pub fn kalyubos_go_on(board: *mut Handle, slot: u8, pending: *mut Pending) -> u32;
     pub fn kalyubos_memory(
         board: *mut Handle,
         slot: u8,

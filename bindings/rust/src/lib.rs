@@ -7,7 +7,7 @@ mod ffi;
 mod identity;
 mod slot;
 
-pub use board::{Board, Interrupts, Pending, Window};
+pub use board::{Board, Budget, Interrupts, Pending, Window};
 pub use error::{CreateError, Error};
 pub use identity::{Identity, IdentityTooLong};
 pub use slot::Slot;

@@ -144,7 +144,8 @@ fn a_resize_raises_the_consoles_line_alone() {
                 block: 0,
                 console: 2
             },
-            output: 0
+            output: 0,
+            more: false,
         }
     );
     assert_eq!(board.interrupts(0), Ok(told.interrupts));

@@ -1,5 +1,5 @@
 -- What an embedder writes to a guest's memory between events, as the step of that event.
-use Rattle.std.proofs.Common.{◌≡◌, inl, ℕ, Bool, true, false, ◌||◌, nat_lt, arith, List, [], length, Some, refl, sym, ◌∙◌, ap}
+use Rattle.std.proofs.Common.{◌≡◌, ◌⊎◌, inl, inr, ℕ, Bool, true, false, ◌||◌, nat_lt, arith, List, [], length, Some, refl, sym, ◌∙◌, ap}
 use Rattle.std.specs.Prelude.{AllPairs, IsSomeAnd, slice_set}
 use Rattle.std.specs.Bool.{OnTrue}
 use Rattle.std.specs.List.{slice_get}
@@ -9,12 +9,16 @@ use Rattle.std.proofs.lemmas.Option.{get_or_from_slice_get}
 use Rattle.guest_memory.specs.Memory.{put}
 use Rattle.sector_cache.specs.Disk.{Disk}
 use Rattle.board.specs.declared.event.EventKind.TheVariants.{MemWrite, Input}
+use Rattle.board.specs.declared.pause.Pause.{Pause}
+use Rattle.board.specs.declared.pause.Turn.{Turn}
+use Rattle.board.specs.declared.pause.Turn.TheVariants.{Answered, More}
 use Rattle.board.specs.declared.reply.Reply.{Reply}
-use Rattle.board.specs.declared.reply.Reply.TheVariants.{Done}
+use Rattle.board.specs.declared.reply.Reply.TheVariants.{Done, Took}
 use Rattle.board.specs.Extent.{IsApart}
 use Rattle.board.specs.Image.{bytes_of, health_of}
 use Rattle.board.specs.Machine.{holds, block_irq, console_irq}
 use Rattle.board.specs.Outcome.{replies}
+use Rattle.board.specs.Pausing.{met_in}
 use Rattle.board.specs.Slot.{BoardSlot, state_of}
 use Rattle.board.specs.World.{Answers, MayGive, disturbed_of, extents_of, lacks_memory, seen}
 use Rattle.board.proofs.Runs.{answered}
@@ -29,6 +33,12 @@ disturbed_kept slots h slot new here same =
 unmet : (b : Bool) (n : ℕ) → b ≡ (b || (false || nat_lt n n))
 unmet true n = refl
 unmet false n = grind (arith, nat_tests)
+
+-- what is typed meets no refusal, whether its service pauses or not
+pub unmet_turn : {A : Type 0} (slot new : BoardSlot) (turn : Turn A) (failures : ℕ) {pause : Pause} {taken : ℕ} → new.disturbed ≡ slot.disturbed →
+    (turn ≡ More pause) ⊎ (turn ≡ Answered (Took taken)) → new.disturbed ≡ (slot.disturbed || met_in turn failures failures)
+unmet_turn slot new turn failures note (inl is) = rw is (note ∙ unmet slot.disturbed failures)
+unmet_turn slot new turn failures note (inr is) = rw is (note ∙ unmet slot.disturbed failures)
 
 -- bytes that fit a slot's memory were put there: the event of that write is answered
 pub bytes_put : (A : Type 0) (slots : List BoardSlot) (disk : Disk) (h : ℕ) (slot new : BoardSlot) (addr : ℕ) (bytes : List ℕ) (done : Bool) →

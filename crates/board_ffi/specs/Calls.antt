@@ -1,5 +1,6 @@
 -- What a call does to the board behind its handle.
-use Rattle.std.specs.Prelude.{◌≡◌, ℕ, ◌==◌, if◌then◌else◌, ◌<◌, ◌≤◌, ◌+◌, ◌++◌, Bool, List, Option, Some, None, IsTrue, MatchOption, IsSomeAnd, length, min, take, drop, false}
+use Rattle.std.specs.Prelude.{◌≡◌, ℕ, ◌==◌, if◌then◌else◌, ◌<◌, ◌≤◌, ◌+◌, ◌++◌, Bool, List, Option, Some, None, IsTrue, MatchOption, IsSomeAnd, length, min, take, drop, false, Result}
+use Rattle.chain.specs.declared.budget.Progress.{Progress}
 use Rattle.std.specs.List.{slice_get}
 use Rattle.std.specs.Option.{option_map}
 use Rattle.std.specs.Global.{Global}
@@ -9,9 +10,12 @@ use Rattle.board.specs.declared.event.EventKind.{EventKind}
 use Rattle.board.specs.declared.reply.Reply.{Reply}
 use Rattle.board.specs.Slot.{BoardSlot, interrupt_words}
 use Rattle.embed.specs.Course.{IsTaken}
-use Rattle.embed.specs.Session.{SessionState, IsStep, output_of}
+use Rattle.embed.specs.declared.refusal.Refusal.{Refusal}
+use Rattle.embed.specs.Pausing.{IsCall, IsWhole, WentOn}
+use Rattle.embed.specs.Session.{IsIdle, SessionState, output_of}
+use Rattle.paced.specs.Pacing.{Handle}
 use Rattle.board_ffi.specs.declared.pending.Pending.{Pending}
-use Rattle.board_ffi.specs.Codes.{is_reply, reply_of}
+use Rattle.board_ffi.specs.Codes.{is_response, response_of, went_on_code}
 use Rattle.board_ffi.specs.Handle.{Held}
 
 -- A call on a handle: where it holds no board it answers 1 and goes on holding none; a board does this, and is
@@ -20,11 +24,18 @@ abbrev pub Calls : Held → Held → ℕ → (SessionState → SessionState → 
 Calls before after code step =
     MatchOption before ((code ≡ 1) × (after ≡ None)) (λ old. IsSomeAnd after (step old))
 
--- The board takes the step of this event of a slot, and its reply is the one that the number stands for: this one
--- where the call is done.
-abbrev pub Takes : ℕ → EventKind Global → ℕ → Reply Global → SessionState → SessionState → Type 0
-Takes slot what code done old new =
-    IsStep old (record { slot = slot; what = what }) (reply_of code done) new × IsTrue (is_reply code)
+-- The board takes a call for this event of a slot, and its response is the one that the number stands for: where the
+-- call is done it is this reply, and a step of the board.
+pub record Takes (slot : ℕ) (what : EventKind Global) (code : ℕ) (done : Reply Global) (old new : SessionState) : Type 0 where
+  pub call : IsCall old (Handle (record { slot = slot; what = what })) (response_of code done) new
+  pub whole : IsWhole old (record { slot = slot; what = what }) (response_of code done) new
+  pub code_is : IsTrue (is_response code)
+
+-- The service of a slot goes on, and this is told of it.
+pub record GoesOn (slot code : ℕ) (old new : SessionState) : Type 0 where
+  pub result : Result Progress Refusal
+  pub went : WentOn Global old slot result new
+  pub code_is : code ≡ went_on_code result
 
 -- the window of each number
 abbrev pub window_of : ℕ → Option DeviceKind
@@ -51,8 +62,9 @@ Tells slot board before after =
     MatchOption board (after ≡ before)
     (λ session. MatchOption (slice_get session.slots slot) (after ≡ before) (λ found. after ≡ pending_of slot found session))
 
--- there is such a slot, its memory has so many bytes, and nothing changes
+-- there is such a slot, of which nothing is paused, its memory has so many bytes, and nothing changes
 pub record HasMemory (slot len : ℕ) (old new : SessionState) : Type 0 where
+  pub idle : IsIdle slot old
   pub there : IsSomeAnd (slice_get old.slots slot) (λ found. len ≡ length found.memory.bytes)
   pub kept : new ≡ old
 
@@ -60,6 +72,12 @@ pub record HasMemory (slot len : ℕ) (old new : SessionState) : Type 0 where
 pub record IsMissing (slot code : ℕ) (old new : SessionState) : Type 0 where
   pub missing : length old.slots ≤ slot
   pub bad_slot : code ≡ 3
+  pub kept : new ≡ old
+
+-- a service of the slot is paused, and nothing changes
+pub record IsBusy (slot code : ℕ) (old new : SessionState) : Type 0 where
+  pub paused : ¬ IsIdle slot old
+  pub busy : code ≡ 19
   pub kept : new ≡ old
 
 -- both interrupt words of a slot, and nothing changes

@@ -1,15 +1,19 @@
 -- The number that stands for each answer.
-use Rattle.std.specs.Prelude.{ℕ, ◌==◌, ◌||◌, Bool, if◌then◌else◌}
+use Rattle.std.specs.Prelude.{ℕ, ◌==◌, ◌||◌, Bool, if◌then◌else◌, Result, Ok, Err}
+use Rattle.chain.specs.declared.budget.Progress.{Progress}
+use Rattle.chain.specs.declared.budget.Progress.TheVariants.{More, Done}
 use Rattle.guest_memory.specs.declared.fault.MemoryFault.TheVariants.{BadSize, BadBase}
 use Rattle.guest_memory.specs.declared.fault.MemoryFault.TheVariants as memory
 use Rattle.sector_cache.specs.declared.fault.CacheFault.TheVariants.{BadCapacity}
 use Rattle.sector_cache.specs.declared.fault.CacheFault.TheVariants as cache
 use Rattle.board.specs.declared.reply.Reply.{Reply}
 use Rattle.board.specs.declared.reply.Reply.TheVariants as reply
+use Rattle.paced.specs.declared.response.Response.{Response}
+use Rattle.paced.specs.declared.response.Response.TheVariants as response
 use Rattle.board.specs.declared.fault.BoardFault.{BoardFault}
 use Rattle.board.specs.declared.fault.BoardFault.TheVariants as board
 use Rattle.embed.specs.declared.refusal.Refusal.{Refusal}
-use Rattle.embed.specs.declared.refusal.Refusal.TheVariants.{BadSlot, BadRange, NoRoom}
+use Rattle.embed.specs.declared.refusal.Refusal.TheVariants.{BadSlot, BadRange, NoRoom, Busy}
 use Rattle.embed.specs.declared.fault.SessionFault.{SessionFault}
 use Rattle.embed.specs.declared.fault.SessionFault.TheVariants as session
 
@@ -18,17 +22,30 @@ abbrev pub refusal_code : Refusal → ℕ
 refusal_code BadSlot = 3
 refusal_code BadRange = 4
 refusal_code NoRoom = 15
+refusal_code Busy = 19
 
--- the board's reply that a number stands for, where this one is what a call that is done is replied; where an outlet
+-- the board's response that a number stands for, where this one is what a call that is done is replied; where an outlet
 -- has no room the board has no memory for the output
-abbrev pub reply_of : {A : Type 0} → ℕ → Reply A → Reply A
-reply_of code done =
-    if code == 0 then done
-    else (if code == 3 then reply.BadSlot else (if code == 4 then reply.BadRange else reply.NoMemory))
+abbrev pub response_of : {A : Type 0} → ℕ → Reply A → Response A
+response_of code done =
+    if code == 0 then response.Answered done
+    else (if code == 3 then response.Answered reply.BadSlot
+    else (if code == 4 then response.Answered reply.BadRange
+    else (if code == 15 then response.Answered reply.NoMemory
+    else (if code == 18 then response.More else response.Busy))))
 
--- the numbers that a call answers which comes to a board's reply
-abbrev pub is_reply : ℕ → Bool
-is_reply code = (code == 0) || (code == 3) || (code == 4) || (code == 15)
+-- the numbers that a call answers which comes to a board's response
+abbrev pub is_response : ℕ → Bool
+is_response code = (code == 0) || (code == 3) || (code == 4) || (code == 15) || (code == 18) || (code == 19)
+
+-- what is told of a service that went on
+abbrev pub progress_code : Progress → ℕ
+progress_code Done = 0
+progress_code More = 18
+
+abbrev pub went_on_code : Result Progress Refusal → ℕ
+went_on_code (Ok progress) = progress_code progress
+went_on_code (Err why) = refusal_code why
 
 -- a board that was refused
 abbrev pub board_code : BoardFault → ℕ
@@ -47,5 +64,7 @@ board_code board.NoMemory = 5
 abbrev pub fault_code : SessionFault → ℕ
 fault_code session.BadImage = 7
 fault_code session.BadOutlet = 16
+-- no budget that C describes is spent
+fault_code session.SpentBudget = 0
 fault_code (session.Board why) = board_code why
 fault_code session.NoMemory = 5

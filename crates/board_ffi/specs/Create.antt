@@ -1,5 +1,6 @@
 -- What comes of making a board.
-use Rattle.std.specs.Prelude.{◌≡◌, ℕ, ◌/◌, List, Some, None, length, All}
+use Rattle.std.specs.Prelude.{◌≡◌, ℕ, ◌/◌, ◌==◌, if◌then◌else◌, List, Option, Some, None, length, All}
+use Rattle.chain.specs.declared.budget.Budget.{Budget}
 use Rattle.board.specs.Fault.{IsAccepted}
 use Rattle.embed.specs.declared.fault.SessionFault.{SessionFault}
 use Rattle.embed.specs.declared.guest.GuestSpec.{GuestSpec}
@@ -32,15 +33,23 @@ slot_size = 72
 abbrev pub AreSized : List Slot → Type 0
 AreSized slots = All (λ slot. slot.size ≡ slot_size) slots
 
+-- the limit that a number says: 0 is none
+abbrev pub limit_of : ℕ → Option ℕ
+limit_of limit = if limit == 0 then None else Some limit
+
+-- how much one call may serve: so many chains, and so many bytes
+abbrev pub budget_of : ℕ → ℕ → Budget
+budget_of chains bytes = record { chains = limit_of chains; bytes = limit_of bytes }
+
 -- there is a new board of these guests over the image
-pub record IsMade (guests : List GuestSpec) (image : List ℕ) (cache : ℕ) (after : Held) : Type 0 where
-  pub made : after ≡ Some (new_session guests image)
+pub record IsMade (guests : List GuestSpec) (image : List ℕ) (cache : ℕ) (budget : Budget) (after : Held) : Type 0 where
+  pub made : after ≡ Some (new_session guests image budget)
   pub accepted : IsAccepted (length image / 512) (slots_of guests) cache
   pub outlets : AreOutlets guests
 
 -- there is none, and the number is that of a fault of what was described
-pub record IsNotMade (guests : List GuestSpec) (image : List ℕ) (cache code : ℕ) (after : Held) : Type 0 where
+pub record IsNotMade (guests : List GuestSpec) (image : List ℕ) (cache : ℕ) (budget : Budget) (code : ℕ) (after : Held) : Type 0 where
   pub none : after ≡ None
   pub why : SessionFault
   pub code_is : code ≡ fault_code why
-  pub fault : IsRefusedFor guests image cache why
+  pub fault : IsRefusedFor guests image cache budget why

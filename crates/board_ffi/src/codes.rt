@@ -1,9 +1,9 @@
 //! The number of each answer, which has its name in the header.
 
 ghost use Rattle.std.specs.Prelude.{◌≡◌};
-ghost use Rattle.board_ffi.specs.Codes.{refusal_code, board_code, fault_code};
+ghost use Rattle.board_ffi.specs.Codes.{refusal_code, board_code, fault_code, progress_code};
 
-use embed::{BoardFault, CacheFault, MemoryFault, Refusal, SessionFault};
+use embed::{BoardFault, CacheFault, MemoryFault, Progress, Refusal, SessionFault};
 
 pub(crate) const DONE: u32 = 0;
 
@@ -41,6 +41,10 @@ pub(crate) const BAD_OUTLET: u32 = 16;
 
 pub(crate) const BAD_SIZE: u32 = 17;
 
+pub(crate) const MORE: u32 = 18;
+
+pub(crate) const BUSY: u32 = 19;
+
 /// The number of a call that was refused.
 pub(crate) fn of_refusal(why: Refusal) -> u32
     ensures { result ≡ refusal_code why }
@@ -49,6 +53,17 @@ pub(crate) fn of_refusal(why: Refusal) -> u32
         Refusal::BadSlot => BAD_SLOT,
         Refusal::BadRange => BAD_RANGE,
         Refusal::NoRoom => NO_ROOM,
+        Refusal::Busy => BUSY,
+    }
+}
+
+/// The number of a service that is done, or pauses.
+pub(crate) fn of_progress(progress: Progress) -> u32
+    ensures { result ≡ progress_code progress }
+{
+    match progress {
+        Progress::Done => DONE,
+        Progress::More => MORE,
     }
 }
 
@@ -59,6 +74,8 @@ pub(crate) fn of_fault(why: SessionFault) -> u32
     match why {
         SessionFault::BadImage => BAD_IMAGE,
         SessionFault::BadOutlet => BAD_OUTLET,
+        // no budget that C describes is spent
+        SessionFault::SpentBudget => DONE,
         SessionFault::Board(why) => of_board_fault(why),
         SessionFault::NoMemory => NO_MEMORY,
     }

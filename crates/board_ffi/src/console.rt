@@ -1,13 +1,15 @@
 //! A guest's console from the outside: what is typed, its size, and what it puts out.
 
-ghost use Rattle.std.specs.Prelude.{◌≡◌, ◌≢◌, ◌⊎◌};
+ghost use Rattle.std.specs.Prelude.{◌≡◌, ◌≢◌, ◌⊎◌, Some};
+ghost use Rattle.embed.specs.Pausing.{taken_at};
 ghost use Rattle.board.specs.declared.event.EventKind.{EventKind};
 ghost use Rattle.board.specs.declared.reply.Reply.{Reply};
 ghost use Rattle.board_ffi.specs.Calls.{Calls, IsMissing, MovesOutput, Takes, Tells};
 
-use crate::codes::{BAD_SLOT, DONE, NO_BOARD, of_refusal};
+use crate::codes::{BAD_SLOT, DONE, NO_BOARD, of_progress, of_refusal};
 use crate::handle::Handle;
 use crate::pending::Pending;
+use embed::Typed;
 use std::alloc::Global;
 
 /// Types bytes to a guest's console, and tells how many were taken, the first ones, and what then waits.
@@ -22,8 +24,10 @@ pub extern "C" fn kalyubos_input(
 ) -> u32
     ensures step { Calls board.old.session board.new.session result
         (Takes slot (EventKind.Input bytes.now) result (Reply.Took took.new)) }
-    ensures refused { (result ≡ 0) ⊎ (result ≡ 1) ⊎ (result ≡ 3) }
-    ensures kept { result ≢ 0 → took.new ≡ took.old }
+    ensures taken { result ≡ 18 → Calls board.old.session board.new.session result
+        (λ old new. taken_at slot new ≡ Some took.new) }
+    ensures refused { (result ≡ 0) ⊎ (result ≡ 1) ⊎ (result ≡ 3) ⊎ (result ≡ 18) ⊎ (result ≡ 19) }
+    ensures kept { result ≢ 0 → result ≢ 18 → took.new ≡ took.old }
     ensures pending { Tells slot board.new.session pending.old pending.new }
 {
     let Some(mut session) = board.take(alloc) else {
@@ -33,9 +37,9 @@ pub extern "C" fn kalyubos_input(
     pending.tell(&session, slot);
     board.put(session);
     match answer {
-        Ok(taken) => {
+        Ok(Typed { taken, progress }) => {
             *took = taken;
-            DONE
+            of_progress(progress)
         }
         Err(why) => of_refusal(why),
     }

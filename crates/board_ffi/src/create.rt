@@ -1,17 +1,18 @@
 //! A board is made of what C describes, and is destroyed.
 
 ghost use Rattle.std.specs.Prelude.{◌≡◌, ◌≢◌, ◌⊎◌, ◌↔◌, ◌≤◌, ◌/◌, ◌%◌, All, IsTrue, Some, None, MatchOption, IfOk, IfErr, OnOk, IfSome, IsErrAnd, IsErrOf, length, map};
+ghost use Rattle.chain.specs.Budget.{IsSpent};
 ghost use Rattle.board.specs.declared.fault.BoardFault.{BoardFault};
 ghost use Rattle.board.specs.Fault.{IsAccepted};
 ghost use Rattle.embed.specs.declared.fault.SessionFault.{SessionFault};
 ghost use Rattle.embed.specs.Refusing.{AreOutlets, IsBoardFault, IsRefusedFor};
 ghost use Rattle.embed.specs.Session.{new_session, slots_of};
 ghost use Rattle.board_ffi.specs.Codes.{board_code};
-ghost use Rattle.board_ffi.specs.Create.{AreSized, IsMade, IsNotMade, guest_of};
+ghost use Rattle.board_ffi.specs.Create.{AreSized, IsMade, IsNotMade, budget_of, guest_of};
 
 use crate::codes::{BAD_SIZE, DONE, HAS_BOARD, NO_BOARD, NO_MEMORY, of_fault};
 use crate::handle::Handle;
-use embed::{Extent, GuestSpec, Session, SessionFault, SlotSpec};
+use embed::{Budget, Extent, GuestSpec, Session, SessionFault, SlotSpec};
 use std::alloc::{AllocError, Global};
 
 /// The length of a sector in bytes (5.2).
@@ -65,7 +66,7 @@ impl Slot {
 }
 
 /// Makes a board of these slots over a copy of the image, with a cache of at most `cache` sectors, and puts
-/// it into an empty handle.
+/// it into an empty handle. One call serves so many chains, and chains of so many bytes and one more; 0 is no limit.
 #[unsafe(no_mangle)]
 pub extern "C" fn kalyubos_create(
     alloc: Global,
@@ -73,6 +74,8 @@ pub extern "C" fn kalyubos_create(
     slots: &[Slot],
     image: &[u8],
     cache: u32,
+    chains: u32,
+    bytes: u64,
 ) -> u32
     ensures full { IfSome board.old.session (λ old. (result ≡ 2) × (board.new.session ≡ Some old)) }
 
@@ -82,9 +85,9 @@ pub extern "C" fn kalyubos_create(
     ensures bad_size_keeps { board.old.session ≡ None → result ≡ 17 → board.new.session ≡ None }
 
     ensures made { board.old.session ≡ None → result ≡ 0 →
-        IsMade (map guest_of slots.now) image.now cache board.new.session }
+        IsMade (map guest_of slots.now) image.now cache (budget_of chains bytes) board.new.session }
     ensures not_made { board.old.session ≡ None → result ≢ 0 → result ≢ 17 →
-        IsNotMade (map guest_of slots.now) image.now cache result board.new.session }
+        IsNotMade (map guest_of slots.now) image.now cache (budget_of chains bytes) result board.new.session }
 
     // exactly that number, but that want of memory may come before a board's
     ensures bad_image { board.old.session ≡ None → AreSized slots.now →
@@ -92,7 +95,7 @@ pub extern "C" fn kalyubos_create(
     ensures bad_outlet { board.old.session ≡ None → AreSized slots.now →
         length image.now % 512 ≡ 0 → ¬ AreOutlets (map guest_of slots.now) → result ≡ 16 }
     ensures bad_board { board.old.session ≡ None → AreSized slots.now → (fault : BoardFault) →
-        IsBoardFault (map guest_of slots.now) image.now cache fault →
+        IsBoardFault (map guest_of slots.now) image.now cache (budget_of chains bytes) fault →
         (result ≡ board_code fault) ⊎ (result ≡ 5) }
 {
     if let Some(held) = board.take(alloc) {
@@ -102,7 +105,7 @@ pub extern "C" fn kalyubos_create(
     if !are_sized(slots) {
         return BAD_SIZE;
     }
-    match session(alloc, slots, image, cache) {
+    match session(alloc, slots, image, cache, budget(chains, bytes)) {
         Ok(session) => {
             board.put(session);
             DONE
@@ -132,15 +135,17 @@ fn session(
     slots: &[Slot],
     image: &[u8],
     cache: u32,
+    budget: Budget,
 ) -> Result<Box<Session>, SessionFault>
-    ensures made { IfOk result (λ session. session.value ≡ new_session (map guest_of slots.now) image.now) }
+    requires { ¬ IsSpent budget }
+    ensures made { IfOk result (λ session. session.value ≡ new_session (map guest_of slots.now) image.now budget) }
     ensures accepted { OnOk result (IsAccepted (length image.now / 512) (slots_of (map guest_of slots.now)) cache) }
     ensures outlets { OnOk result (AreOutlets (map guest_of slots.now)) }
-    ensures fault { IfErr result (IsRefusedFor (map guest_of slots.now) image.now cache) }
+    ensures fault { IfErr result (IsRefusedFor (map guest_of slots.now) image.now cache budget) }
     ensures bad_image { length image.now % 512 ≢ 0 → IsErrOf result SessionFault.BadImage }
     ensures bad_outlet { length image.now % 512 ≡ 0 → ¬ AreOutlets (map guest_of slots.now) →
         IsErrOf result SessionFault.BadOutlet }
-    ensures bad_board { (fault : BoardFault) → IsBoardFault (map guest_of slots.now) image.now cache fault →
+    ensures bad_board { (fault : BoardFault) → IsBoardFault (map guest_of slots.now) image.now cache budget fault →
         IsErrAnd result (λ why. (why ≡ SessionFault.Board fault) ⊎ (why ≡ SessionFault.NoMemory)) }
 {
     if !image.len().is_multiple_of(SECTOR_LEN) {
@@ -152,10 +157,21 @@ fn session(
     let Ok(guests) = guests(alloc, slots) else {
         return Err(SessionFault::NoMemory);
     };
-    let session = Session::new(alloc, &guests, image, cache)?;
+    let session = Session::new(alloc, &guests, image, cache, budget)?;
     match Box::new(alloc, session) {
         Ok(session) => Ok(session),
         Err(_) => Err(SessionFault::NoMemory),
+    }
+}
+
+// How much one call may serve, where 0 is no limit.
+fn budget(chains: u32, bytes: u64) -> Budget
+    ensures value { result ≡ budget_of chains bytes }
+    ensures lasts { ¬ IsSpent result }
+{
+    Budget {
+        chains: if chains == 0 { None } else { Some(chains) },
+        bytes: if bytes == 0 { None } else { Some(bytes) },
     }
 }
 

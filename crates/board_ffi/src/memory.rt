@@ -4,9 +4,10 @@ ghost use Rattle.std.specs.Prelude.{◌≡◌, ◌≢◌, ◌≤◌, length, IsS
 ghost use Rattle.std.specs.List.{slice_get};
 ghost use Rattle.board.specs.declared.event.EventKind.{EventKind};
 ghost use Rattle.board.specs.declared.reply.Reply.{Reply};
-ghost use Rattle.board_ffi.specs.Calls.{Calls, HasMemory, IsMissing, Takes};
+ghost use Rattle.embed.specs.Session.{IsIdle};
+ghost use Rattle.board_ffi.specs.Calls.{Calls, HasMemory, IsBusy, IsMissing, Takes};
 
-use crate::codes::{BAD_SLOT, DONE, NO_BOARD, of_refusal};
+use crate::codes::{DONE, NO_BOARD, of_refusal};
 use crate::handle::Handle;
 use embed::Session;
 use std::alloc::Global;
@@ -70,8 +71,9 @@ pub extern "C" fn kalyubos_memory(
 ) -> u32
     ensures lent { result ≡ 0 → Calls board.old.session board.new.session result
         (HasMemory slot len.new) }
-    ensures missing { result ≢ 0 → Calls board.old.session board.new.session result
+    ensures missing { result ≢ 0 → result ≢ 19 → Calls board.old.session board.new.session result
         (IsMissing slot result) }
+    ensures busy { result ≡ 19 → Calls board.old.session board.new.session result (IsBusy slot result) }
     ensures kept { result ≢ 0 → (bytes.new ≡ bytes.old) × (len.new ≡ len.old) }
 {
     let Some(session) = board.take(alloc) else {
@@ -86,11 +88,14 @@ pub extern "C" fn kalyubos_memory(
 fn lend(session: &Session, slot: u8, bytes: &mut *mut u8, len: &mut usize) -> u32
     ensures lent { result ≡ 0 → IsSomeAnd (slice_get session.now.slots slot)
         (λ found. len.new ≡ length found.memory.bytes) }
-    ensures missing { result ≢ 0 → (result ≡ 3) × (length session.now.slots ≤ slot) }
+    ensures idle { result ≡ 0 → IsIdle slot session.now }
+    ensures missing { result ≢ 0 → result ≢ 19 → (result ≡ 3) × (length session.now.slots ≤ slot) }
+    ensures busy { result ≡ 19 → ¬ IsIdle slot session.now }
     ensures kept { result ≢ 0 → (bytes.new ≡ bytes.old) × (len.new ≡ len.old) }
 {
-    let Some(memory) = session.memory(slot) else {
-        return BAD_SLOT;
+    let memory = match session.memory(slot) {
+        Ok(memory) => memory,
+        Err(why) => return of_refusal(why),
     };
     let lent = memory.slice(memory.base(), memory.len());
     if let Some(first) = lent.first() {

@@ -3,9 +3,9 @@
 ghost use Rattle.std.specs.Prelude.{◌≡◌, ◌≢◌, MatchOption};
 ghost use Rattle.board.specs.declared.event.EventKind.{EventKind};
 ghost use Rattle.board.specs.declared.reply.Reply.{Reply};
-ghost use Rattle.board_ffi.specs.Calls.{Calls, HasWords, IsMissing, IsUndisturbed, Takes, Tells, window_of};
+ghost use Rattle.board_ffi.specs.Calls.{Calls, GoesOn, HasWords, IsMissing, IsUndisturbed, Takes, Tells, window_of};
 
-use crate::codes::{BAD_SLOT, BAD_WINDOW, DONE, NO_BOARD, of_refusal};
+use crate::codes::{BAD_SLOT, BAD_WINDOW, DONE, NO_BOARD, of_progress, of_refusal};
 use crate::handle::Handle;
 use crate::pending::Pending;
 use embed::DeviceKind;
@@ -45,7 +45,7 @@ pub extern "C" fn kalyubos_read(
     }
 }
 
-/// A guest's write of a register. What it notifies is served to its end, and what then waits is told.
+/// A guest's write of a register. What it notifies is served within the budget, and what then waits is told.
 #[unsafe(no_mangle)]
 pub extern "C" fn kalyubos_write(
     alloc: Global,
@@ -74,7 +74,30 @@ pub extern "C" fn kalyubos_write(
     pending.tell(&session, slot);
     board.put(session);
     match answer {
-        Ok(()) => DONE,
+        Ok(progress) => of_progress(progress),
+        Err(why) => of_refusal(why),
+    }
+}
+
+/// Goes on with a guest's service that is paused, and tells what then waits.
+#[unsafe(no_mangle)]
+pub extern "C" fn kalyubos_go_on(
+    alloc: Global,
+    board: &mut Handle,
+    slot: u8,
+    pending: &mut Pending,
+) -> u32
+    ensures step { Calls board.old.session board.new.session result (GoesOn slot result) }
+    ensures pending { Tells slot board.new.session pending.old pending.new }
+{
+    let Some(mut session) = board.take(alloc) else {
+        return NO_BOARD;
+    };
+    let answer = session.go_on(slot);
+    pending.tell(&session, slot);
+    board.put(session);
+    match answer {
+        Ok(progress) => of_progress(progress),
         Err(why) => of_refusal(why),
     }
 }

@@ -7,9 +7,11 @@ use crate::handle::parts::Parts;
 use crate::image::{kalyubos_image_len, kalyubos_read_image};
 use crate::memory::{kalyubos_memory, kalyubos_read_memory, kalyubos_write_memory};
 use crate::pending::Pending;
-use crate::registers::{kalyubos_disturbed, kalyubos_interrupts, kalyubos_read, kalyubos_write};
+use crate::registers::{
+    kalyubos_disturbed, kalyubos_go_on, kalyubos_interrupts, kalyubos_read, kalyubos_write,
+};
 use crate::version::kalyubos_version;
-use embed::{Extent, GuestSpec, Session, SlotSpec};
+use embed::{Budget, Extent, GuestSpec, Session, SlotSpec};
 use linked_list_allocator::LocalHeap;
 use std::alloc::Global;
 use std::process::Abort;
@@ -58,7 +60,7 @@ fn one_guest(rt: &impl Abort, alloc: Global) -> Handle {
     let mut board = Handle::empty(alloc);
     same(
         rt,
-        kalyubos_create(alloc, &mut board, &[SLOT], &IMAGE, 1),
+        kalyubos_create(alloc, &mut board, &[SLOT], &IMAGE, 1, 0, 0),
         0,
     );
     board
@@ -95,7 +97,7 @@ const GUEST: GuestSpec = GuestSpec {
 #[test]
 fn what_a_board_took_is_given_back(rt: HostRuntime) -> Result<(), Fail> {
     let heap = LocalHeap::new(rt.alloc(), 0x20_0000)?;
-    let session = Session::new(&heap, &[GUEST], &IMAGE, 1)?;
+    let session = Session::new(&heap, &[GUEST], &IMAGE, 1, Budget::UNLIMITED)?;
     let parts = Parts::of(Box::new(&heap, session)?);
     assert!(rt; heap.used() > 0x1_0000);
     parts.end();
@@ -156,7 +158,7 @@ fn a_board_is_made_or_refused(rt: HostRuntime) -> Result<(), Fail> {
     let alloc = rt.alloc();
     let mut board = Handle::empty(alloc);
     for (slots, image, cache, want) in &BOARDS {
-        let got = kalyubos_create(alloc, &mut board, *slots, *image, *cache);
+        let got = kalyubos_create(alloc, &mut board, *slots, *image, *cache, 0, 0);
         same(&rt, got, *want);
     }
     Ok(())
@@ -169,7 +171,7 @@ fn there_may_be_sixty_four_slots(rt: HostRuntime) -> Result<(), Fail> {
     let slots = [Slot { count: 0, ..SLOT }; 64];
     same(
         &rt,
-        kalyubos_create(alloc, &mut board, &slots, &IMAGE, 1),
+        kalyubos_create(alloc, &mut board, &slots, &IMAGE, 1, 0, 0),
         0,
     );
     for (slot, want) in &[(63, 0), (64, 3)] {
@@ -181,7 +183,7 @@ fn there_may_be_sixty_four_slots(rt: HostRuntime) -> Result<(), Fail> {
     let other = [Slot { size: 0, ..SLOT }];
     same(
         &rt,
-        kalyubos_create(alloc, &mut board, &other, &IMAGE, 1),
+        kalyubos_create(alloc, &mut board, &other, &IMAGE, 1, 0, 0),
         2,
     );
     Ok(())
@@ -193,7 +195,7 @@ fn a_full_handle_is_kept_and_an_empty_one_has_no_board(rt: HostRuntime) -> Resul
     let mut board = one_guest(&rt, alloc);
     same(
         &rt,
-        kalyubos_create(alloc, &mut board, &[SLOT], &IMAGE, 1),
+        kalyubos_create(alloc, &mut board, &[SLOT], &IMAGE, 1, 0, 0),
         2,
     );
     same(&rt, kalyubos_destroy(alloc, &mut board), 0);
@@ -349,7 +351,11 @@ fn say(alloc: Global, board: &mut Handle, slot: u8, byte: u8) -> u32 {
 fn a_full_outlet_refuses_its_own_guest_alone(rt: HostRuntime) -> Result<(), Fail> {
     let alloc = rt.alloc();
     let mut board = Handle::empty(alloc);
-    same(&rt, kalyubos_create(alloc, &mut board, &TWO, &IMAGE, 1), 0);
+    same(
+        &rt,
+        kalyubos_create(alloc, &mut board, &TWO, &IMAGE, 1, 0, 0),
+        0,
+    );
     // slot, byte and answer, one after another
     for (slot, byte, want) in &[
         (0, b'a', 0),
@@ -538,6 +544,137 @@ fn a_memory_is_lent(rt: HostRuntime) -> Result<(), Fail> {
 
 #[test]
 fn the_version_is_the_headers(rt: HostRuntime) -> Result<(), Fail> {
-    same(&rt, kalyubos_version(), 100);
+    same(&rt, kalyubos_version(), 200);
+    Ok(())
+}
+
+/// The console's driver resets its device and accepts VERSION_1 alone (3.1.1); its transmit queue of four lies at 1000,
+/// 2000 and 3000 of its memory, and it says DRIVER_OK (4.2.3.2).
+const TRANSMIT: [(u16, u32); 15] = [
+    (0x070, 0),
+    (0x070, 1),
+    (0x070, 3),
+    (0x024, 0),
+    (0x020, 0),
+    (0x024, 1),
+    (0x020, 1),
+    (0x070, 0xb),
+    (0x030, 1),
+    (0x038, 4),
+    (0x080, 0x8000_1000),
+    (0x090, 0x8000_2000),
+    (0x0a0, 0x8000_3000),
+    (0x044, 1),
+    (0x070, 0xf),
+];
+
+/// Three chains, each of one descriptor: abc, de and fgh at 4000. All are on offer.
+const CHAINS: [(u64, &[u8]); 5] = [
+    (0x8000_1000, &[0, 0x40, 0, 0x80, 0, 0, 0, 0, 3]),
+    (0x8000_1010, &[3, 0x40, 0, 0x80, 0, 0, 0, 0, 2]),
+    (0x8000_1020, &[5, 0x40, 0, 0x80, 0, 0, 0, 0, 3]),
+    (0x8000_2002, &[3, 0, 0, 0, 1, 0, 2, 0]),
+    (0x8000_4000, b"abcdefgh"),
+];
+
+/// Two guests whose calls serve so many chains, of which guest 0 has offered its three.
+fn hostile(rt: &impl Abort, alloc: Global, chains: u32, bytes: u64) -> Handle {
+    let mut board = Handle::empty(alloc);
+    let slots = TWO.map(|slot| Slot { outlet: 64, ..slot });
+    let mut pending = UNTOLD;
+    same(
+        rt,
+        kalyubos_create(alloc, &mut board, &slots, &IMAGE, 1, chains, bytes),
+        0,
+    );
+    for (offset, value) in &TRANSMIT {
+        let got = kalyubos_write(alloc, &mut board, 0, 1, *offset, 4, *value, &mut pending);
+        same(rt, got, 0);
+    }
+    for (addr, bytes) in &CHAINS {
+        same(
+            rt,
+            kalyubos_write_memory(alloc, &mut board, 0, *addr, *bytes),
+            0,
+        );
+    }
+    board
+}
+
+fn notify(alloc: Global, board: &mut Handle) -> (u32, Pending) {
+    let mut pending = UNTOLD;
+    let got = kalyubos_write(alloc, board, 0, 1, 0x050, 4, 1, &mut pending);
+    (got, pending)
+}
+
+fn go_on(alloc: Global, board: &mut Handle, slot: u8) -> (u32, Pending) {
+    let mut pending = UNTOLD;
+    let got = kalyubos_go_on(alloc, board, slot, &mut pending);
+    (got, pending)
+}
+
+/// While guest 0's service is paused each call for it is busy, and the other guest is answered.
+fn check_busy(rt: &impl Abort, alloc: Global, board: &mut Handle) {
+    let (mut value, mut took, mut pending) = (9, 9, UNTOLD);
+    let (mut bytes, mut len, mut back) = (std::ptr::null_mut(), 9, *b"....");
+    let answers = [
+        kalyubos_read(alloc, board, 0, 1, 0x044, 4, &mut value),
+        kalyubos_write(alloc, board, 0, 0, 0x070, 4, 0, &mut pending),
+        kalyubos_input(alloc, board, 0, b"ls", &mut took, &mut pending),
+        kalyubos_resize(alloc, board, 0, 100, 30, &mut pending),
+        kalyubos_read_memory(alloc, board, 0, 0x8000_4000, &mut back),
+        kalyubos_write_memory(alloc, board, 0, 0x8000_4000, b"ABCDEFGH"),
+        kalyubos_memory(alloc, board, 0, &mut bytes, &mut len),
+    ];
+    same(rt, answers, [19; 7]);
+    same(rt, (value, took, len, back), (9, 9, 9, *b"...."));
+    same(
+        rt,
+        kalyubos_read(alloc, board, 1, 1, 0x008, 4, &mut value),
+        0,
+    );
+    same(rt, value, 3);
+    same(rt, go_on(alloc, board, 1), (0, waits(0)));
+    same(rt, go_on(alloc, board, 2), (3, UNTOLD));
+}
+
+/// Three chains take three calls; interrupts and output are free in between. The used buffers are told of at the end.
+#[test]
+fn a_service_pauses(rt: HostRuntime) -> Result<(), Fail> {
+    let alloc = rt.alloc();
+    let mut board = hostile(&rt, alloc, 1, 0);
+    let (mut text, mut taken) = (*b"........", 9);
+    same(&rt, notify(alloc, &mut board), (18, waits(3)));
+    check_busy(&rt, alloc, &mut board);
+    let got = kalyubos_take_output(alloc, &mut board, 0, &mut text[..2], &mut taken);
+    same(&rt, (got, taken), (0, 2));
+    same(&rt, go_on(alloc, &mut board, 0), (18, waits(3)));
+    check_busy(&rt, alloc, &mut board);
+    let (mut block, mut console) = (9, 9);
+    let got = kalyubos_interrupts(alloc, &mut board, 0, &mut block, &mut console);
+    same(&rt, (got, block, console), (0, 0, 0));
+    let (got, pending) = go_on(alloc, &mut board, 0);
+    same(&rt, (got, pending.console, pending.output), (0, 1, 6));
+    let got = kalyubos_take_output(alloc, &mut board, 0, &mut text[2..], &mut taken);
+    same(&rt, (got, taken, text), (0, 6, *b"abcdefgh"));
+    same(&rt, go_on(alloc, &mut board, 0).0, 0);
+    Ok(())
+}
+
+/// Chains and bytes of a budget, and what the first notification answers: 0 is no limit.
+#[test]
+fn a_budget_has_two_limits(rt: HostRuntime) -> Result<(), Fail> {
+    for (chains, bytes, want) in &[
+        (0, 0, 0),
+        (3, 0, 0),
+        (2, 0, 18),
+        (0, 6, 0),
+        (0, 5, 18),
+        (1, 6, 18),
+        (3, 1, 18),
+    ] {
+        let mut board = hostile(&rt, rt.alloc(), *chains, *bytes);
+        same(&rt, notify(rt.alloc(), &mut board).0, *want);
+    }
     Ok(())
 }

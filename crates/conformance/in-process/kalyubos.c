@@ -60,7 +60,7 @@ static const char *make(const struct setup *setup)
     }
     image = setup->image;
     image_len = setup->image_len;
-    return name_of(kalyubos_create(&board, slots, setup->guests_len, image, image_len, setup->cache));
+    return name_of(kalyubos_create(&board, slots, setup->guests_len, image, image_len, setup->cache, 0, 0));
 }
 
 static void end(void)

@@ -156,4 +156,6 @@ taken old slot room count before here fits is =
       others = others_output old.outputs slot _;
       limits = limits_set old.outputs slot before (record before { bytes = drop count before.bytes }) here refl;
       world = refl;
+      paused = refl;
+      budget = refl;
     }

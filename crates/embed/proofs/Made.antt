@@ -4,6 +4,7 @@ use Rattle.std.specs.Prelude.{◌-◌, ◌^◌, min, unwrap_or}
 use Rattle.std.specs.List.{slice_get}
 use Rattle.std.proofs.lemmas.List.{length-take, length-drop, take_all}
 use Rattle.std.proofs.lemmas.Option.{get_or_from_slice_get, slice_get_within, same_Some}
+use Rattle.chain.specs.declared.budget.Budget.{Budget}
 use Rattle.sector_cache.specs.Sector.{extent_of}
 use Rattle.board.specs.declared.spec.SlotSpec.{SlotSpec}
 use Rattle.board.specs.Fault.{IsAccepted, IsGoodSlot}
@@ -25,10 +26,10 @@ same_state : (guest : GuestSpec) (image : List ℕ) → state_of (part_of_image 
 same_state guest image =
     ap (λ (bytes : List ℕ). record (state_of image (opened guest.slot)) { extent = bytes }) (front_of_part image guest.slot.extent.start guest.slot.extent.count)
 
-there_in : (guests : List GuestSpec) (g : ℕ) (guest : GuestSpec) (image : List ℕ) → slice_get guests g ≡ Some guest → slice_get (world_of (new_session guests image)).slots g ≡ Some (state_of image (opened guest.slot))
-there_in [] g guest image here = absurd (cc)
-there_in (one ∷ guests) zero guest image here = ap (λ (s : GuestSpec). Some (state_of image (opened s.slot))) (same_Some one guest here)
-there_in (one ∷ guests) (suc g) guest image here = there_in guests g guest image here
+there_in : (guests : List GuestSpec) (g : ℕ) (guest : GuestSpec) (image : List ℕ) (budget : Budget) → slice_get guests g ≡ Some guest → slice_get (world_of (new_session guests image budget)).slots g ≡ Some (state_of image (opened guest.slot))
+there_in [] g guest image budget here = absurd (cc)
+there_in (one ∷ guests) zero guest image budget here = ap (λ (s : GuestSpec). Some (state_of image (opened s.slot))) (same_Some one guest here)
+there_in (one ∷ guests) (suc g) guest image budget here = there_in guests g guest image budget here
 
 waits_at : (guests : List GuestSpec) (g : ℕ) (guest : GuestSpec) → slice_get guests g ≡ Some guest → slice_get (map (λ (s : GuestSpec). none_waiting s.outlet) guests) g ≡ Some (none_waiting guest.outlet)
 waits_at [] g guest here = absurd (cc)
@@ -36,12 +37,12 @@ waits_at (one ∷ guests) zero guest here = ap (λ (s : GuestSpec). Some (none_w
 waits_at (one ∷ guests) (suc g) guest here = waits_at guests g guest here
 
 -- so it sees what it would see alone
-pub made_alone : {A : Type 0} (g : ℕ) (guests : List GuestSpec) (guest : GuestSpec) (image : List ℕ) (deeds more : List (Deed A)) (new last : SessionState) → slice_get guests g ≡ Some guest →
-    IsCourse (new_session guests image) deeds new → IsCourse (new_session_alone guest image) more last → own_calls 0 more ≡ own_calls g deeds → SeeAlike g deeds new 0 more last
-made_alone g guests guest image deeds more new last here x y calls =
+pub made_alone : {A : Type 0} (g : ℕ) (guests : List GuestSpec) (guest : GuestSpec) (image : List ℕ) (budget budget' : Budget) (deeds more : List (Deed A)) (new last : SessionState) → slice_get guests g ≡ Some guest →
+    IsCourse (new_session guests image budget) deeds new → IsCourse (new_session_alone guest image budget') more last → own_calls 0 more ≡ own_calls g deeds → SeeAlike g deeds new 0 more last
+made_alone g guests guest image budget budget' deeds more new last here x y calls =
     let waits = waits_at guests g guest here in
-    see_alike g 0 (new_session guests image) new (new_session_alone guest image) last deeds more (state_of image (opened guest.slot)) x y
-    (there_in guests g guest image here) (ap (λ (s : SlotState). Some s) (same_state guest image))
+    see_alike g 0 (new_session guests image budget) new (new_session_alone guest image budget') last deeds more (state_of image (opened guest.slot)) x y
+    (there_in guests g guest image budget here) (ap (λ (s : SlotState). Some s) (same_state guest image))
     (sym (ap (λ (o : Option Waiting). (unwrap_or o (none_waiting 0)).bytes) waits))
     (sym (ap (λ (o : Option Waiting). (unwrap_or o (none_waiting 0)).limit) waits)) calls
 

@@ -1,6 +1,7 @@
 -- Each guest of a session, as its own calls decide it and nothing else does.
 use Rattle.std.specs.Prelude.{◌≡◌, ℕ, ◌==◌, ◌/◌, if◌then◌else◌, List, [], ◌∷◌, length, map, take, drop, Some}
 use Rattle.std.specs.List.{slice_get}
+use Rattle.chain.specs.declared.budget.Budget.{Budget}
 use Rattle.sector_cache.specs.Sector.{extent_of}
 use Rattle.board.specs.declared.event.EventKind.{EventKind}
 use Rattle.board.specs.declared.reply.Reply.{Reply}
@@ -85,5 +86,5 @@ at_front guest = record guest {
 }
 
 -- a new session with that guest alone, over its part of the image
-abbrev pub new_session_alone : GuestSpec → List ℕ → SessionState
-new_session_alone guest image = new_session (at_front guest ∷ []) (part_of_image guest image)
+abbrev pub new_session_alone : GuestSpec → List ℕ → Budget → SessionState
+new_session_alone guest image budget = new_session (at_front guest ∷ []) (part_of_image guest image) budget

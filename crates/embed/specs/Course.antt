@@ -23,6 +23,8 @@ pub record IsTaken (old : SessionState) (slot room : ℕ) (bytes : List ℕ) (ne
   pub others : KeepsOtherOutputs slot old.outputs new.outputs
   pub limits : (slot : ℕ) → limit_of slot new ≡ limit_of slot old
   pub world : world_of new ≡ world_of old
+  pub paused : new.paused ≡ old.paused
+  pub budget : new.budget ≡ old.budget
 
 -- these things lead from one session to another
 abbrev pub IsCourse : {A : Type 0} → SessionState → List (Deed A) → SessionState → Type 0

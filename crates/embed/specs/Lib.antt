@@ -1,5 +1,6 @@
 pub use Rattle.board.specs.World
 pub mod Session
+pub mod Pausing
 pub mod Answering
 pub mod Refusing
 pub mod Course

@@ -1,11 +1,13 @@
 -- A session, as its embedder sees it, and what one event does to it.
-use Rattle.std.specs.Prelude.{⊤, ◌≡◌, ◌≢◌, ◌↔◌, ℕ, ◌≤◌, Bool, false, List, [], length, map, Some, slice_set, unwrap_or, IsSomeAnd}
+use Rattle.std.specs.Prelude.{⊤, ◌≡◌, ◌≢◌, ◌↔◌, ℕ, ◌≤◌, Bool, false, List, [], length, map, Option, Some, None, replicate, slice_set, unwrap_or, IsSomeAnd}
 use Rattle.std.specs.List.{slice_get}
+use Rattle.chain.specs.declared.budget.Budget.{Budget}
 use Rattle.guest_memory.specs.Memory.{Memory}
 use Rattle.sector_cache.specs.Disk.{Disk, new_disk}
 use Rattle.board.specs.declared.event.Event.{Event}
 use Rattle.board.specs.declared.event.EventKind.{EventKind}
 use Rattle.board.specs.declared.event.EventKind.TheVariants.{MemRead}
+use Rattle.board.specs.declared.pause.Pause.{Pause}
 use Rattle.board.specs.declared.reply.Reply.{Reply}
 use Rattle.board.specs.declared.reply.Reply.TheVariants.{BadSlot, BadRange, NoMemory}
 use Rattle.board.specs.declared.spec.SlotSpec.{SlotSpec}
@@ -13,6 +15,7 @@ use Rattle.board.specs.Lending.{put_back}
 use Rattle.board.specs.Slot.{BoardSlot, SlotState, opened, state_of}
 use Rattle.board.specs.World.{World, Answers, KeepsOthers, MayLackMemory, extents_of, seen}
 use Rattle.board.specs.Within.{MayPutOut, TakesWithin}
+use Rattle.paced.specs.Pacing.{paused_at}
 use Rattle.embed.specs.declared.guest.GuestSpec.{GuestSpec}
 
 -- What a slot's console put out and nobody has taken yet, and how many bytes of it may wait.
@@ -24,13 +27,15 @@ pub record Waiting : Type 0 where
 abbrev pub none_waiting : ℕ → Waiting
 none_waiting limit = record { bytes = []; limit = limit }
 
--- A session: the slots of its board, the image's bytes and whether a write waits for a flush, and for each slot
--- what its console put out and nobody has taken yet.
+-- A session: the slots of its board, the image's bytes and whether a write waits for a flush, for each slot what its
+-- console put out and nobody has taken yet and the service that is paused, if any, and how much one call may serve.
 pub record SessionState : Type 0 where
   pub slots : List BoardSlot
   pub image : List ℕ
   pub mark : Bool
   pub outputs : List Waiting
+  pub paused : List (Option Pause)
+  pub budget : Budget
 
 -- the image: it tells its bytes, and none of its calls fails
 abbrev pub disk_of : SessionState → Disk
@@ -47,6 +52,10 @@ output_of slot session = (unwrap_or (slice_get session.outputs slot) (none_waiti
 -- and how many bytes of it may wait
 abbrev pub limit_of : ℕ → SessionState → ℕ
 limit_of slot session = (unwrap_or (slice_get session.outputs slot) (none_waiting 0)).limit
+
+-- no service of the slot is paused
+abbrev pub IsIdle : ℕ → SessionState → Type 0
+IsIdle slot session = paused_at session.paused slot ≡ None
 
 -- every slot's output but that one's is kept as it was
 abbrev pub KeepsOtherOutputs : ℕ → List Waiting → List Waiting → Type 0
@@ -75,6 +84,9 @@ pub record IsStep {A : Type 0} (old : SessionState) (event : Event A) (reply : R
       reply ≡ NoMemory → (found : SlotState) → slice_get (world_of old).slots event.slot ≡ Some found →
       MayPutOut found event.what
   pub limits : (slot : ℕ) → limit_of slot new ≡ limit_of slot old
+  -- nothing is paused by it, or goes on
+  pub paused : new.paused ≡ old.paused
+  pub budget : new.budget ≡ old.budget
   -- which events are refused, and what a refusal keeps
   pub bad_slot : (reply ≡ BadSlot) ↔ (length old.slots ≤ event.slot)
   pub bad_slot_keeps : reply ≡ BadSlot → new ≡ old
@@ -87,13 +99,15 @@ pub record IsStep {A : Type 0} (old : SessionState) (event : Event A) (reply : R
 abbrev pub slots_of : List GuestSpec → List SlotSpec
 slots_of guests = map (λ guest. guest.slot) guests
 
--- a new session: the slots of a new board, the image as it was handed over, and nothing put out yet
-abbrev pub new_session : List GuestSpec → List ℕ → SessionState
-new_session guests image = record {
+-- a new session: the slots of a new board, the image as it was handed over, nothing put out yet, and nothing paused
+abbrev pub new_session : List GuestSpec → List ℕ → Budget → SessionState
+new_session guests image budget = record {
   slots = map opened (slots_of guests);
   image = image;
   mark = false;
   outputs = map (λ guest. none_waiting guest.outlet) guests;
+  paused = replicate (length guests) None;
+  budget = budget;
 }
 
 -- a session in which a slot, which was this one, has another memory, and nothing else is other

@@ -12,6 +12,9 @@ pub enum SessionFault {
     /// More output of a guest may wait than 2^24 bytes.
     #[error("an outlet keeps 16777216 bytes at most")]
     BadOutlet,
+    /// The budget has no chain or no byte, so a service that pauses would never go on.
+    #[error("a budget needs one chain and one byte at least")]
+    SpentBudget,
     /// The board was refused, for another reason than want of memory.
     #[error("{0}")]
     Board(BoardFault),

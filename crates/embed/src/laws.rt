@@ -2,6 +2,7 @@
 
 ghost use Rattle.std.specs.Prelude.{◌≡◌, ◌/◌, ℕ, List, [], ◌∷◌, length, Some};
 ghost use Rattle.std.specs.List.{slice_get};
+ghost use Rattle.chain.specs.declared.budget.Budget.{Budget};
 ghost use Rattle.guest_memory.specs.Memory.{Inside, put};
 ghost use Rattle.board.specs.declared.event.EventKind.{EventKind};
 ghost use Rattle.board.specs.declared.reply.Reply.{Reply};
@@ -20,9 +21,9 @@ use std::alloc::Allocator;
 /// over its part of the image, where the same is called for it. No premise says that nothing was refused.
 pub fn each_guest_is_alone<A: Allocator>()
     ensures alone { (g : ℕ) (guests : List GuestSpec) (guest : GuestSpec) (image : List ℕ)
-        (deeds more : List (Deed A)) (new last : SessionState) → slice_get guests g ≡ Some guest →
-        IsCourse (new_session guests image) deeds new →
-        IsCourse (new_session_alone guest image) more last → own_calls 0 more ≡ own_calls g deeds →
+        (budget budget' : Budget) (deeds more : List (Deed A)) (new last : SessionState) → slice_get guests g ≡ Some guest →
+        IsCourse (new_session guests image budget) deeds new →
+        IsCourse (new_session_alone guest image budget') more last → own_calls 0 more ≡ own_calls g deeds →
         SeeAlike g deeds new 0 more last }
 
     // there is such a session: it is never refused, but for want of memory

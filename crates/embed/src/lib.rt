@@ -3,7 +3,7 @@
 //!
 //! `session` is the session, a module for each kind of call: `registers`, `memory`, `console` and `image`. `guest` is
 //! what it is made of, and `output_queue` keeps what a console put out. `fault` says why there is no session, `refusal`
-//! why a call was refused.
+//! why a call was refused, and `typed` what became of input.
 #![tactic(auto)]
 
 mod fault;
@@ -12,16 +12,21 @@ mod laws;
 mod output_queue;
 mod refusal;
 mod session;
+mod typed;
 
-pub use board::{BoardFault, CacheFault, DeviceKind, Extent, GuestMemory, MemoryFault, SlotSpec};
+pub use board::{
+    BoardFault, Budget, CacheFault, DeviceKind, Extent, GuestMemory, MemoryFault, SlotSpec,
+};
 pub use fault::SessionFault;
 pub use guest::GuestSpec;
 pub use laws::{
     a_guest_with_room_runs_alone, a_write_in_place_is_an_event, each_guest_is_alone,
     the_outlet_decides,
 };
+pub use paced::Progress;
 pub use refusal::Refusal;
 pub use session::Session;
+pub use typed::Typed;
 
 #[cfg(test)]
 mod tests;

@@ -3,15 +3,20 @@
 ghost use Rattle.std.specs.Prelude.{◌≡◌, ◌≢◌, ◌++◌, ◌+◌, ◌-◌, ◌≤◌, ◌↔◌, ℕ, List, Some, length, vec_capacity, min, take, drop, IfOk, IsSomeAnd};
 ghost use Rattle.std.specs.List.{slice_get};
 ghost use Rattle.sector_cache.specs.MemoryImage.{disk_of};
+ghost use Rattle.board.specs.declared.pause.Pause.{Pause};
+ghost use Rattle.board.specs.declared.pause.Turn.{Turn};
 ghost use Rattle.board.specs.declared.reply.Reply.{Reply};
 ghost use Rattle.board.specs.Image.{bytes_of};
+ghost use Rattle.board.specs.Pausing.{HasLimit};
 ghost use Rattle.board.specs.Slot.{BoardSlot, state_of};
-ghost use Rattle.board.specs.Within.{TakesWithin};
-ghost use Rattle.board.specs.World.{Answers, KeepsOthers, MayLackMemory, extents_of, world_of};
+ghost use Rattle.board.specs.Within.{BeginsWithin, GoesOnWithin};
+ghost use Rattle.board.specs.World.{KeepsOthers, MayLackMemory, extents_of};
+ghost use Rattle.paced.specs.Pacing.{Handle, GoOn, Responds, paced_world, response_to};
 ghost use Rattle.embed.specs.Session.{none_waiting};
 
-use board::{Board, Event, MemoryImage, Reply};
+use board::{Event, MemoryImage};
 use console_device::{NoMemory, Outlet};
+use paced::{Paced, Response};
 use std::alloc::{AllocError, Allocator, Global};
 use std::marker::Model;
 use std::mem;
@@ -131,27 +136,53 @@ impl<A: Allocator + Copy> OutputQueue<A> {
     /// Handles an event of the board, and keeps what is put out behind what waits.
     pub(crate) fn step(
         &mut self,
-        board: &mut Board<MemoryImage<A>, A>,
+        paced: &mut Paced<MemoryImage<A>, A>,
         event: &Event<A>,
-    ) -> Reply<A>
-        ensures answers { Answers (world_of disk_of board.old) event.now result self.old.bytes self.new.bytes
-            (world_of disk_of board.new) }
+    ) -> Response<A>
+        ensures responds { Responds paced.old.budget (paced_world disk_of paced.old) (Handle event.now) result
+            self.old.bytes self.new.bytes (paced_world disk_of paced.new) }
         ensures within { (found after : BoardSlot) →
-            slice_get board.old.slots event.now.slot ≡ Some found →
-            slice_get board.new.slots event.now.slot ≡ Some after →
-            TakesWithin self.old.limit (state_of (bytes_of (disk_of board.old.image)) found) event.now.what
-            (state_of (bytes_of (disk_of board.new.image)) after) self.old.bytes self.new.bytes result }
+            slice_get paced.old.board.slots event.now.slot ≡ Some found →
+            slice_get paced.new.board.slots event.now.slot ≡ Some after →
+            (turn : Turn A) → result ≡ response_to turn →
+            BeginsWithin self.old.limit event.now.what paced.old.budget
+            (state_of (bytes_of (disk_of paced.old.board.image)) found)
+            (state_of (bytes_of (disk_of paced.new.board.image)) after) self.old.bytes self.new.bytes turn }
         ensures limit { self.new.limit ≡ self.old.limit }
-        ensures extents { extents_of board.new.slots ≡ extents_of board.old.slots }
-        ensures outside { (world_of disk_of board.new).outside ≡ (world_of disk_of board.old).outside }
-        ensures bad_slot { (result ≡ Reply.BadSlot) ↔ (length board.old.slots ≤ event.now.slot) }
-        ensures bad_slot_keeps { result ≡ Reply.BadSlot → board.new ≡ board.old }
-        ensures bad_range_keeps { result ≡ Reply.BadRange → board.new ≡ board.old }
-        ensures others { KeepsOthers event.now.slot board.old.slots board.new.slots }
-        ensures no_memory { result ≡ Reply.NoMemory →
-            IsSomeAnd (slice_get board.old.slots event.now.slot)
+        ensures budget { paced.new.budget ≡ paced.old.budget }
+        ensures busy { result ≡ Response.Busy → paced.new ≡ paced.old }
+        ensures not_idle { result ≡ Response.Idle → ⊥ }
+        ensures extents { extents_of paced.new.board.slots ≡ extents_of paced.old.board.slots }
+        ensures others { KeepsOthers event.now.slot paced.old.board.slots paced.new.board.slots }
+        ensures limited { result ≡ Response.More → HasLimit paced.old.budget }
+        ensures bad_slot { (result ≡ Response.Answered Reply.BadSlot) ↔ (length paced.old.board.slots ≤ event.now.slot) }
+        ensures bad_range_keeps { result ≡ Response.Answered Reply.BadRange → paced.new.board ≡ paced.old.board }
+        ensures no_memory { result ≡ Response.Answered Reply.NoMemory →
+            IsSomeAnd (slice_get paced.old.board.slots event.now.slot)
             (λ slot. (image : List ℕ) → MayLackMemory (state_of image slot) event.now.what) }
     {
-        board.step(event, self)
+        paced.step(event, self)
+    }
+
+    /// Goes on with the service of a slot of the board, and keeps what is put out behind what waits.
+    pub(crate) fn go_on(&mut self, paced: &mut Paced<MemoryImage<A>, A>, slot: u8) -> Response<A>
+        ensures responds { Responds paced.old.budget (paced_world disk_of paced.old) (GoOn slot) result
+            self.old.bytes self.new.bytes (paced_world disk_of paced.new) }
+        ensures within { (found after : BoardSlot) →
+            slice_get paced.old.board.slots slot ≡ Some found →
+            slice_get paced.new.board.slots slot ≡ Some after →
+            (pause : Pause) → slice_get paced.old.paused slot ≡ Some (Some pause) →
+            (turn : Turn A) → result ≡ response_to turn →
+            GoesOnWithin self.old.limit pause paced.old.budget
+            (state_of (bytes_of (disk_of paced.old.board.image)) found)
+            (state_of (bytes_of (disk_of paced.new.board.image)) after) self.old.bytes self.new.bytes turn }
+        ensures limit { self.new.limit ≡ self.old.limit }
+        ensures budget { paced.new.budget ≡ paced.old.budget }
+        ensures idle { result ≡ Response.Idle → paced.new ≡ paced.old }
+        ensures not_busy { result ≡ Response.Busy → ⊥ }
+        ensures extents { extents_of paced.new.board.slots ≡ extents_of paced.old.board.slots }
+        ensures others { KeepsOthers slot paced.old.board.slots paced.new.board.slots }
+    {
+        paced.go_on(slot, self)
     }
 }

@@ -1,9 +1,10 @@
 //! Why a call was refused.
 
 ghost use Rattle.std.specs.Prelude.{◌≡◌};
-ghost use Rattle.embed.specs.Answering.{IsRefusing, refusing_reply};
+ghost use Rattle.embed.specs.Answering.{IsRefusing, refusing_response};
 
 use board::Reply;
+use paced::Response;
 use std::alloc::Allocator;
 use thiserror::Error;
 
@@ -19,17 +20,21 @@ pub enum Refusal {
     /// What the guest's console puts out next doesn't fit behind what waits. What came before it was put out.
     #[error("the guest's output has no room until some of it is taken")]
     NoRoom,
+    /// A service of the slot is paused. Nothing has changed.
+    #[error("a service of the guest is paused")]
+    Busy,
 }
 
 impl Refusal {
-    /// The refusal that a reply of the board says.
-    pub(crate) fn of<A: Allocator>(reply: &Reply<A>) -> Refusal
-        requires { IsRefusing reply.now }
-        ensures { reply.now ≡ refusing_reply result }
+    /// The refusal that a response of the board says.
+    pub(crate) fn of<A: Allocator>(response: &Response<A>) -> Refusal
+        requires { IsRefusing response.now }
+        ensures { response.now ≡ refusing_response result }
     {
-        match reply {
-            Reply::NoMemory => Refusal::NoRoom,
-            Reply::BadRange => Refusal::BadRange,
+        match response {
+            Response::Answered(Reply::NoMemory) => Refusal::NoRoom,
+            Response::Answered(Reply::BadRange) => Refusal::BadRange,
+            Response::Busy => Refusal::Busy,
             _ => Refusal::BadSlot,
         }
     }

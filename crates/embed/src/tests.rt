@@ -3,6 +3,7 @@
 use super::*;
 
 mod outlets;
+mod pauses;
 
 use refusing::RefusingHeap;
 use std::alloc::{AllocError, Allocator, Global};
@@ -46,7 +47,7 @@ fn eight_sectors(alloc: Global) -> Result<Vec<u8>, AllocError> {
 /// A session of both slots over it.
 fn session<A: Allocator + Copy>(alloc: Global, heap: A) -> Result<Session<A>, Fail> {
     let image = eight_sectors(alloc)?;
-    Ok(Session::new(heap, &two_guests(4096), &image, 8)?)
+    Ok(Session::new(heap, &two_guests(4096), &image, 8, Budget::UNLIMITED)?)
 }
 
 fn same<R: Debug, T: PartialEq + Debug>(rt: &impl Abort, row: &R, found: &T, wanted: &T) {
@@ -58,9 +59,20 @@ fn same<R: Debug, T: PartialEq + Debug>(rt: &impl Abort, row: &R, found: &T, wan
 enum Act<'a> {
     Get(DeviceKind, u16),
     Set(DeviceKind, u16, u32),
+    GoOn,
     Type(&'a [u8]),
     Resize(u16, u16),
     Store(u64, &'a [u8]),
+}
+
+/// Where more is to come.
+const MORE: u32 = 0x8000_0000;
+
+fn number(progress: Progress) -> u32 {
+    match progress {
+        Progress::Done => 0,
+        Progress::More => MORE,
+    }
 }
 
 /// What the call answers, where 0 stands for an answer without a number.
@@ -73,8 +85,11 @@ fn answer<A: Allocator + Copy>(
         Act::Get(window, offset) => session.read(slot, window, offset, 4),
         Act::Set(window, offset, value) => session
             .write(slot, window, offset, 4, value)
-            .map(|()| 0),
-        Act::Type(bytes) => session.input(slot, bytes).map(|taken| taken as u32),
+            .map(number),
+        Act::GoOn => session.go_on(slot).map(number),
+        Act::Type(bytes) => session
+            .input(slot, bytes)
+            .map(|typed| typed.taken as u32 | number(typed.progress)),
         Act::Resize(cols, rows) => session.resize(slot, cols, rows).map(|()| 0),
         Act::Store(addr, bytes) => session.write_memory(slot, addr, bytes).map(|()| 0),
     }
@@ -138,15 +153,16 @@ fn memory_is_reached(rt: HostRuntime) -> Result<(), Fail> {
     assert!(rt; session.read_memory(0, BASE + 0xfffc, &mut back) == Ok(()) && back == [0; 4]);
     let word = session
         .memory(1)
+        .ok()
         .and_then(|memory| memory.get_u16(BASE + 0xfffc));
-    assert!(rt; word == Some(0x6574) && session.memory(2).is_none());
+    assert!(rt; word == Some(0x6574) && session.memory(2).is_err());
     assert!(rt; !heap.has_refused());
     Ok(())
 }
 
 /// Bytes at both ends of guest 1's memory, where there is such a guest.
 fn put_ends<A: Allocator + Copy>(session: &mut Session<A>, bytes: [u8; 2]) {
-    if session.slots() < 2 {
+    if session.slots() < 2 || session.is_paused(1) {
         return;
     }
     let memory = session.memory_mut(1);
@@ -312,6 +328,7 @@ fn check_fault(rt: &impl Abort, alloc: Global, image: &[u8], row: &Asked) {
         &two_guests(outlet),
         &image[..len.min(image.len())],
         cache,
+        Budget::UNLIMITED,
     );
     same(rt, row, &made.map(|_| ()), &wanted);
 }
@@ -331,7 +348,7 @@ fn a_refused_session_says_so(rt: HostRuntime) -> Result<(), Fail> {
     let image = eight_sectors(rt.alloc())?;
     for n in 1..100 {
         heap.refuse_from(n);
-        let made = Session::new(&heap, &two_guests(4096), &image, 8).map(|_| ());
+        let made = Session::new(&heap, &two_guests(4096), &image, 8, Budget::UNLIMITED).map(|_| ());
         if made == Ok(()) {
             assert!(rt; !heap.has_refused() && n > 5);
             return Ok(());

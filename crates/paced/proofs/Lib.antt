@@ -1,4 +1,5 @@
 pub mod Midway
 pub mod Alone
 pub mod Turns
+pub mod Access
 pub mod Noted

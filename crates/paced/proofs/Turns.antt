@@ -1,14 +1,23 @@
 -- A turn that the board takes, as what a call comes to.
-use Rattle.std.proofs.Common.{◌≡◌, ℕ, Some, None, List, refl, subst}
+use Rattle.std.proofs.Common.{◌≡◌, ℕ, Option, Some, None, List, refl, subst}
 use Rattle.std.specs.Prelude.{slice_set}
 use Rattle.std.specs.List.{slice_get}
+use Rattle.chain.specs.declared.budget.Budget.{Budget}
 use Rattle.sector_cache.specs.Disk.{Disk}
 use Rattle.board.specs.declared.event.Event.{Event}
+use Rattle.board.specs.declared.event.EventKind.{EventKind}
 use Rattle.board.specs.declared.pause.Pause.{Pause}
+use Rattle.board.specs.declared.pause.Service.{Service}
+use Rattle.board.specs.declared.pause.Service.TheVariants.{Block, Receive, Transmit}
+use Rattle.board.specs.declared.pause.Stage.{Stage}
+use Rattle.board.specs.declared.pause.Stage.TheVariants.{First}
 use Rattle.board.specs.declared.pause.Turn.{Turn}
+use Rattle.board.specs.declared.pause.Turn.TheVariants as turn
+use Rattle.board.specs.declared.reply.Reply.{Reply}
 use Rattle.board.specs.Image.{Health}
-use Rattle.board.specs.Pausing.{Begins, GoesOn, TakesTurn}
+use Rattle.board.specs.Pausing.{Begins, GoesOn, TakesTurn, asked, readied}
 use Rattle.board.specs.Slot.{SlotState}
+use Rattle.board.specs.Within.{BeginsWithin, PieceBy, TurnWithin}
 use Rattle.board.specs.World.{BoardState, world_of}
 use Rattle.paced.specs.declared.response.Response.{Response}
 use Rattle.paced.specs.Pacing.{GoOn, Handle, IsTurn, PacedState, Responds, paced_world, paused_by, response_to}
@@ -43,3 +52,24 @@ module _ {A I : Type 0} (disk : I → Disk) (old : PacedState I) (board : BoardS
     comes = rw (is, waits) (is_turn (GoesOn pause old.budget) t told);
     appended = t.appended;
   }
+
+-- ---- what an outlet decides of a turn, by what the caller is told of it
+
+piece_by : (A : Type 0) (service : Service) (limit : ℕ) (pause : Pause) (stage : Stage) (budget : Budget) (old new : SlotState) (waiting left : List ℕ) (p q : Pause)
+    → PieceBy {A = A} service limit pause stage budget old new waiting left (turn.More p) → PieceBy {A = A} service limit pause stage budget old new waiting left (turn.More q)
+piece_by A Block limit pause stage budget old new waiting left p q h = tt
+piece_by A Receive limit pause stage budget old new waiting left p q h = tt
+piece_by A Transmit limit pause stage budget old new waiting left p q h = h
+
+turn_by : {A : Type 0} (asks : Option Pause) (limit : ℕ) (what : EventKind A) (budget : Budget) (old new : SlotState) (waiting left : List ℕ) (p q : Pause)
+    → TurnWithin limit asks what budget old new waiting left (turn.More p) → TurnWithin limit asks what budget old new waiting left (turn.More q)
+turn_by None limit what budget old new waiting left p q h = tt
+turn_by {A} (Some pause) limit what budget old new waiting left p q h = piece_by A pause.service limit pause First budget (readied what old) new waiting left p q h
+
+pub told_within : {A : Type 0} (limit : ℕ) (what : EventKind A) (budget : Budget) (old new : SlotState) (waiting left : List ℕ) (response : Response A) (t t' : Turn A)
+    → response ≡ response_to t → response ≡ response_to t' → BeginsWithin limit what budget old new waiting left t → BeginsWithin limit what budget old new waiting left t'
+told_within {A} limit what budget old new waiting left response (turn.Answered r) (turn.Answered r') told told' h =
+    let is : r ≡ r' = cc (told, told') in subst (λ (a : Reply A). BeginsWithin limit what budget old new waiting left (turn.Answered a)) is h
+told_within limit what budget old new waiting left response (turn.More p) (turn.More q) told told' h = turn_by (asked what old) limit what budget old new waiting left p q h
+told_within limit what budget old new waiting left response (turn.Answered r) (turn.More q) told told' h = absurd (cc (told, told'))
+told_within limit what budget old new waiting left response (turn.More p) (turn.Answered r) told told' h = absurd (cc (told, told'))

@@ -10,6 +10,7 @@ use Rattle.board.specs.declared.pause.Turn.{Turn}
 use Rattle.board.specs.declared.pause.Turn.TheVariants as turn
 use Rattle.board.specs.declared.reply.Reply.TheVariants.{BadSlot}
 use Rattle.board.specs.Image.{Health}
+use Rattle.board.specs.Lending as lending
 use Rattle.board.specs.Pausing.{Begins, GoesOn, SlotTurn}
 use Rattle.board.specs.Slot.{SlotState}
 use Rattle.board.specs.World.{BoardState, World, world_of}
@@ -21,6 +22,10 @@ pub record PacedState (I : Type 0) : Type 0 where
   pub board : BoardState I
   pub paused : List (Option Pause)
   pub budget : Budget
+
+-- a paced board with these bytes in the memory of slot i
+abbrev pub with_slot_bytes : {I : Type 0} → ℕ → PacedState I → List ℕ → PacedState I
+with_slot_bytes i paced bytes = record paced { board = lending.with_slot_bytes i paced.board bytes }
 
 -- the service of a slot that is paused, if one is
 abbrev pub paused_at : List (Option Pause) → ℕ → Option Pause

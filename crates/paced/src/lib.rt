@@ -11,6 +11,7 @@ mod paced;
 mod response;
 
 pub use board::{Board, Budget, Event, EventKind, Outlet, Pause, Reply, Service};
+pub use chain::Progress;
 pub use fault::PacedFault;
 pub use laws::{each_guest_is_alone, refusals_are_noted};
 pub use paced::Paced;

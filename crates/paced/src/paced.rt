@@ -1,13 +1,21 @@
 //! The board with what is paused of each slot.
 
-ghost use Rattle.std.specs.Prelude.{◌≡◌, ◌↔◌, ◌<◌, ◌≤◌, length, replicate, slice_set, None, IfOk, IfErr, OnOk, IsErrAnd};
+ghost use Rattle.std.specs.Prelude.{◌≡◌, ◌↔◌, ◌<◌, ◌≤◌, ℕ, List, length, replicate, slice_set, Some, None, IfOk, IfErr, OnOk, IsErrAnd, IsSomeAnd};
 ghost use Rattle.std.specs.List.{slice_get};
 ghost use Rattle.std.specs.Option.{option_map, is_some};
 ghost use Rattle.chain.specs.Budget.{IsSpent};
-ghost use Rattle.board.specs.Image.{Tells};
-ghost use Rattle.board.specs.World.{KeepsOthers, extents_of};
+ghost use Rattle.board.specs.declared.pause.Pause.{Pause};
+ghost use Rattle.board.specs.declared.pause.Turn.{Turn};
+ghost use Rattle.board.specs.declared.reply.Reply.{Reply};
+ghost use Rattle.board.specs.Image.{Tells, bytes_of};
+ghost use Rattle.board.specs.Pausing.{HasLimit};
+ghost use Rattle.board.specs.Slot.{BoardSlot, state_of};
+ghost use Rattle.board.specs.Within.{BeginsWithin, GoesOnWithin};
+ghost use Rattle.board.specs.World.{KeepsOthers, MayLackMemory, extents_of};
 ghost use Rattle.paced.specs.declared.fault.PacedFault.{PacedFault};
 ghost use Rattle.paced.specs.Pacing.{Handle, GoOn, Responds, paced_world, paused_at, paused_by, response_to};
+
+mod access;
 
 use crate::fault::PacedFault;
 use crate::response::Response;
@@ -81,6 +89,26 @@ impl<I: Image, A: Allocator + Copy> Paced<I, A> {
         ensures budget { self.new.budget ≡ self.old.budget }
         ensures busy { result ≡ Response.Busy → self.new ≡ self.old }
         ensures not_idle { result ≡ Response.Idle → ⊥ }
+
+        // by an outlet with a limit, what waits in it decides what is put out
+        ensures within { (limit : ℕ) → O.limit out.old ≡ Some limit → (found after : BoardSlot) →
+            slice_get self.old.board.slots event.now.slot ≡ Some found →
+            slice_get self.new.board.slots event.now.slot ≡ Some after →
+            (turn : Turn A) → result ≡ response_to turn →
+            BeginsWithin limit event.now.what self.old.budget
+            (state_of (bytes_of (I.disk self.old.board.image)) found)
+            (state_of (bytes_of (I.disk self.new.board.image)) after) (O.bytes out.old) (O.bytes out.new) turn }
+        ensures limit { O.limit out.new ≡ O.limit out.old }
+        ensures extents { extents_of self.new.board.slots ≡ extents_of self.old.board.slots }
+        ensures others { KeepsOthers event.now.slot self.old.board.slots self.new.board.slots }
+
+        // without a limit nothing pauses
+        ensures limited { result ≡ Response.More → HasLimit self.old.budget }
+        ensures bad_slot { (result ≡ Response.Answered Reply.BadSlot) ↔ (length self.old.board.slots ≤ event.now.slot) }
+        ensures bad_range_keeps { result ≡ Response.Answered Reply.BadRange → self.new.board ≡ self.old.board }
+        ensures no_memory { result ≡ Response.Answered Reply.NoMemory →
+            IsSomeAnd (slice_get self.old.board.slots event.now.slot)
+            (λ found. (image : List ℕ) → MayLackMemory (state_of image found) event.now.what) }
     {
         match self.waiting(event.slot) {
             None => Response::Answered(Reply::BadSlot),
@@ -103,6 +131,17 @@ impl<I: Image, A: Allocator + Copy> Paced<I, A> {
         ensures budget { self.new.budget ≡ self.old.budget }
         ensures idle { result ≡ Response.Idle → self.new ≡ self.old }
         ensures not_busy { result ≡ Response.Busy → ⊥ }
+
+        // by an outlet with a limit, what waits in it decides what is put out
+        ensures within { (limit : ℕ) → O.limit out.old ≡ Some limit → (found after : BoardSlot) →
+            slice_get self.old.board.slots slot ≡ Some found → slice_get self.new.board.slots slot ≡ Some after →
+            (pause : Pause) → slice_get self.old.paused slot ≡ Some (Some pause) →
+            (turn : Turn A) → result ≡ response_to turn →
+            GoesOnWithin limit pause self.old.budget (state_of (bytes_of (I.disk self.old.board.image)) found)
+            (state_of (bytes_of (I.disk self.new.board.image)) after) (O.bytes out.old) (O.bytes out.new) turn }
+        ensures limit { O.limit out.new ≡ O.limit out.old }
+        ensures extents { extents_of self.new.board.slots ≡ extents_of self.old.board.slots }
+        ensures others { KeepsOthers slot self.old.board.slots self.new.board.slots }
     {
         match self.waiting(slot) {
             None => Response::Answered(Reply::BadSlot),

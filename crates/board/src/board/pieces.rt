@@ -1,7 +1,8 @@
 //! An event of a slot, and the pieces of its service.
 
-ghost use Rattle.std.specs.Prelude.{◌≡◌, ◌↔◌, ◌<◌, ◌≤◌, ℕ, List, length, Some, IsSomeAnd};
+ghost use Rattle.std.specs.Prelude.{◌≡◌, ◌↔◌, ◌<◌, ◌≤◌, ℕ, List, [], length, Some, IsSomeAnd};
 ghost use Rattle.std.specs.List.{slice_get};
+ghost use Rattle.board.specs.declared.event.EventKind.{EventKind};
 ghost use Rattle.board.specs.declared.pause.Pause.{Pause};
 ghost use Rattle.board.specs.declared.pause.Turn.{Turn};
 ghost use Rattle.board.specs.declared.reply.Reply.{Reply};
@@ -75,6 +76,36 @@ impl<I: Image, A: Allocator + Copy> Board<I, A> {
             };
         };
         let turn = slot.begin(self.alloc, what, budget, &mut self.cache, out);
+        let (block_irq, console_irq) = slot.interrupts();
+        Taken {
+            turn,
+            block_irq,
+            console_irq,
+        }
+    }
+
+    /// Types bytes to the slot's console: `begin` for that input, for who has the bytes in a slice. No memory is
+    /// taken.
+    pub fn begin_input(&mut self, slot: u8, bytes: &[u8], budget: Budget) -> Taken<A>
+        ensures takes { Tells (I.disk self.old.image) → slot < length self.old.slots →
+            TakesTurn (Begins (EventKind.Input bytes.now) budget) (world_of I.disk self.old) slot result.turn
+            result.block_irq result.console_irq [] [] (world_of I.disk self.new) }
+        ensures image { self.new.image ≡ self.old.image }
+        ensures extents { extents_of self.new.slots ≡ extents_of self.old.slots }
+        ensures limited { (next : Pause) → result.turn ≡ Turn.More next → HasLimit budget }
+        ensures bad_slot { (result.turn ≡ Turn.Answered Reply.BadSlot) ↔ (length self.old.slots ≤ slot) }
+        ensures missing { length self.old.slots ≤ slot → (self.new ≡ self.old)
+            × (result.block_irq ≡ 0) × (result.console_irq ≡ 0) }
+        ensures others { KeepsOthers slot self.old.slots self.new.slots }
+    {
+        let Some(slot) = self.slots.get_mut(slot as usize) else {
+            return Taken {
+                turn: Turn::Answered(Reply::BadSlot),
+                block_irq: 0,
+                console_irq: 0,
+            };
+        };
+        let turn = slot.input(bytes, budget);
         let (block_irq, console_irq) = slot.interrupts();
         Taken {
             turn,

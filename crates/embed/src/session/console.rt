@@ -1,43 +1,75 @@
 //! A guest's console, from the outside: what is typed, its size, and what it puts out.
 
-ghost use Rattle.std.specs.Prelude.{◌≡◌, ◌<◌, ◌↔◌, length, min, take, drop, ◌++◌, IsSome, IfSome, IfNone, IfErr};
+ghost use Rattle.std.specs.Prelude.{◌≡◌, ◌⊎◌, ◌<◌, ◌↔◌, length, min, take, drop, ◌++◌, Some, IsSome, IfSome, IfNone, IfOk, IfErr};
+ghost use Rattle.chain.specs.declared.budget.Progress.{Progress};
 ghost use Rattle.board.specs.declared.event.EventKind.{EventKind};
+ghost use Rattle.paced.specs.Pacing.{Handle};
 ghost use Rattle.embed.specs.declared.refusal.Refusal.{Refusal};
-ghost use Rattle.embed.specs.Answering.{done_reply, took_reply};
+ghost use Rattle.embed.specs.Answering.{done_response, typed_response};
 ghost use Rattle.embed.specs.Course.{IsTaken};
-ghost use Rattle.embed.specs.Session.{IsStep, output_of};
+ghost use Rattle.embed.specs.Pausing.{IsCall, IsWhole, taken_at};
+ghost use Rattle.embed.specs.Session.{output_of};
 
 use crate::refusal::Refusal;
 use crate::session::Session;
+use crate::typed::Typed;
 use board::{Event, EventKind, Reply};
+use paced::{Pause, Progress, Response};
 use std::alloc::Allocator;
 
 impl<A: Allocator + Copy> Session<A> {
     /// Types bytes to the guest's console, and answers how many were taken: the first ones. A console keeps
-    /// 4096 until its guest reads them. It is refused for a bad slot alone.
-    pub fn input(&mut self, slot: u8, bytes: &[u8]) -> Result<usize, Refusal>
-        ensures step { IsStep {A = A} self.old
+    /// 4096 until its guest reads them. Where more is to come, `go_on` goes on with the service of its receive queue. It
+    /// is refused for a bad slot, and while a service of the slot is paused.
+    pub fn input(&mut self, slot: u8, bytes: &[u8]) -> Result<Typed, Refusal>
+        ensures call { IsCall {A = A} self.old
+            (Handle (record { slot = slot; what = EventKind.Input bytes.now }))
+            (typed_response result) self.new }
+        ensures whole { IsWhole {A = A} self.old
             (record { slot = slot; what = EventKind.Input bytes.now })
-            (took_reply result) self.new }
-        ensures refused { IfErr result (λ why. why ≡ Refusal.BadSlot) }
+            (typed_response result) self.new }
+        ensures taken { IfOk result (λ typed. typed.progress ≡ Progress.More →
+            taken_at slot self.new ≡ Some typed.taken) }
+        ensures refused { IfErr result (λ why. (why ≡ Refusal.BadSlot) ⊎ (why ≡ Refusal.Busy)) }
     {
-        let Some(taken) = self.board.input(slot, bytes) else {
-            return Err(Refusal::BadSlot);
-        };
-        Ok(taken)
+        match self.put_in(slot, bytes) {
+            Response::Answered(Reply::Took(taken)) => Ok(Typed {
+                taken,
+                progress: Progress::Done,
+            }),
+            Response::More => {
+                let Some(
+                    Pause {
+                        service: _,
+                        taken: Some(taken),
+                    },
+                ) = self.paced.paused(slot)
+                else {
+                    unreachable!()
+                };
+                Ok(Typed {
+                    taken,
+                    progress: Progress::More,
+                })
+            }
+            response => Err(Refusal::of(&response)),
+        }
     }
 
-    /// Gives the guest's console another size, of which its driver is told. It is refused for a bad slot
-    /// alone.
+    /// Gives the guest's console another size, of which its driver is told. It is refused for a bad slot, and while a
+    /// service of the slot is paused.
     pub fn resize(&mut self, slot: u8, cols: u16, rows: u16) -> Result<(), Refusal>
-        ensures step { IsStep {A = A} self.old
+        ensures call { IsCall {A = A} self.old
+            (Handle (record { slot = slot; what = EventKind.Resize cols rows }))
+            (done_response result) self.new }
+        ensures whole { IsWhole {A = A} self.old
             (record { slot = slot; what = EventKind.Resize cols rows })
-            (done_reply result) self.new }
+            (done_response result) self.new }
     {
         let what = EventKind::Resize { cols, rows };
         match self.step(&Event { slot, what }) {
-            Reply::Done => Ok(()),
-            reply => Err(Refusal::of(&reply)),
+            Response::Answered(Reply::Done) => Ok(()),
+            response => Err(Refusal::of(&response)),
         }
     }
 }

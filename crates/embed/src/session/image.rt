@@ -6,18 +6,19 @@ use crate::session::Session;
 use std::alloc::Allocator;
 
 impl<A: Allocator> Session<A> {
-    /// The image's bytes as they stand. Each write that a guest was told of is in them.
+    /// The image's bytes as they stand. Each write that a guest was told of is in them, and of a service that is paused
+    /// what was served.
     pub fn image(&self) -> &[u8]
         ensures { result.now ≡ self.now.image }
     {
-        self.board.image().bytes()
+        self.paced.board().image().bytes()
     }
 
     /// Ends the session, and gives the image's bytes as they stand.
     pub fn into_image(self) -> Vec<u8, A>
         ensures { result.items ≡ self.image }
     {
-        let Session { board, outputs: _ } = self;
-        board.into_image().into_bytes()
+        let Session { paced, outputs: _ } = self;
+        paced.into_board().into_image().into_bytes()
     }
 }

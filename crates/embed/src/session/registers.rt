@@ -5,17 +5,19 @@ ghost use Rattle.std.specs.List.{slice_get};
 ghost use Rattle.std.specs.Option.{option_map};
 ghost use Rattle.board.specs.declared.event.EventKind.{EventKind};
 ghost use Rattle.board.specs.Slot.{interrupt_words};
-ghost use Rattle.embed.specs.Answering.{done_reply, value_reply};
-ghost use Rattle.embed.specs.Session.{IsStep};
+ghost use Rattle.paced.specs.Pacing.{Handle};
+ghost use Rattle.embed.specs.Answering.{served_response, value_response};
+ghost use Rattle.embed.specs.Pausing.{IsCall, IsWhole, WentOn};
 
 use crate::refusal::Refusal;
 use crate::session::Session;
 use board::{DeviceKind, Event, EventKind, Reply};
+use paced::{Progress, Response};
 use std::alloc::Allocator;
 
 impl<A: Allocator + Copy> Session<A> {
     /// A guest's read of `width` bytes, 1, 2 or 4, at an offset of a window: what its register gets,
-    /// extended by zeros. It is refused for a bad slot alone.
+    /// extended by zeros. It is refused for a bad slot, and while a service of the slot is paused.
     pub fn read(
         &mut self,
         slot: u8,
@@ -23,9 +25,12 @@ impl<A: Allocator + Copy> Session<A> {
         offset: u16,
         width: u8,
     ) -> Result<u32, Refusal>
-        ensures step { IsStep {A = A} self.old
+        ensures call { IsCall {A = A} self.old
+            (Handle (record { slot = slot; what = EventKind.Read window offset width }))
+            (value_response result) self.new }
+        ensures whole { IsWhole {A = A} self.old
             (record { slot = slot; what = EventKind.Read window offset width })
-            (value_reply result) self.new }
+            (value_response result) self.new }
     {
         let what = EventKind::Read {
             window,
@@ -33,14 +38,14 @@ impl<A: Allocator + Copy> Session<A> {
             width,
         };
         match self.step(&Event { slot, what }) {
-            Reply::Value(value) => Ok(value),
-            reply => Err(Refusal::of(&reply)),
+            Response::Answered(Reply::Value(value)) => Ok(value),
+            response => Err(Refusal::of(&response)),
         }
     }
 
-    /// A guest's write. What it notifies is served to its end. Where what its console puts out doesn't fit
-    /// behind what waits it is refused: the chain stays on offer, those before it are served, and the same write
-    /// goes on with it once there is room.
+    /// A guest's write. What it notifies is served to its end, or until the budget is spent: then more is to come, and
+    /// `go_on` goes on with it. Where what its console puts out doesn't fit behind what waits it is refused: the chain
+    /// stays on offer, those before it are served, and the same write goes on with it once there is room.
     pub fn write(
         &mut self,
         slot: u8,
@@ -48,10 +53,13 @@ impl<A: Allocator + Copy> Session<A> {
         offset: u16,
         width: u8,
         value: u32,
-    ) -> Result<(), Refusal>
-        ensures step { IsStep {A = A} self.old
+    ) -> Result<Progress, Refusal>
+        ensures call { IsCall {A = A} self.old
+            (Handle (record { slot = slot; what = EventKind.Write window offset width value }))
+            (served_response result) self.new }
+        ensures whole { IsWhole {A = A} self.old
             (record { slot = slot; what = EventKind.Write window offset width value })
-            (done_reply result) self.new }
+            (served_response result) self.new }
     {
         let what = EventKind::Write {
             window,
@@ -60,8 +68,23 @@ impl<A: Allocator + Copy> Session<A> {
             value,
         };
         match self.step(&Event { slot, what }) {
-            Reply::Done => Ok(()),
-            reply => Err(Refusal::of(&reply)),
+            Response::Answered(Reply::Done) => Ok(Progress::Done),
+            Response::More => Ok(Progress::More),
+            response => Err(Refusal::of(&response)),
+        }
+    }
+
+    /// Goes on with the service of a slot that is paused, within the budget of one call, and answers as the write did
+    /// that it serves. Where none is paused there is nothing left to do.
+    pub fn go_on(&mut self, slot: u8) -> Result<Progress, Refusal>
+        ensures call { WentOn A self.old slot result self.new }
+    {
+        match self.serve_on(slot) {
+            Response::Answered(Reply::BadSlot) => Err(Refusal::BadSlot),
+            Response::Answered(Reply::NoMemory) => Err(Refusal::NoRoom),
+            Response::Answered(_) | Response::Idle => Ok(Progress::Done),
+            Response::More => Ok(Progress::More),
+            Response::Busy => Err(Refusal::Busy),
         }
     }
 }
@@ -72,20 +95,20 @@ impl<A: Allocator> Session<A> {
     pub fn interrupts(&self, slot: u8) -> Option<(u8, u8)>
         ensures { result ≡ option_map interrupt_words (slice_get self.now.slots slot) }
     {
-        self.board.interrupts(slot)
+        self.paced.board().interrupts(slot)
     }
 
     /// Whether a call of the image failed in an event of the slot. None of an image in memory does.
     pub fn disturbed(&self, slot: u8) -> Option<bool>
         ensures { result ≡ option_map (λ found. false) (slice_get self.now.slots slot) }
     {
-        self.board.memory(slot).map(|_| false)
+        self.paced.board().memory(slot).map(|_| false)
     }
 
     /// How many slots there are, from 1 to 64. They are numbered from 0.
     pub fn slots(&self) -> usize
         ensures { result ≡ length self.now.slots }
     {
-        self.board.slots()
+        self.paced.board().slots()
     }
 }

@@ -10,7 +10,7 @@ fn with_outlets<A: Allocator + Copy>(
     outlet: u32,
 ) -> Result<Session<A>, Fail> {
     let image = eight_sectors(alloc)?;
-    Ok(Session::new(heap, &two_guests(outlet), &image, 8)?)
+    Ok(Session::new(heap, &two_guests(outlet), &image, 8, Budget::UNLIMITED)?)
 }
 
 /// Calls of one slot after another.
@@ -21,7 +21,7 @@ fn check_rows<A: Allocator + Copy>(rt: &impl Abort, session: &mut Session<A>, ro
 }
 
 /// Three descriptors over the text at 80004000: three bytes, two and three. Each is a chain, and all are on offer.
-const THREE_CHAINS: [Row; 5] = [
+pub(super) const THREE_CHAINS: [Row; 5] = [
     (
         1,
         Act::Store(BASE + 0x1000, &[0, 0x40, 0, 0x80, 0, 0, 0, 0, 3]),
@@ -81,9 +81,9 @@ struct Text {
 
 fn notify<A: Allocator + Copy>(session: &mut Session<A>) -> u8 {
     match session.write(1, CONSOLE, 0x050, 4, 1) {
-        Ok(()) => b'd',
+        Ok(Progress::Done) => b'd',
         Err(Refusal::NoRoom) => b'r',
-        Err(_) => b'?',
+        _ => b'?',
     }
 }
 
@@ -152,14 +152,17 @@ fn a_chain_waits_for_room_in_each_order(rt: HostRuntime) -> Result<(), Fail> {
 }
 
 /// Offers a chain of so many bytes, unless one is on offer already, and notifies.
-fn puts_out<A: Allocator + Copy>(session: &mut Session<A>, count: u32) -> Result<(), Refusal> {
+fn puts_out<A: Allocator + Copy>(
+    session: &mut Session<A>,
+    count: u32,
+) -> Result<Progress, Refusal> {
     session.write_memory(1, BASE + 0x1000, &[0, 0x40, 0, 0x80, 0, 0, 0, 0])?;
     session.write_memory(1, BASE + 0x1008, &count.to_le_bytes())?;
     session.write_memory(1, BASE + 0x2002, &[1, 0, 0, 0])?;
     session.write(1, CONSOLE, 0x050, 4, 1)
 }
 
-fn emergency<A: Allocator + Copy>(session: &mut Session<A>) -> Result<(), Refusal> {
+fn emergency<A: Allocator + Copy>(session: &mut Session<A>) -> Result<Progress, Refusal> {
     session.write(1, CONSOLE, 0x108, 4, 0x41)
 }
 
@@ -169,7 +172,7 @@ fn check_room(
     rt: &impl Abort,
     alloc: Global,
     size: u32,
-    after: Result<(), Refusal>,
+    after: Result<Progress, Refusal>,
 ) -> Result<(), Fail> {
     let mut session = with_outlets(alloc, alloc, size)?;
     check_rows(rt, &mut session, &TRANSMIT[..15]);
@@ -179,7 +182,7 @@ fn check_room(
         emergency(&mut session),
     ];
     let full = Err(Refusal::NoRoom);
-    same(rt, &size, &found, &[full, Ok(()), full]);
+    same(rt, &size, &found, &[full, Ok(Progress::Done), full]);
     let mut text = [0x2e; 4096];
     same(
         rt,
@@ -194,8 +197,8 @@ fn check_room(
 #[test]
 fn an_outlet_has_exactly_its_room(rt: HostRuntime) -> Result<(), Fail> {
     check_room(&rt, rt.alloc(), 0, Err(Refusal::NoRoom))?;
-    check_room(&rt, rt.alloc(), 1, Ok(()))?;
-    check_room(&rt, rt.alloc(), 4095, Ok(()))
+    check_room(&rt, rt.alloc(), 1, Ok(Progress::Done))?;
+    check_room(&rt, rt.alloc(), 4095, Ok(Progress::Done))
 }
 
 /// Guest 0 brings its transmit queue up, fills its output with four chains that lie one over the other, and goes on: a
@@ -246,7 +249,7 @@ fn a_full_outlet_is_its_own_guests(rt: HostRuntime) -> Result<(), Fail> {
         slot: slot(0),
         outlet: 4096,
     }];
-    let mut one = Session::new(rt.alloc(), &alone, &[0; 2048], 8)?;
+    let mut one = Session::new(rt.alloc(), &alone, &[0; 2048], 8, Budget::UNLIMITED)?;
     heap.refuse_from(1);
     check_as_slot_0(&rt, &mut both, &TRANSMIT[..15]);
     check_rows(&rt, &mut both, &FLOOD);
@@ -297,7 +300,7 @@ const FOUR_TRANSMITS: [Row; 10] = [
 fn four_transmits_leave_the_other_its_byte(rt: HostRuntime) -> Result<(), Fail> {
     let heap = LocalHeap::new(rt.alloc(), 0x640_0000)?;
     let image = eight_sectors(rt.alloc())?;
-    let mut session = Session::new(&heap, &two_outlets(), &image, 8)?;
+    let mut session = Session::new(&heap, &two_outlets(), &image, 8, Budget::UNLIMITED)?;
     let used = heap.used();
     assert!(rt; heap.free() >= 0x400_0000);
     check_as_slot_0(&rt, &mut session, &TRANSMIT[..9]);

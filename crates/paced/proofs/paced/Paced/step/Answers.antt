@@ -4,7 +4,7 @@ use Rattle.std.proofs.lemmas.Option.{slice_get_within}
 use Rattle.board.specs.declared.pause.Pause.{Pause}
 use Rattle.board.specs.Image.{Tells}
 use Rattle.paced.specs.Pacing.{Handle, PacedState, Responds, paced_world}
-use Rattle.paced.proofs.Turns.{begun}
+use Rattle.paced.proofs.Turns.{begun, told_within}
 use Rattle.paced.proofs.paced.Paced.step.Goals as goal
 
 pub returns-in-None-clause-responds : goal.returns-in-None-clause-responds
@@ -36,3 +36,8 @@ returns-in-Some-None-clause-responds g c = λ tells.
     subst (λ p. Responds p.budget (paced_world g.I.Image.disk p) (Handle c.args.event.now) c.note.result (g.O.Outlet.bytes c.args.out.now) (g.O.Outlet.bytes c.begin-taken.new.out) (paced_world g.I.Image.disk c.note.new.self)) c.self.view_is
     (begun g.I.Image.disk old c.begin-taken.new.self c.args.event.now.slot c.begin-taken.result.turn c.begin-taken.result.block_irq c.begin-taken.result.console_irq _ _ c.note.result
     c.args.event.now c.note.new.self refl there (c.begin-taken.ensures.takes telling fits) c.note.ensures.told c.note.ensures.paused)
+
+pub returns-in-Some-None-clause-within : goal.returns-in-Some-None-clause-within
+returns-in-Some-None-clause-within g c = λ limit limited found after here there turn told.
+    told_within limit c.args.event.now.what c.args.self.now.budget _ _ _ _ c.note.result c.begin-taken.result.turn turn c.note.ensures.told told
+    (rw (← c.self.view_is, c.note.ensures.paused) (c.begin-taken.ensures.within limit limited found after (rw (← c.self.view_is) at here) (rw c.note.ensures.paused at there)))

@@ -1,0 +1,114 @@
+/*
+ * How long fifteen guests wait for a 4 KiB IN beside one that keeps the board as busy as it can, under one lock: without a
+ * budget and with two. bench/waits builds it.
+ *
+ * In each round every guest asks at once, the hostile one is called first, and the others one after another. What each of
+ * them waits is the time from the round's start to the end of its own call.
+ */
+#include <stdint.h>
+#include <stdio.h>
+#include <stdlib.h>
+#include <string.h>
+#include <time.h>
+
+#include "kalyubos.h"
+
+enum { GUESTS = 16, RING = 256, LEN = 4096, LARGE = 8 << 20, SECTORS = LARGE / 512, CHAINS = 3 * RING };
+static const uint64_t BASE = 0x80000000, AVAIL = 0x80002000, HEADER = 0x80005000, DATA = 0x80010000;
+
+static struct kalyubos board;
+static uint8_t image[(SECTORS + GUESTS * LEN / 512) * 512], *memory[GUESTS];
+static uint16_t idx[GUESTS];
+
+static void must(uint32_t answer)
+{
+    if (answer != KALYUBOS_DONE) {
+        fprintf(stderr, "refused with %u\n", (unsigned)answer);
+        exit(1);
+    }
+}
+
+static void descriptor(uint8_t guest, int place, uint64_t addr, uint32_t len, uint16_t flags, uint16_t next)
+{
+    struct { uint64_t addr; uint32_t len; uint16_t flags, next; } it = { addr, len, flags, next };
+    memcpy(memory[guest] + 0x1000 + 16 * place, &it, sizeof it);
+}
+
+/* A queue of 256, each of whose chains is one IN of the disk's first `len` bytes. */
+static void bring_up(uint8_t guest, uint32_t len)
+{
+    const uint32_t steps[][2] = { { 0x70, 0 }, { 0x70, 1 }, { 0x70, 3 }, { 0x24, 1 }, { 0x20, 1 }, { 0x70, 11 },
+                                  { 0x38, RING }, { 0x80, 0x80001000 }, { 0x90, 0x80002000 }, { 0xa0, 0x80003000 },
+                                  { 0x44, 1 }, { 0x70, 15 } };
+    struct kalyubos_pending pending;
+    size_t memory_len;
+    must(kalyubos_memory(&board, guest, &memory[guest], &memory_len));
+    for (size_t i = 0; i < sizeof steps / sizeof *steps; i++)
+        must(kalyubos_write(&board, guest, KALYUBOS_BLOCK, (uint16_t)steps[i][0], 4, steps[i][1], &pending));
+    descriptor(guest, 0, HEADER, 16, 1, 1);
+    descriptor(guest, 1, DATA, len, 3, 2);
+    descriptor(guest, 2, HEADER + 16, 1, 2, 0);
+    idx[guest] = 0;
+}
+
+/* Offers so many chains, and notifies. */
+static uint32_t notify(uint8_t guest, uint16_t chains)
+{
+    struct kalyubos_pending pending;
+    idx[guest] += chains;
+    memcpy(memory[guest] + (AVAIL - BASE) + 2, &idx[guest], 2);
+    return kalyubos_write(&board, guest, KALYUBOS_BLOCK, 0x50, 4, 0, &pending);
+}
+
+static double now(void)
+{
+    struct timespec t;
+    clock_gettime(CLOCK_MONOTONIC, &t);
+    return (double)t.tv_sec * 1e6 + (double)t.tv_nsec / 1e3;
+}
+
+static void time_of(const char *what, uint32_t chains, uint64_t bytes, uint32_t len)
+{
+    struct kalyubos_slot slots[GUESTS];
+    struct kalyubos_pending pending;
+    for (uint8_t i = 0; i < GUESTS; i++)
+        slots[i] = (struct kalyubos_slot){
+            .size = sizeof *slots, .base = BASE, .len = i ? 0x20000 : 0x20000 + LARGE,
+            .start = i ? SECTORS + (uint64_t)i * LEN / 512 : 0, .count = i ? LEN / 512 : SECTORS,
+            .cols = 80, .rows = 25, .outlet = 0x1000,
+        };
+    must(kalyubos_create(&board, slots, GUESTS, image, sizeof image, 8, chains, bytes));
+    for (uint8_t i = 0; i < GUESTS; i++)
+        bring_up(i, i ? LEN : len);
+    double longest = 0, sum = 0;
+    long waits = 0, calls = 0;
+    uint32_t answer = KALYUBOS_DONE;
+    for (int services = 0; services < CHAINS / RING || answer == KALYUBOS_MORE; calls++) {
+        double start = now();
+        answer = answer == KALYUBOS_MORE ? kalyubos_go_on(&board, 0, &pending) : notify(0, RING);
+        if (answer != KALYUBOS_MORE) {
+            must(answer);
+            services++;
+        }
+        for (uint8_t guest = 1; guest < GUESTS; guest++) {
+            must(notify(guest, 1));
+            double wait = now() - start;
+            longest = wait > longest ? wait : longest;
+            sum += wait;
+            waits++;
+        }
+    }
+    printf("%-44s %6ld calls, longest wait %10.1f us, mean %10.1f us\n", what, calls, longest, sum / (double)waits);
+    must(kalyubos_destroy(&board));
+}
+
+int main(void)
+{
+    time_of("256 chains of 8 MiB, no budget", 0, 0, LARGE);
+    time_of("256 chains of 8 MiB, 1 chain a call", 1, 0, LARGE);
+    time_of("256 chains of 8 MiB, 64 KiB a call", 0, 0x10000, LARGE);
+    time_of("256 chains of 4 KiB, no budget", 0, 0, LEN);
+    time_of("256 chains of 4 KiB, 1 chain a call", 1, 0, LEN);
+    time_of("256 chains of 4 KiB, 64 KiB a call", 0, 0x10000, LEN);
+    return 0;
+}

@@ -1,0 +1,91 @@
+//! What reaches a slot without an event, for who has the bytes in a slice. Nothing is done to a slot whose service is
+//! paused.
+
+ghost use Rattle.std.specs.Prelude.{◌≡◌, ◌≢◌, ◌↔◌, ◌<◌, ◌≤◌, length, [], None, IsSomeAnd};
+ghost use Rattle.std.specs.Borrow.{sem, u8, Array, Lends};
+ghost use Rattle.std.specs.List.{slice_get};
+ghost use Rattle.board.specs.declared.event.EventKind.{EventKind};
+ghost use Rattle.board.specs.declared.reply.Reply.{Reply};
+ghost use Rattle.board.specs.Image.{Tells};
+ghost use Rattle.board.specs.Pausing.{HasLimit};
+ghost use Rattle.board.specs.World.{KeepsOthers, extents_of};
+ghost use Rattle.paced.specs.Pacing.{Handle, Responds, paced_world, paused_at, with_slot_bytes};
+ghost use Rattle.paced.specs.contracts.paced.Paced.{the_row};
+
+use crate::paced::Paced;
+use crate::response::Response;
+use board::{Image, Reply};
+use std::alloc::Allocator;
+
+impl<I: Image, A: Allocator + Copy> Paced<I, A> {
+    /// Types bytes to the slot's console: `step` for that input. No memory is taken.
+    pub fn input(&mut self, slot: u8, bytes: &[u8]) -> Response<A>
+        ensures responds { Tells (I.disk self.old.board.image) →
+            Responds self.old.budget (paced_world I.disk self.old)
+            (Handle (record { slot = slot; what = EventKind.Input bytes.now })) result [] []
+            (paced_world I.disk self.new) }
+        ensures image { self.new.board.image ≡ self.old.board.image }
+        ensures budget { self.new.budget ≡ self.old.budget }
+        ensures busy { result ≡ Response.Busy → self.new ≡ self.old }
+        ensures not_idle { result ≡ Response.Idle → ⊥ }
+        ensures extents { extents_of self.new.board.slots ≡ extents_of self.old.board.slots }
+        ensures others { KeepsOthers slot self.old.board.slots self.new.board.slots }
+        ensures limited { result ≡ Response.More → HasLimit self.old.budget }
+        ensures bad_slot { (result ≡ Response.Answered Reply.BadSlot) ↔ (length self.old.board.slots ≤ slot) }
+        ensures bad_slot_keeps { result ≡ Response.Answered Reply.BadSlot → self.new ≡ self.old }
+    {
+        match self.waiting(slot) {
+            None => Response::Answered(Reply::BadSlot),
+            Some(Some(_)) => Response::Busy,
+            Some(None) => {
+                let taken = self.board.begin_input(slot, bytes, self.budget);
+                self.note(slot, taken.turn)
+            }
+        }
+    }
+}
+
+impl<I: Image, A: Allocator> Paced<I, A> {
+    /// Copies bytes into the slot's memory, from address `addr` on: `step` for that write.
+    pub fn write_memory(&mut self, slot: u8, addr: u64, from: &[u8]) -> Response<A>
+        ensures responds { Tells (I.disk self.old.board.image) →
+            Responds self.old.budget (paced_world I.disk self.old)
+            (Handle (record { slot = slot; what = EventKind.MemWrite addr from.now })) result [] []
+            (paced_world I.disk self.new) }
+        ensures image { self.new.board.image ≡ self.old.board.image }
+        ensures paused { self.new.paused ≡ self.old.paused }
+        ensures budget { self.new.budget ≡ self.old.budget }
+        ensures busy { result ≡ Response.Busy → self.new ≡ self.old }
+        ensures not_idle { result ≡ Response.Idle → ⊥ }
+        ensures not_more { result ≡ Response.More → ⊥ }
+        ensures extents { extents_of self.new.board.slots ≡ extents_of self.old.board.slots }
+        ensures others { KeepsOthers slot self.old.board.slots self.new.board.slots }
+        ensures bad_slot { (result ≡ Response.Answered Reply.BadSlot) ↔ (length self.old.board.slots ≤ slot) }
+        ensures bad_slot_keeps { result ≡ Response.Answered Reply.BadSlot → self.new ≡ self.old }
+        ensures bad_range_keeps { result ≡ Response.Answered Reply.BadRange → self.new ≡ self.old }
+    {
+        match self.waiting(slot) {
+            None => Response::Answered(Reply::BadSlot),
+            Some(Some(_)) => Response::Busy,
+            Some(None) => {
+                if self.board.write_memory(slot, addr, from) {
+                    Response::Answered(Reply::Done)
+                } else {
+                    Response::Answered(Reply::BadRange)
+                }
+            }
+        }
+    }
+
+    /// The bytes of the slot's memory, to be read and written while no service of the slot is paused.
+    pub fn memory_mut(&mut self, slot: u8) -> &mut [u8]
+        requires there { slot < length self.old.board.slots }
+        requires idle { paused_at self.old.paused slot ≡ None }
+        ensures* writes_back { sem 𝓛 (Lends (the_row I.row A.row I.Image A.Allocator) (Array u8 0) self.entry
+            result (with_slot_bytes slot self.old)) }
+        ensures value { IsSomeAnd (slice_get self.old.board.slots slot)
+            (λ found. result.now ≡ found.memory.bytes) }
+    {
+        self.board.memory_mut(slot)
+    }
+}
