@@ -1,6 +1,7 @@
 /*
- * Replays a trace over the C library twice: all guests on one board whose outlets are small, and each guest's own
- * events on a board with that guest alone, over its part of the image. Each guest must be told the same.
+ * Replays a trace over the C library: all guests on one board whose outlets are small, and each guest's own events on a
+ * board with that guest alone, over its part of the image. All guests do so once for each of BUDGETS, and between the
+ * pieces of a service others' events are served; alone there is no budget. Each guest must be told the same.
  *
  *     sessions TRACE IMAGE SEED    prints what was counted, or ends with 1 and the first event that was answered otherwise
  *     sessions                     prints the features that a board offers: of both windows, and the high word of both
@@ -19,6 +20,8 @@
 
 enum { SECTOR = 512, TAKEN_AT_ONCE = 1 << 16 };
 static const uint32_t OUTLETS[] = { 1 << 16, 300, 4095, 1, 1000, 0 };
+static const struct budget BUDGETS[] = { { 0, 0 }, { 1, 0 }, { 3, 0 }, { 0, 4096 } };
+enum { BUDGETS_LEN = sizeof BUDGETS / sizeof *BUDGETS };
 
 /* ---- the trace, read once */
 
@@ -88,11 +91,12 @@ struct seat {
     struct kalyubos *board;
     uint8_t slot;
     const struct guest *guest;
+    bool is_paused;
     uint64_t state;
     struct told told;
 };
 
-static uint64_t refused, taken_in_all;
+static uint64_t refused, taken_in_all, pauses;
 
 static uint64_t chance(struct seat *seat, uint64_t below)
 {
@@ -119,6 +123,32 @@ static void tell_pending(struct told *told, const struct kalyubos_pending *pendi
     tell_number(told, pending->output);
 }
 
+static void serve_another(void);
+
+/* A slot whose service is paused is busy. */
+static void check_busy(struct seat *seat)
+{
+    uint32_t value;
+    uint8_t byte;
+    need(kalyubos_read(seat->board, seat->slot, 0, 0, 4, &value) == KALYUBOS_BUSY, "a read isn't busy", pauses);
+    need(kalyubos_read_memory(seat->board, seat->slot, seat->guest->base, &byte, 1) == KALYUBOS_BUSY,
+         "a read of memory isn't busy", pauses);
+}
+
+/* Goes on with a service until it ends, and lets an event of another guest be served before each piece. */
+static uint32_t serve_on(struct seat *seat, uint32_t answer, struct kalyubos_pending *pending)
+{
+    while (answer == KALYUBOS_MORE) {
+        pauses++;
+        seat->is_paused = true;
+        check_busy(seat);
+        serve_another();
+        answer = kalyubos_go_on(seat->board, seat->slot, pending);
+        seat->is_paused = false;
+    }
+    return answer;
+}
+
 static void write_register(struct seat *seat, const struct event *event)
 {
     struct kalyubos_pending pending = { 0 };
@@ -126,6 +156,7 @@ static void write_register(struct seat *seat, const struct event *event)
     do {
         answer = kalyubos_write(seat->board, seat->slot, (uint8_t)event->window, (uint16_t)event->offset,
                                 (uint8_t)event->width, event->value, &pending);
+        answer = serve_on(seat, answer, &pending);
         tell_number(&seat->told, answer);
         tell_pending(&seat->told, &pending);
         refused += answer == KALYUBOS_NO_ROOM;
@@ -159,7 +190,7 @@ static void act(struct seat *seat, const struct event *event)
     const uint8_t *bytes = event->bytes != NULL ? event->bytes : none;
     struct told *told = &seat->told;
     struct kalyubos_pending pending = { 0 };
-    uint32_t value = 0;
+    uint32_t value = 0, answer;
     size_t took = 0;
     switch (event->kind) {
     case READ:
@@ -173,7 +204,8 @@ static void act(struct seat *seat, const struct event *event)
         tell_number(told, kalyubos_write_memory(seat->board, seat->slot, event->address, bytes, event->len));
         break;
     case INPUT:
-        tell_number(told, kalyubos_input(seat->board, seat->slot, bytes, event->len, &took, &pending));
+        answer = kalyubos_input(seat->board, seat->slot, bytes, event->len, &took, &pending);
+        tell_number(told, serve_on(seat, answer, &pending));
         tell_number(told, took);
         tell_pending(told, &pending);
         break;
@@ -214,7 +246,7 @@ static uint64_t seed;
 
 static struct seat seat_of(struct kalyubos *board, uint8_t slot, size_t guest)
 {
-    struct seat seat = { board, slot, &trace.guests[guest], 0x9e3779b97f4a7c15 * (16 * seed + guest + 1), { 0 } };
+    struct seat seat = { board, slot, &trace.guests[guest], false, 0x9e3779b97f4a7c15 * (16 * seed + guest + 1), { 0 } };
     seat.told.starts = calloc(events_len + 1, sizeof *seat.told.starts);
     need(seat.told.starts != NULL, "no memory", events_len);
     return seat;
@@ -231,27 +263,55 @@ static struct kalyubos_slot slot_of(size_t guest, uint64_t start)
     };
 }
 
-static void run_together(struct seat *seats, struct file image)
+/* The board of all guests: their seats, which events have begun, and how many of the first ones have. */
+static struct kalyubos shared;
+static struct seat *seats;
+static bool *begun;
+static size_t begun_len;
+
+/* An event for a slot that the board hasn't. */
+static void act_for_nobody(const struct event *event)
 {
-    struct kalyubos board = { NULL };
+    struct seat nobody = { .board = &shared, .slot = (uint8_t)event->guest, .state = 1 };
+    act(&nobody, event);
+    need(*(const uint64_t *)nobody.told.bytes == KALYUBOS_BAD_SLOT, "an answer to nobody", event->guest);
+    free(nobody.told.bytes);
+}
+
+/* Serves the first event that hasn't begun and whose guest isn't paused, where there is one. */
+static void serve_another(void)
+{
+    while (begun_len < events_len && begun[begun_len])
+        begun_len++;
+    for (size_t i = begun_len; i < events_len; i++) {
+        bool is_there = events[i].guest < trace.guests_len;
+        if (begun[i] || (is_there && seats[events[i].guest].is_paused))
+            continue;
+        begun[i] = true;
+        if (!is_there) {
+            act_for_nobody(&events[i]);
+            return;
+        }
+        begin_part(&seats[events[i].guest]);
+        act(&seats[events[i].guest], &events[i]);
+        return;
+    }
+}
+
+static void run_together(struct file image, struct budget budget)
+{
     struct kalyubos_slot slots[MOST_GUESTS];
     for (size_t i = 0; i < trace.guests_len; i++) {
         slots[i] = slot_of(i, trace.guests[i].start);
-        seats[i] = seat_of(&board, (uint8_t)i, i);
+        seats[i] = seat_of(&shared, (uint8_t)i, i);
     }
-    make(&board, slots, trace.guests_len, image.at, image.len, trace.cache);
-    for (size_t i = 0; i < events_len; i++) {
-        struct seat nobody = { .board = &board, .slot = (uint8_t)events[i].guest, .state = 1 };
-        bool is_there = events[i].guest < trace.guests_len;
-        if (is_there)
-            begin_part(&seats[events[i].guest]);
-        act(is_there ? &seats[events[i].guest] : &nobody, &events[i]);
-        need(is_there || *(const uint64_t *)nobody.told.bytes == KALYUBOS_BAD_SLOT, "an answer to nobody", i);
-        free(nobody.told.bytes);
-    }
+    memset(begun, 0, events_len * sizeof *begun);
+    make(&shared, slots, trace.guests_len, image.at, image.len, trace.cache, budget);
+    for (begun_len = 0; begun_len < events_len;)
+        serve_another();
     for (size_t i = 0; i < trace.guests_len; i++)
         tell_rest(&seats[i], trace.guests[i].start);
-    end(&board);
+    end(&shared);
 }
 
 static struct seat run_alone(size_t guest, struct file image)
@@ -260,7 +320,7 @@ static struct seat run_alone(size_t guest, struct file image)
     struct kalyubos_slot slot = slot_of(guest, 0);
     struct seat seat = seat_of(&board, 0, guest);
     const uint8_t *part = image.at + trace.guests[guest].start * SECTOR;
-    make(&board, &slot, 1, part, trace.guests[guest].count * SECTOR, trace.cache);
+    make(&board, &slot, 1, part, trace.guests[guest].count * SECTOR, trace.cache, NO_LIMIT);
     for (size_t i = 0; i < events_len; i++) {
         if (events[i].guest != guest)
             continue;
@@ -298,7 +358,7 @@ static void print_features(void)
     static uint8_t image[SECTOR];
     struct kalyubos board = { NULL };
     struct kalyubos_slot slot = { .size = sizeof slot, .base = 0, .len = 0x1000, .count = 1 };
-    make(&board, &slot, 1, image, SECTOR, 1);
+    make(&board, &slot, 1, image, SECTOR, 1, NO_LIMIT);
     for (uint32_t i = 0; i < 3; i++) {
         struct kalyubos_pending pending;
         uint32_t word = 0;
@@ -311,7 +371,7 @@ static void print_features(void)
 
 int main(int argc, char **argv)
 {
-    struct seat seats[MOST_GUESTS];
+    struct seat all[BUDGETS_LEN][MOST_GUESTS];
     if (argc != 4) {
         print_features();
         return 0;
@@ -319,16 +379,24 @@ int main(int argc, char **argv)
     struct file text = content_of(argv[1]), image = content_of(argv[2]);
     seed = strtoull(argv[3], NULL, 10);
     read_trace(text);
-    run_together(seats, image);
+    begun = calloc(events_len + 1, sizeof *begun);
+    need(begun != NULL, "no memory", events_len);
+    for (size_t i = 0; i < BUDGETS_LEN; i++) {
+        seats = all[i];
+        run_together(image, BUDGETS[i]);
+    }
     uint64_t refused_together = refused, taken_together = taken_in_all;
     for (size_t i = 0; i < trace.guests_len; i++) {
         struct seat alone = run_alone(i, image);
-        compare(i, &seats[i].told, &alone.told);
-        release(&seats[i]);
+        for (size_t j = 0; j < BUDGETS_LEN; j++) {
+            compare(i, &all[j][i].told, &alone.told);
+            release(&all[j][i]);
+        }
         release(&alone);
     }
-    printf("%zu events, %" PRIu64 " writes without room, %" PRIu64 " bytes taken\n", events_len, refused_together,
-           taken_together);
+    printf("%zu events, %" PRIu64 " pauses, %" PRIu64 " writes without room, %" PRIu64 " bytes taken\n",
+           BUDGETS_LEN * events_len, pauses, refused_together, taken_together);
+    free(begun);
     for (size_t i = 0; i < events_len; i++)
         free(events[i].bytes);
     free(events);

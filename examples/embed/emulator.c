@@ -14,7 +14,7 @@
 /* Where a guest finds what, in physical addresses. */
 static const uint64_t WINDOWS = 0x0a000000, MEMORY = 0x80000000, PROGRAM = 0x80010000;
 
-enum { PAGE = 0x1000, MEMORY_LEN = 0x20000, OUTLET = 64, GUESTS = 2, TURN = 20, TURNS = 1000 };
+enum { PAGE = 0x1000, MEMORY_LEN = 0x20000, OUTLET = 64, GUESTS = 2, TURN = 20, TURNS = 1000, CHAINS = 1 /* that a call serves */ };
 
 struct guest {
     uint8_t slot;
@@ -51,13 +51,19 @@ static uint64_t window_load(uc_engine *cpu, uint64_t offset, unsigned width, voi
     return value;
 }
 
-/* A machine with interrupt lines sets them by the words in `pending`; these guests wait at their rings. */
+/*
+ * A store. Where its service pauses, it goes on at once: a host with an order of turns would end the guest's here. A machine
+ * with interrupt lines sets them by the words in `pending`; these guests wait at their rings.
+ */
 static void window_store(uc_engine *cpu, uint64_t offset, unsigned width, uint64_t value, void *user)
 {
     const struct guest *guest = user;
     struct kalyubos_pending pending;
     (void)cpu;
-    must(kalyubos_write(&board, guest->slot, offset / PAGE, offset % PAGE, width, value, &pending), "write");
+    uint32_t answer = kalyubos_write(&board, guest->slot, offset / PAGE, offset % PAGE, width, value, &pending);
+    while (answer == KALYUBOS_MORE)
+        answer = kalyubos_go_on(&board, guest->slot, &pending);
+    must(answer, "write");
 }
 
 /* ---- the machine */
@@ -121,7 +127,7 @@ int main(void)
         { sizeof *slots, MEMORY, MEMORY_LEN, 0, 2, 80, 25, OUTLET, false, "first half" },
         { sizeof *slots, MEMORY, MEMORY_LEN, 2, 2, 80, 25, OUTLET, false, "second half" },
     };
-    must(kalyubos_create(&board, slots, GUESTS, image, sizeof image, 8, 0, 0), "create");
+    must(kalyubos_create(&board, slots, GUESTS, image, sizeof image, 8, CHAINS, 0), "create");
 
     static struct guest guests[GUESTS];
     for (uint8_t slot = 0; slot < GUESTS; slot++)

@@ -39,14 +39,19 @@ static bool show(void)
     return all != 0;
 }
 
-/* A store. Where the console has no room for what comes of it, room is made, and the same store is made again. */
+/*
+ * A store. Where its service pauses, it goes on at once: a host with more guests would first let them have their turn.
+ * Where the console has no room for what comes of it, room is made, and the same store is made again.
+ */
 static void set(uint8_t window, uint16_t offset, uint32_t value)
 {
     struct kalyubos_pending pending;
     uint32_t answer;
-    do
+    do {
         answer = kalyubos_write(&board, 0, window, offset, 4, value, &pending);
-    while (answer == KALYUBOS_NO_ROOM && show());
+        while (answer == KALYUBOS_MORE)
+            answer = kalyubos_go_on(&board, 0, &pending);
+    } while (answer == KALYUBOS_NO_ROOM && show());
     must(answer, "write");
 }
 
@@ -65,6 +70,7 @@ static void load(uint64_t addr, void *into, size_t len)
 static const uint64_t MEMORY = 0x80000000;
 
 enum { OUTLET = 0x8000 /* a chain of Linux's console has 32 KiB at most */ };
+enum { CHAINS = 1 /* that a call serves */ };
 enum { MEMORY_LEN = 0x10000, TABLE = 0x1000, AVAIL = 0x2000, USED = 0x3000, DATA = 0x4000 };
 enum { NEXT = 1, WRITE = 2 };
 
@@ -159,7 +165,7 @@ int main(void)
         .size = sizeof slot, .base = MEMORY, .len = MEMORY_LEN, .start = 0, .count = 2, .cols = 80, .rows = 25,
         .outlet = OUTLET, .identity = "a disk of two",
     };
-    must(kalyubos_create(&board, &slot, 1, image, sizeof image, 8, 0, 0), "create");
+    must(kalyubos_create(&board, &slot, 1, image, sizeof image, 8, CHAINS, 0), "create");
 
     guest();
 

@@ -20,6 +20,7 @@
 #include "kvm-guest.h"
 
 enum { GUESTS = 2, MEMORY_LEN = 0x10000, PROGRAM = 0x1000, WINDOWS = 0xd0000, PAGE = 0x1000, OUTLET = 64, NO_KVM = 77 };
+enum { CHAINS = 1 /* that a call serves */ };
 
 /* The vectors of a guest's two lines. */
 enum { BLOCK_VECTOR = 0x20, CONSOLE_VECTOR = 0x21 };
@@ -85,7 +86,15 @@ static void power_on(struct guest *guest, int kvm, uint8_t slot)
 
 /* ---- what a guest's exits come to */
 
-/* A load or a store at a window. The CPU that made it stands still until the call has ended. */
+/* A service that pauses leaves the lock to the other guests before it goes on. */
+static uint32_t go_on(struct guest *guest)
+{
+    pthread_mutex_unlock(&lock);
+    pthread_mutex_lock(&lock);
+    return kalyubos_go_on(&board, guest->slot, &guest->lines);
+}
+
+/* A load or a store at a window. The CPU that made it stands still until its service has ended. */
 static void access_window(struct guest *guest)
 {
     uint64_t place = guest->run->mmio.phys_addr - WINDOWS;
@@ -98,7 +107,10 @@ static void access_window(struct guest *guest)
     pthread_mutex_lock(&lock);
     if (guest->run->mmio.is_write) {
         memcpy(&value, data, width < 4 ? width : 4);
-        must_do(kalyubos_write(&board, guest->slot, window, place % PAGE, width, value, &guest->lines), "write");
+        uint32_t answer = kalyubos_write(&board, guest->slot, window, place % PAGE, width, value, &guest->lines);
+        while (answer == KALYUBOS_MORE)
+            answer = go_on(guest);
+        must_do(answer, "write");
     } else {
         must_do(kalyubos_read(&board, guest->slot, window, place % PAGE, width, &value), "read");
         memset(data, 0, sizeof guest->run->mmio.data);
@@ -179,7 +191,7 @@ int main(void)
         { .size = sizeof *slots, .len = MEMORY_LEN, .start = 2, .count = 2, .cols = 80, .rows = 25, .outlet = OUTLET,
           .identity = "second half" },
     };
-    must_do(kalyubos_create(&board, slots, GUESTS, image, sizeof image, 8, 0, 0), "create");
+    must_do(kalyubos_create(&board, slots, GUESTS, image, sizeof image, 8, CHAINS, 0), "create");
 
     static struct guest guests[GUESTS];
     pthread_t threads[GUESTS];

@@ -38,18 +38,18 @@ void rattle_dealloc(void *at)
 }
 
 uint32_t create(struct kalyubos *board, const struct kalyubos_slot *slots, size_t count, const uint8_t *image,
-                size_t image_len, uint32_t cache)
+                size_t image_len, uint32_t cache, struct budget budget)
 {
     is_open = true;
-    uint32_t answer = kalyubos_create(board, slots, count, image, image_len, cache, 0, 0);
+    uint32_t answer = kalyubos_create(board, slots, count, image, image_len, cache, budget.chains, budget.bytes);
     is_open = false;
     return answer;
 }
 
 void make(struct kalyubos *board, const struct kalyubos_slot *slots, size_t count, const uint8_t *image,
-          size_t image_len, uint32_t cache)
+          size_t image_len, uint32_t cache, struct budget budget)
 {
-    need(create(board, slots, count, image, image_len, cache) == KALYUBOS_DONE, "create", count);
+    need(create(board, slots, count, image, image_len, cache, budget) == KALYUBOS_DONE, "create", count);
 }
 
 void end(struct kalyubos *board)

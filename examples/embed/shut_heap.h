@@ -7,13 +7,21 @@
 /* Ends the program with these words where it doesn't hold. */
 void need(bool holds, const char *what, uint64_t number);
 
+/* How much one call serves: so many chains, and so many bytes; 0 is no limit. */
+struct budget {
+    uint32_t chains;
+    uint64_t bytes;
+};
+
+static const struct budget NO_LIMIT = { 0, 0 };
+
 /* Makes a board over a copy of the image, with a cache of so many sectors, and answers as kalyubos_create does. */
 uint32_t create(struct kalyubos *board, const struct kalyubos_slot *slots, size_t count, const uint8_t *image,
-                size_t image_len, uint32_t cache);
+                size_t image_len, uint32_t cache, struct budget budget);
 
 /* Makes one, or ends the program. */
 void make(struct kalyubos *board, const struct kalyubos_slot *slots, size_t count, const uint8_t *image,
-          size_t image_len, uint32_t cache);
+          size_t image_len, uint32_t cache, struct budget budget);
 
 /* Ends the only board; a block that is left ends the program. */
 void end(struct kalyubos *board);

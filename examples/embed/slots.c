@@ -37,7 +37,7 @@ static uint32_t answer_of(size_t count, size_t which, size_t size, bool cut)
             slot.size = size;
         memcpy(slots + i * SIZE, &slot, cut && i == which ? sizeof size : SIZE);
     }
-    uint32_t answer = create(&board, (const struct kalyubos_slot *)slots, count, image, sizeof image, 1);
+    uint32_t answer = create(&board, (const struct kalyubos_slot *)slots, count, image, sizeof image, 1, NO_LIMIT);
     need((board.at != NULL) == (answer == KALYUBOS_DONE), "the handle after create", answer);
     if (board.at != NULL)
         end(&board);
@@ -74,9 +74,9 @@ static void check_order(void)
     struct kalyubos board = { NULL };
     struct kalyubos_slot good = slot_of(0);
     struct kalyubos_slot bad = { .size = SIZE - 1, .base = 1, .len = 1, .start = 1, .count = 1, .outlet = UINT32_MAX };
-    need(create(&board, &bad, 1, image, 511, 0) == KALYUBOS_BAD_SIZE, "a size before all else", 0);
-    make(&board, &good, 1, image, sizeof image, 1);
-    need(create(&board, &bad, 1, image, 511, 0) == KALYUBOS_HAS_BOARD, "a full handle before a size", 0);
+    need(create(&board, &bad, 1, image, 511, 0, NO_LIMIT) == KALYUBOS_BAD_SIZE, "a size before all else", 0);
+    make(&board, &good, 1, image, sizeof image, 1, NO_LIMIT);
+    need(create(&board, &bad, 1, image, 511, 0, NO_LIMIT) == KALYUBOS_HAS_BOARD, "a full handle before a size", 0);
     end(&board);
 }
 
@@ -124,7 +124,7 @@ static void check_identities(void)
     uint32_t value;
     for (int i = 0; i < MOST; i++)
         slots[i] = slot_of(i);
-    make(&board, slots, MOST, image, sizeof image, 1);
+    make(&board, slots, MOST, image, sizeof image, 1, NO_LIMIT);
     memset(slots, 0, sizeof slots); /* nothing of the caller's is kept */
     for (uint8_t slot = 0; slot < MOST; slot++)
         ask(&board, slot);

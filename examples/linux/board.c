@@ -15,6 +15,8 @@ static struct kalyubos board;
 static struct board_settings settings;
 static uint8_t *memories[GUESTS];
 static struct kalyubos_pending waits[GUESTS]; /* after the slot's last call */
+static struct watch_call served[GUESTS];      /* the last call that a service came of */
+static bool paused[GUESTS];                   /* and whether that is paused */
 
 static void must(uint32_t answer, const char *what)
 {
@@ -59,7 +61,9 @@ void board_open(const struct board_settings *wanted)
     }
     if (settings.record != NULL && !record_to(settings.record))
         must(KALYUBOS_NO_ROOM, settings.record);
-    must(record_create(&board, slots, settings.guests, settings.image, start * 512, settings.cache), "create");
+    must(record_create(&board, slots, settings.guests, settings.image, start * 512, settings.cache,
+                       settings.chains, settings.bytes),
+         "create");
     disk_serve(&board);
     for (size_t i = 0; i < settings.guests; i++)
         memories[i] = memory_of(i);
@@ -115,31 +119,53 @@ uint32_t board_read(uint8_t slot, uint8_t window, uint16_t offset, uint8_t width
     return value;
 }
 
-/* The library doesn't tell of a flush, so each notify of a disk ends only when what it wrote is below the file. */
-bool board_write(uint8_t slot, uint8_t window, uint16_t offset, uint8_t width, uint32_t value)
+static void begin(const struct watch_call *call)
 {
-    struct watch_call call = { WATCH_WRITE, slot, window, offset, width, value };
-    before(slot);
-    watch_before(&call);
-    uint32_t answer = record_write(&board, slot, window, offset, width, value, &waits[slot]);
-    watch_after(&board, &call, record_line());
+    before(call->slot);
+    watch_before(call);
+    served[call->slot] = *call;
+}
+
+/*
+ * What stands behind a call that may pause, and behind each that goes on. The library doesn't tell of a flush, so each
+ * notify of a disk ends only when what it wrote is below the file.
+ */
+static uint32_t settle(uint8_t slot, uint32_t answer)
+{
+    const struct watch_call *call = &served[slot];
+    paused[slot] = answer == KALYUBOS_MORE;
+    if (paused[slot])
+        return answer;
+    watch_after(&board, call, record_line());
     after(slot);
-    if (window == KALYUBOS_BLOCK && offset == QUEUE_NOTIFY)
+    if (call->window == KALYUBOS_BLOCK && call->offset == QUEUE_NOTIFY)
         disk_sync();
     if (answer != KALYUBOS_NO_ROOM)
-        must(answer, "write");
-    return answer == KALYUBOS_DONE;
+        must(answer, "a service");
+    return answer;
+}
+
+uint32_t board_write(uint8_t slot, uint8_t window, uint16_t offset, uint8_t width, uint32_t value)
+{
+    begin(&(struct watch_call){ WATCH_WRITE, slot, window, offset, width, value });
+    return settle(slot, record_write(&board, slot, window, offset, width, value, &waits[slot]));
+}
+
+uint32_t board_go_on(uint8_t slot)
+{
+    return settle(slot, record_go_on(&board, slot, &waits[slot]));
+}
+
+bool board_is_paused(uint8_t slot)
+{
+    return paused[slot];
 }
 
 size_t board_type(uint8_t slot, const uint8_t *bytes, size_t len)
 {
-    struct watch_call call = { .kind = WATCH_INPUT, .slot = slot, .window = KALYUBOS_CONSOLE };
     size_t took;
-    before(slot);
-    watch_before(&call);
-    must(record_input(&board, slot, bytes, len, &took, &waits[slot]), "input");
-    watch_after(&board, &call, record_line());
-    after(slot);
+    begin(&(struct watch_call){ .kind = WATCH_INPUT, .slot = slot, .window = KALYUBOS_CONSOLE });
+    settle(slot, record_input(&board, slot, bytes, len, &took, &waits[slot]));
     return took;
 }
 

@@ -20,6 +20,8 @@ struct board_settings {
     const uint8_t *image;
     uint32_t cache;  /* how many sectors the board keeps */
     uint32_t outlet; /* how many bytes of a console's output may wait */
+    uint32_t chains; /* the budget of a call, or 0 for no limit */
+    uint64_t bytes;
     const char *record; /* the file that the guests' calls are written to as a trace, or NULL */
     bool copies;     /* each call copies a guest's whole memory into the board and back, and none is lent */
 };
@@ -36,10 +38,19 @@ size_t board_mistakes(uint8_t slot);
 
 uint32_t board_read(uint8_t slot, uint8_t window, uint16_t offset, uint8_t width);
 
-/* False where the console's output has no room: take some, and make the write again. */
-bool board_write(uint8_t slot, uint8_t window, uint16_t offset, uint8_t width, uint32_t value);
+/*
+ * What became of a write: KALYUBOS_DONE; NO_ROOM where the console's output has none: take some, and make the write again;
+ * MORE where its service pauses: from then until board_go_on answers another the guest must not run or be typed to.
+ */
+uint32_t board_write(uint8_t slot, uint8_t window, uint16_t offset, uint8_t width, uint32_t value);
 
-/* How many of the bytes the console took. */
+/* Goes on with the service of a slot that is paused, and answers as the write. */
+uint32_t board_go_on(uint8_t slot);
+
+/* Whether a service of the slot is paused. */
+bool board_is_paused(uint8_t slot);
+
+/* How many of the bytes the console took. The service that brings them to the guest may pause. */
 size_t board_type(uint8_t slot, const uint8_t *bytes, size_t len);
 void board_resize(uint8_t slot, uint16_t cols, uint16_t rows);
 

@@ -31,6 +31,16 @@ static void move_timer(struct machine *machine)
     cpu_line(&machine->cpu, CPU_TIMER_INTERRUPT, machine->cpu.cycles >= machine->timer);
 }
 
+/* A machine that is paused leaves its CPU where it is. */
+static void note_pause(struct machine *machine)
+{
+    machine->paused = board_is_paused(machine->slot);
+    if (!machine->paused)
+        return;
+    machine->pauses++;
+    machine->cpu.stop_at = machine->cpu.cycles;
+}
+
 /* ---- the console's two ends */
 
 static bool take_output(struct machine *machine)
@@ -49,15 +59,18 @@ static void type(struct machine *machine)
 {
     struct terminal *terminal = &machine->terminal;
     size_t took = 1;
-    while (terminal->typed_len > 0 && took > 0) {
+    while (terminal->typed_len > 0 && took > 0 && !machine->paused) {
         took = board_type(machine->slot, terminal->typed, terminal->typed_len);
         terminal_took(terminal, took);
+        note_pause(machine);
     }
 }
 
 void machine_talk(struct machine *machine)
 {
     unsigned prompts = machine->terminal.prompts;
+    if (machine->paused)
+        return;
     take_output(machine);
     /* The driver knows no size before the first resize. */
     if (prompts == 0 && machine->terminal.prompts > 0)
@@ -80,17 +93,39 @@ static uint64_t window_load(struct machine *machine, unsigned window, uint16_t o
     return value;
 }
 
+static uint32_t store(const struct machine *machine)
+{
+    const struct machine_store *store = &machine->store;
+    return board_write(machine->slot, store->window, store->offset, store->width, store->value);
+}
+
+/* What stands behind a store, and behind each piece of its service. Where the output has no room it is made again. */
+static void settle(struct machine *machine, uint32_t answer)
+{
+    while (answer == KALYUBOS_NO_ROOM && take_output(machine)) {
+        machine->refused++;
+        answer = store(machine);
+    }
+    note_pause(machine);
+    if (!machine->late)
+        machine_talk(machine);
+    if (machine->late || machine->paused)
+        move_lines(machine);
+}
+
 static void window_store(struct machine *machine, unsigned window, uint16_t offset, unsigned width, uint32_t value)
 {
     machine->counts[window].writes++;
     if (offset == DEVICE_FEATURES_SEL)
         machine->selected[window] = value;
-    while (!board_write(machine->slot, window, offset, width, value) && take_output(machine))
-        machine->refused++;
-    if (!machine->late)
-        machine_talk(machine);
-    else
-        move_lines(machine);
+    machine->store = (struct machine_store){ window, offset, width, value };
+    settle(machine, store(machine));
+}
+
+void machine_go_on(struct machine *machine)
+{
+    if (machine->paused)
+        settle(machine, board_go_on(machine->slot));
 }
 
 /* ---- the bus */
@@ -196,7 +231,7 @@ void machine_run(struct machine *machine, uint64_t cycles)
         move_timer(machine);
         cpu->stop_at = cpu->cycles < machine->timer && machine->timer < end ? machine->timer : end;
         cpu_run(cpu);
-    } while (!machine->off && !cpu->waits && cpu->cycles < end);
+    } while (!machine->off && !machine->paused && !cpu->waits && cpu->cycles < end);
 }
 
 void machine_pass(struct machine *machine)

@@ -13,15 +13,26 @@ struct machine_counts {
     uint64_t reads, writes, rises;
 };
 
+/* A store of the CPU to a window. */
+struct machine_store {
+    unsigned window;
+    uint16_t offset;
+    unsigned width;
+    uint32_t value;
+};
+
 struct machine {
     uint8_t slot;
     bool off;
+    bool paused;          /* the service of its last store, or of what was typed, goes on in its next turn */
     bool late;            /* output is taken where there is no room for more, and while the guest waits */
     uint64_t timer;       /* the cycle of the timer's interrupt, or all ones */
     uint64_t hidden;      /* feature bits of the devices that the driver isn't shown */
     uint32_t selected[2]; /* the word of the features that each window was asked for */
     struct machine_counts counts[2];
+    struct machine_store store; /* the last one to a window */
     uint64_t refused;     /* writes that were made again, since there was no room for the output */
+    uint64_t pauses;
     FILE *early;          /* what the kernel says before it has a console, where it is told to */
     FILE *mistakes;       /* what its drivers do wrong */
     struct cpu cpu;
@@ -38,13 +49,16 @@ struct machine_file {
 /* Loads the kernel and the tree into the slot's memory. */
 void machine_start(struct machine *machine, uint8_t slot, struct machine_file kernel, struct machine_file tree);
 
-/* Runs for some cycles, until it is off, or until it waits for an interrupt. */
+/* Goes on with the service that is paused, where one is. */
+void machine_go_on(struct machine *machine);
+
+/* Runs for some cycles, until it is off, waits for an interrupt, or is paused. */
 void machine_run(struct machine *machine, uint64_t cycles);
 
 /* Lets the time of a machine that waits pass until its timer; without one nothing passes. */
 void machine_pass(struct machine *machine);
 
-/* Types to the console what its terminal has, and takes what it put out. */
+/* Types to the console what its terminal has, and takes what it put out; nothing while it is paused. */
 void machine_talk(struct machine *machine);
 
 #endif

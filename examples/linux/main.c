@@ -8,6 +8,9 @@
  *   --interactive     gives a person the console of guest 0, with the terminal's size
  *   --cache SECTORS   how many the board keeps
  *   --outlet BYTES    how many a console may put out before they are taken
+ *   --chains COUNT    serves so many chains a call at most; then a service pauses until the guest's next turn. 0 is no
+ *                     limit, as where it isn't said
+ *   --bytes COUNT     begins no chain in a call after so many bytes: 65536 where it isn't said; 0 is no limit
  *   --late            takes them only where there is no room for more, and while the guest waits
  *   --copies          copies each guest's memory into the board and back round each call
  *   --without FEATURE a feature that no driver is shown, as RING_PACKED
@@ -119,7 +122,7 @@ static void open_guests(void)
     for (size_t i = 0; i < words.count; i++)
         sectors[i] = guests[i].sectors;
     board_open(&(struct board_settings){ words.count, sectors, words.guests, served, words.cache, words.outlet,
-                                         words.record, words.copies });
+                                         words.chains, words.bytes, words.record, words.copies });
     free(image);
     for (size_t i = 0; i < words.count; i++)
         if (guests[i].is_noise)
@@ -137,8 +140,12 @@ static bool is_on(const struct guest *guest)
     return !guest->is_noise && !guest->machine.off && guest->machine.cpu.cycles < words.cycles;
 }
 
+/* A guest whose service is paused waits for it: nothing else is done for it in this turn but a piece of the service. */
 static void take_turn(struct machine *machine)
 {
+    machine_go_on(machine);
+    if (machine->paused)
+        return;
     machine_run(machine, TURN);
     if (machine->cpu.waits || machine->off)
         machine_talk(machine);

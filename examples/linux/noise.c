@@ -25,9 +25,13 @@ static uint32_t at_random(struct noise *noise)
 static void set(struct noise *noise, unsigned window, uint16_t offset, uint32_t value)
 {
     uint8_t bytes[4096];
+    uint32_t answer;
     noise->writes++;
-    while (!board_write(noise->slot, window, offset, 4, value) && board_output(noise->slot, bytes, sizeof bytes) > 0)
-        continue;
+    do {
+        answer = board_write(noise->slot, window, offset, 4, value);
+        while (answer == KALYUBOS_MORE)
+            answer = board_go_on(noise->slot);
+    } while (answer == KALYUBOS_NO_ROOM && board_output(noise->slot, bytes, sizeof bytes) > 0);
     while (board_output(noise->slot, bytes, sizeof bytes) > 0)
         continue;
 }

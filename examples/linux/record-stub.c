@@ -101,6 +101,13 @@ uint32_t kalyubos_write(struct kalyubos *board, uint8_t slot, uint8_t window, ui
     return done(pending);
 }
 
+/* Nothing of it pauses. */
+uint32_t kalyubos_go_on(struct kalyubos *board, uint8_t slot, struct kalyubos_pending *pending)
+{
+    (void)board, (void)slot;
+    return done(pending);
+}
+
 uint32_t kalyubos_input(struct kalyubos *board, uint8_t slot, const uint8_t *bytes, size_t bytes_len, size_t *took,
                         struct kalyubos_pending *pending)
 {

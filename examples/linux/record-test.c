@@ -130,7 +130,7 @@ int main(int argc, char **argv)
     snprintf(told, sizeof told, "%s.mistakes", argv[1]);
     FILE *mistakes = fopen(told, "w");
     must(mistakes != NULL, told);
-    must(record_create(&board, &SLOT, 1, IMAGE, sizeof IMAGE, 1) == KALYUBOS_DONE, "create");
+    must(record_create(&board, &SLOT, 1, IMAGE, sizeof IMAGE, 1, 0, 0) == KALYUBOS_DONE, "create");
     must(kalyubos_memory(&board, 0, &memory, &len) == KALYUBOS_DONE && len == LEN, "the memory");
     watch_guest(0, &(struct queue_memory){ BASE, memory, LEN }, mistakes);
     must(read_register(KALYUBOS_BLOCK, 0x000, 4) == 0x74726976, "MagicValue");

@@ -22,6 +22,8 @@ struct seen {
     uint8_t *now;  /* its memory in place */
     uint8_t *left; /* as its last call left it */
     bool refused;  /* whether that was a write that is to be made again */
+    struct text event; /* what is asked for: the line of an event that isn't done */
+    char reply[32];    /* and what it is answered once it is */
     struct kalyubos_pending waits;
     struct text output; /* what the host hasn't taken yet */
     struct text untold; /* what no record has yet */
@@ -37,7 +39,25 @@ static bool writes(uint8_t slot)
     return trace != NULL && slot < SLOTS && seen[slot].left != NULL;
 }
 
+/* Whether its event is paused: then a call for it is busy, and none to write down. */
+static bool is_paused(uint8_t slot)
+{
+    return seen[slot].event.len > 0 && !seen[slot].refused;
+}
+
 /* ---- text */
+
+static void append(struct text *text, const uint8_t *bytes, size_t len)
+{
+    if (text->room - text->len < len) {
+        text->room = 2 * text->room + len;
+        text->bytes = realloc(text->bytes, text->room);
+        if (text->bytes == NULL)
+            abort();
+    }
+    memcpy(text->bytes + text->len, bytes, len);
+    text->len += len;
+}
 
 static void put_bytes(FILE *file, const uint8_t *bytes, size_t len)
 {
@@ -95,6 +115,13 @@ static void put_read(uint8_t slot, size_t start, size_t end)
     end_record(slot);
 }
 
+/* The line of an event is kept until it is done. */
+static void ask(uint8_t slot, const char *line, size_t len)
+{
+    seen[slot].event.len = 0;
+    append(&seen[slot].event, (const uint8_t *)line, len);
+}
+
 /* ---- what changed */
 
 /* Where the next difference lies from `at` on, or the end. */
@@ -128,18 +155,6 @@ static void put_changes(uint8_t slot, void (*put)(uint8_t slot, size_t start, si
         memcpy(of->left + at, of->now + at, end - at);
         at = end;
     }
-}
-
-static void append(struct text *text, const uint8_t *bytes, size_t len)
-{
-    if (text->room - text->len < len) {
-        text->room = 2 * text->room + len;
-        text->bytes = realloc(text->bytes, text->room);
-        if (text->bytes == NULL)
-            abort();
-    }
-    memcpy(text->bytes + text->len, bytes, len);
-    text->len += len;
 }
 
 static void keep_output(struct kalyubos *board, uint8_t slot)
@@ -183,6 +198,7 @@ bool record_end(void)
     bool good = trace == NULL || (fclose(trace) == 0 && fclose(records) == 0);
     for (size_t i = 0; i < SLOTS; i++) {
         free(seen[i].left);
+        free(seen[i].event.bytes);
         free(seen[i].output.bytes);
         free(seen[i].untold.bytes);
     }
@@ -209,9 +225,9 @@ static void put_slot(struct kalyubos *board, uint8_t index, const struct kalyubo
 }
 
 uint32_t record_create(struct kalyubos *board, const struct kalyubos_slot *slots, size_t slots_len,
-                       const uint8_t *image, size_t image_len, uint32_t cache)
+                       const uint8_t *image, size_t image_len, uint32_t cache, uint32_t chains, uint64_t bytes)
 {
-    uint32_t answer = kalyubos_create(board, slots, slots_len, image, image_len, cache, 0, 0);
+    uint32_t answer = kalyubos_create(board, slots, slots_len, image, image_len, cache, chains, bytes);
     if (trace == NULL || answer != KALYUBOS_DONE)
         return answer;
     fprintf(trace, "vreplay 2\ncache %x\n", (unsigned)cache);
@@ -237,50 +253,68 @@ uint32_t record_read(struct kalyubos *board, uint8_t slot, uint8_t window, uint1
     return answer;
 }
 
-/* A write for which there is no room is recorded when it is made again and done, with what it changed then. */
+/*
+ * What stands behind a call that a service may come of. An event is written down once it is done, with what it changed
+ * then: one for which there is no room is made again before, and one that is paused goes on.
+ */
+static uint32_t settle(struct kalyubos *board, uint8_t slot, uint32_t answer, struct kalyubos_pending *pending)
+{
+    struct seen *of = &seen[slot];
+    keep(board, slot, pending);
+    of->refused = answer == KALYUBOS_NO_ROOM;
+    if (answer != KALYUBOS_DONE || of->event.len == 0)
+        return answer;
+    fwrite(of->event.bytes, 1, of->event.len, trace);
+    of->event.len = 0;
+    end_call();
+    put_record(slot, of->reply);
+    put_changes(slot, put_read);
+    return answer;
+}
+
 uint32_t record_write(struct kalyubos *board, uint8_t slot, uint8_t window, uint16_t offset, uint8_t width,
                       uint32_t value, struct kalyubos_pending *pending)
 {
-    if (!writes(slot))
+    if (!writes(slot) || is_paused(slot))
         return kalyubos_write(board, slot, window, offset, width, value, pending);
     if (!seen[slot].refused)
         put_changes(slot, put_write);
-    uint32_t answer = kalyubos_write(board, slot, window, offset, width, value, pending);
-    keep(board, slot, pending);
-    seen[slot].refused = answer == KALYUBOS_NO_ROOM;
-    if (answer != KALYUBOS_DONE)
-        return answer;
+    char line[64];
     uint32_t within = width < 4 ? value & (((uint32_t)1 << 8 * width) - 1) : value;
-    fprintf(trace, "w %x %c %03x %x %0*x", slot, WINDOWS[window], offset, width, 2 * width, (unsigned)within);
-    end_call();
-    put_record(slot, "done");
-    put_changes(slot, put_read);
-    return answer;
+    int len = snprintf(line, sizeof line, "w %x %c %03x %x %0*x", slot, WINDOWS[window], offset, width, 2 * width,
+                       (unsigned)within);
+    ask(slot, line, len);
+    strcpy(seen[slot].reply, "done");
+    return settle(board, slot, kalyubos_write(board, slot, window, offset, width, value, pending), pending);
+}
+
+/* Goes on with the event that is paused, and writes it down where it is done. */
+uint32_t record_go_on(struct kalyubos *board, uint8_t slot, struct kalyubos_pending *pending)
+{
+    uint32_t answer = kalyubos_go_on(board, slot, pending);
+    return writes(slot) ? settle(board, slot, answer, pending) : answer;
 }
 
 uint32_t record_input(struct kalyubos *board, uint8_t slot, const uint8_t *bytes, size_t bytes_len, size_t *took,
                       struct kalyubos_pending *pending)
 {
-    char reply[32];
-    if (!writes(slot))
+    if (!writes(slot) || is_paused(slot))
         return kalyubos_input(board, slot, bytes, bytes_len, took, pending);
     put_changes(slot, put_write);
     uint32_t answer = kalyubos_input(board, slot, bytes, bytes_len, took, pending);
-    keep(board, slot, pending);
-    fprintf(trace, "in %x ", slot);
-    put_bytes(trace, bytes, bytes_len);
-    end_call();
-    snprintf(reply, sizeof reply, "took:%zx", *took);
-    put_record(slot, reply);
-    put_changes(slot, put_read);
-    return answer;
+    char line[16];
+    ask(slot, line, snprintf(line, sizeof line, "in %x %s", slot, bytes_len == 0 ? "-" : ""));
+    for (size_t i = 0; i < bytes_len; i++)
+        append(&seen[slot].event, (const uint8_t[]){ DIGITS[bytes[i] >> 4], DIGITS[bytes[i] & 15] }, 2);
+    snprintf(seen[slot].reply, sizeof seen[slot].reply, "took:%zx", *took);
+    return settle(board, slot, answer, pending);
 }
 
 uint32_t record_resize(struct kalyubos *board, uint8_t slot, uint16_t cols, uint16_t rows,
                        struct kalyubos_pending *pending)
 {
     uint32_t answer = kalyubos_resize(board, slot, cols, rows, pending);
-    if (!writes(slot))
+    if (!writes(slot) || is_paused(slot))
         return answer;
     keep(board, slot, pending);
     fprintf(trace, "sz %x %x %x", slot, cols, rows);

@@ -21,11 +21,12 @@ size_t record_line(void);
 bool record_end(void);
 
 uint32_t record_create(struct kalyubos *board, const struct kalyubos_slot *slots, size_t slots_len,
-                       const uint8_t *image, size_t image_len, uint32_t cache);
+                       const uint8_t *image, size_t image_len, uint32_t cache, uint32_t chains, uint64_t bytes);
 uint32_t record_read(struct kalyubos *board, uint8_t slot, uint8_t window, uint16_t offset, uint8_t width,
                      uint32_t *value);
 uint32_t record_write(struct kalyubos *board, uint8_t slot, uint8_t window, uint16_t offset, uint8_t width,
                       uint32_t value, struct kalyubos_pending *pending);
+uint32_t record_go_on(struct kalyubos *board, uint8_t slot, struct kalyubos_pending *pending);
 uint32_t record_input(struct kalyubos *board, uint8_t slot, const uint8_t *bytes, size_t bytes_len, size_t *took,
                       struct kalyubos_pending *pending);
 uint32_t record_resize(struct kalyubos *board, uint8_t slot, uint16_t cols, uint16_t rows,

@@ -61,6 +61,8 @@ bool report_machine(const struct machine *machine, const char *folder)
     fclose(machine->early);
     if (machine->refused > 0)
         printf("guest %u: %llu writes were made again\n", machine->slot, (unsigned long long)machine->refused);
+    if (machine->pauses > 0)
+        printf("guest %u: its services paused %llu times\n", machine->slot, (unsigned long long)machine->pauses);
     show_mistakes(machine);
     fclose(machine->mistakes);
     return machine->off;

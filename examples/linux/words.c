@@ -43,7 +43,8 @@ static uint64_t feature(const char *word)
 }
 
 static const struct option OPTIONS[] = {
-    { "cache", required_argument, NULL, 'c' },   { "copies", no_argument, NULL, 'p' },
+    { "bytes", required_argument, NULL, 'y' },   { "cache", required_argument, NULL, 'c' },
+    { "chains", required_argument, NULL, 'a' },  { "copies", no_argument, NULL, 'p' },
     { "cycles", required_argument, NULL, 'n' },  { "image", required_argument, NULL, 'm' },
     { "interactive", no_argument, NULL, 'i' },   { "keep", required_argument, NULL, 'b' },
     { "kernel", required_argument, NULL, 'k' },  { "late", no_argument, NULL, 'l' },
@@ -57,6 +58,7 @@ static const struct option OPTIONS[] = {
 static void take(struct words *words, int option)
 {
     switch (option) {
+    case 'a': words->chains = number(optarg); break;
     case 'b': words->kept = number(optarg); break;
     case 'c': words->cache = number(optarg); break;
     case 'd': words->to = optarg; break;
@@ -73,6 +75,7 @@ static void take(struct words *words, int option)
     case 's': words->script = optarg; break;
     case 't': words->tree = optarg; break;
     case 'w': words->hidden |= feature(optarg); break;
+    case 'y': words->bytes = number(optarg); break;
     default: exit(2);
     }
 }
@@ -80,7 +83,7 @@ static void take(struct words *words, int option)
 struct words words_of(int argc, char **argv)
 {
     struct words words = {
-        .to = ".", .script = "", .cache = 1024, .outlet = 0x8000, .cycles = 4000000000, .shown = -1, .kept = -1,
+        .to = ".", .script = "", .cache = 1024, .outlet = 0x8000, .bytes = 0x10000, .cycles = 4000000000, .shown = -1, .kept = -1,
     };
     int option;
     while ((option = getopt_long(argc, argv, "", OPTIONS, NULL)) != -1)

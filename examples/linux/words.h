@@ -13,6 +13,8 @@ struct words {
     const char *record;
     const char *image; /* the file of all disks, which is served in place, or NULL */
     uint32_t cache, outlet;
+    uint32_t chains; /* the budget of a call, or 0 for no limit */
+    uint64_t bytes;
     uint64_t hidden; /* feature bits that no driver is shown */
     uint64_t cycles; /* a guest that isn't off after so many is left */
     bool late, copies, interactive, quiet;

@@ -1,8 +1,9 @@
 //! Each call at its edges: what it answers, and that the next call goes on.
 
 use kalyubos::{
-    Board, CreateError, Error, Identity, IdentityTooLong, Interrupts, Pending, Slot, Window,
+    Board, Budget, CreateError, Error, Identity, IdentityTooLong, Interrupts, Pending, Slot, Window,
 };
+use std::num::NonZeroU32;
 use std::sync::Mutex;
 use std::thread;
 
@@ -52,6 +53,75 @@ fn each_refusal_of_create_is_told() {
         CreateError::ExtentOutside
     );
     assert_eq!(of_one(good.outlet((1 << 24) + 1)), CreateError::BadOutlet);
+}
+
+/// A board of two guests, of which the first has two chains of one byte on offer in its transmit queue.
+fn two_chains_on_offer(budget: Budget) -> Board {
+    let slots = [Slot::new(MEMORY, LEN, 0..1), Slot::new(MEMORY, LEN, 1..2)];
+    let mut board = Board::with_budget(&slots, &[0; 1024], 4, budget).expect("a board");
+    for (offset, value) in [
+        (0x070, 3),
+        (0x024, 1),
+        (0x020, 1),
+        (0x070, 11),
+        (0x030, 1),
+        (0x038, 2),
+        (0x080, 0x8000_1000),
+        (0x090, 0x8000_2000),
+        (0x0a0, 0x8000_3000),
+        (0x044, 1),
+        (0x070, 15),
+    ] {
+        board
+            .write(0, Window::Console, offset, 4, value)
+            .expect("a register");
+    }
+    for (place, address) in [(0x1000, 0x4000_u32), (0x1010, 0x4001)] {
+        let mut descriptor = [0; 16];
+        descriptor[..4].copy_from_slice(&(0x8000_0000 + address).to_le_bytes());
+        descriptor[8] = 1;
+        board
+            .write_memory(0, MEMORY + place, &descriptor)
+            .expect("a descriptor");
+    }
+    board
+        .write_memory(0, MEMORY + 0x2000, &[0, 0, 2, 0, 0, 0, 1, 0])
+        .expect("the available ring");
+    board
+        .write_memory(0, MEMORY + 0x4000, b"ab")
+        .expect("the bytes");
+    board
+}
+
+#[test]
+fn a_service_pauses_and_goes_on() {
+    let mut board = two_chains_on_offer(Budget {
+        chains: NonZeroU32::new(1),
+        bytes: None,
+    });
+    let pending = board.write(0, Window::Console, 0x050, 4, 1).unwrap();
+    assert!(pending.more);
+    assert_eq!(pending.output, 1);
+    assert_eq!(board.read(0, Window::Console, STATUS, 4), Err(Error::Busy));
+    assert_eq!(board.write_memory(0, MEMORY, &[1]), Err(Error::Busy));
+    assert_eq!(board.read(1, Window::Console, STATUS, 4), Ok(0));
+
+    let pending = board.go_on(0).unwrap();
+    assert!(!pending.more);
+    assert_eq!(pending.interrupts.console, 1);
+    let mut out = [0; 4];
+    assert_eq!(board.take_output(0, &mut out), Ok(2));
+    assert_eq!(out[..2], *b"ab");
+    assert_eq!(board.go_on(0).map(|pending| pending.more), Ok(false));
+    assert_eq!(board.go_on(2), Err(Error::BadSlot));
+}
+
+#[test]
+fn without_a_budget_nothing_pauses() {
+    let mut board = two_chains_on_offer(Budget::default());
+    let pending = board.write(0, Window::Console, 0x050, 4, 1).unwrap();
+    assert!(!pending.more);
+    assert_eq!(pending.output, 2);
 }
 
 #[test]

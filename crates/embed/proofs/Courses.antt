@@ -65,7 +65,7 @@ replies_are g old (Took slot room bytes after ∷ deeds) new course = replies_ar
 
 -- ---- what guest g puts out
 
-output_kept : (g slot : ℕ) (old new : SessionState) → KeepsOtherOutputs slot old.outputs new.outputs → (slot == g) ≡ false → output_of g new ≡ output_of g old
+pub output_kept : (g slot : ℕ) (old new : SessionState) → KeepsOtherOutputs slot old.outputs new.outputs → (slot == g) ≡ false → output_of g new ≡ output_of g old
 output_kept g slot old new kept test =
     let other : g ≢ slot = grind (arith, nat_tests) in
     ap (λ (o : Option Waiting). (unwrap_or o (none_waiting 0)).bytes) (kept g other)
@@ -86,7 +86,7 @@ output_behind : {A : Type 0} (mine mine' : Bool) (written : Record A) (records :
     before ++ put_out (if mine' then written ∷ records else records) ≡ taken ++ new
 output_behind mine mine' written records before after taken new same appended kept rest = rw same (step_output mine written records before after taken new appended kept rest)
 
-taken_output : (mine : Bool) (bytes before after out taken new : List ℕ) →
+pub taken_output : (mine : Bool) (bytes before after out taken new : List ℕ) →
     (mine ≡ true → before ≡ bytes ++ after) → (mine ≡ false → after ≡ before) →
     after ++ out ≡ taken ++ new →
     before ++ out ≡ (if mine then bytes ++ taken else taken) ++ new
@@ -97,12 +97,12 @@ taken_output false bytes before after out taken new first kept rest =
     ap (λ (b : List ℕ). b ++ out) (sym (kept refl)) ∙ rest
 
 -- what was taken stood before what is left
-taken_first : (slot room : ℕ) (old after : SessionState) (bytes : List ℕ) → IsTaken old slot room bytes after → output_of slot old ≡ bytes ++ output_of slot after
+pub taken_first : (slot room : ℕ) (old after : SessionState) (bytes : List ℕ) → IsTaken old slot room bytes after → output_of slot old ≡ bytes ++ output_of slot after
 taken_first slot room old after bytes h =
     sym (take-append-drop room (output_of slot old))
     ∙ (ap (λ (l : List ℕ). l ++ drop room (output_of slot old)) (sym h.first) ∙ ap (λ (l : List ℕ). bytes ++ l) (sym h.left))
 
-same_slot : (slot g : ℕ) → (slot == g) ≡ true → slot ≡ g
+pub same_slot : (slot g : ℕ) → (slot == g) ≡ true → slot ≡ g
 same_slot slot g test = grind (arith, nat_tests)
 
 outputs_are : {A : Type 0} (g : ℕ) (old : SessionState) (deeds : List (Deed A)) (new : SessionState) (course : IsCourse old deeds new) →

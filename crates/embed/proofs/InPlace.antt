@@ -1,10 +1,10 @@
 -- What a host puts into a guest's memory between two calls, as the step of that write.
-use Rattle.std.proofs.Common.{◌≡◌, inl, ℕ, ◌+◌, Bool, true, false, ◌||◌, List, [], ◌++◌, length, take, drop, Option, Some, refl, sym, ◌∙◌, ap, subst, append-nil, arith}
+use Rattle.std.proofs.Common.{◌≡◌, inl, ℕ, ◌+◌, Bool, true, false, ◌||◌, List, [], ◌++◌, length, take, drop, Option, Some, None, refl, sym, ◌∙◌, ap, subst, append-nil, arith}
 use Rattle.std.specs.Prelude.{◌-◌, slice_set}
 use Rattle.std.specs.List.{slice_get}
 use Rattle.std.proofs.lemmas.Bool.Decides.{nat_tests}
 use Rattle.std.proofs.lemmas.List.{map-set, take_all, drop_all}
-use Rattle.std.proofs.lemmas.Option.{slice_get-map}
+use Rattle.std.proofs.lemmas.Option.{slice_get-map, slice_get_within}
 use Rattle.guest_memory.specs.Memory.{Inside, Memory, put, put_at}
 use Rattle.guest_memory.proofs.Ranges.{is_inside-tells}
 use Rattle.sector_cache.specs.Disk.{Disk}
@@ -17,8 +17,11 @@ use Rattle.board.specs.Machine.{holds}
 use Rattle.board.specs.Slot.{BoardSlot, state_of}
 use Rattle.board.specs.World.{Answers, met_refusal, seen}
 use Rattle.board.proofs.Seats.{extents_of-set, noted_set, step_there}
+use Rattle.paced.specs.declared.response.Response.TheVariants.{Answered}
+use Rattle.paced.specs.Pacing.{Handle}
+use Rattle.embed.specs.Pausing.{IsCall}
 use Rattle.embed.specs.Session.{IsStep, SessionState, disk_of, with_memory, with_slot_bytes}
-use Rattle.embed.proofs.Steps.{was_written}
+use Rattle.embed.proofs.Steps.{idle_step_call, was_written}
 
 -- nothing is noted of it
 unmet : (A : Type 0) (noted : Bool) (failures : ℕ) → noted ≡ (noted || met_refusal {A = A} Done failures failures)
@@ -87,3 +90,12 @@ in_place_whole A old slot found bytes here same =
     subst (λ (memory : Memory). IsStep {A = A} old (record { slot = slot; what = MemWrite found.memory.base bytes }) Done (with_memory slot found memory old))
     (put_whole found.memory bytes same)
     (in_place A old slot found.memory.base found bytes here (whole_inside found.memory (length bytes) same))
+
+-- ---- as a call
+
+pub in_place_call : (A : Type 0) (old : SessionState) (slot : ℕ) (found : BoardSlot) (bytes : List ℕ) →
+    slice_get old.slots slot ≡ Some found → length bytes ≡ length found.memory.bytes → slice_get old.paused slot ≡ Some None →
+    IsCall {A = A} old (Handle (record { slot = slot; what = MemWrite found.memory.base bytes })) (Answered Done) (with_slot_bytes slot old bytes)
+in_place_call A old slot found bytes here same idle =
+    rw idle (idle_step_call {A = A} old (with_slot_bytes slot old bytes) (record { slot = slot; what = MemWrite found.memory.base bytes }) Done idle (slice_get_within old.slots slot found here) (λ state. refl)
+    (in_place_lent A old slot found bytes here same))

@@ -649,13 +649,10 @@ state_there s h fits = found_state s.slots h fits
     found_state (one ∷ slots) zero few = (state_of s.image one, refl)
     found_state (one ∷ slots) (suc k) few = found_state slots k (omega (arith, few))
 
-step_call_at : {A : Type 0} (s new : SessionState) (event : Event A) (reply : Reply A) (o : Option (Option Pause)) → slice_get s.paused event.slot ≡ o → option_and_then (λ (here : Option Pause). here) o ≡ None → length s.paused ≡ length s.slots
-    → ((state : SlotState) → asked event.what state ≡ None) → IsStep s event reply new → ComesTo (Handle event) o s (Answered reply) new
-step_call_at {A} s new event reply None is idle many asks step =
-    let past : length s.slots ≤ event.slot = grind (arith, many, slice_get_cases s.paused event.slot) in
-    let bad : reply ≡ BadSlot = step.bad_slot.1 past in (ap (λ (a : Reply A). Answered a) bad, step.bad_slot_keeps bad)
-step_call_at s new event reply (Some None) is idle many asks step =
-    let fits : event.slot < length s.slots = rw (← many) (slice_get_within s.paused event.slot None is) in
+-- where nothing of its slot is paused
+pub idle_step_call : {A : Type 0} (s new : SessionState) (event : Event A) (reply : Reply A) → slice_get s.paused event.slot ≡ Some None → event.slot < length s.slots
+    → ((state : SlotState) → asked event.what state ≡ None) → IsStep s event reply new → ComesTo (Handle event) (Some None) s (Answered reply) new
+idle_step_call {A} s new event reply is fits asks step =
     let found = state_there s event.slot fits in
     let t = answered_turn (world_of s) (world_of new) event s.budget reply found.0 _ _ found.1 (asks found.0) step.answers in
     record {
@@ -678,6 +675,14 @@ step_call_at s new event reply (Some None) is idle many asks step =
       };
       limited = λ is. absurd (cc (is));
     }
+
+step_call_at : {A : Type 0} (s new : SessionState) (event : Event A) (reply : Reply A) (o : Option (Option Pause)) → slice_get s.paused event.slot ≡ o → option_and_then (λ (here : Option Pause). here) o ≡ None → length s.paused ≡ length s.slots
+    → ((state : SlotState) → asked event.what state ≡ None) → IsStep s event reply new → ComesTo (Handle event) o s (Answered reply) new
+step_call_at {A} s new event reply None is idle many asks step =
+    let past : length s.slots ≤ event.slot = grind (arith, many, slice_get_cases s.paused event.slot) in
+    let bad : reply ≡ BadSlot = step.bad_slot.1 past in (ap (λ (a : Reply A). Answered a) bad, step.bad_slot_keeps bad)
+step_call_at s new event reply (Some None) is idle many asks step =
+    idle_step_call s new event reply is (rw (← many) (slice_get_within s.paused event.slot None is)) asks step
 step_call_at s new event reply (Some (Some pause)) is idle many asks step = absurd (cc (idle))
 
 pub call_of_step : {A : Type 0} (s new : SessionState) (event : Event A) (reply : Reply A) → IsIdle event.slot s → length s.paused ≡ length s.slots → ((state : SlotState) → asked event.what state ≡ None) → IsStep s event reply new → IsCall s (Handle event) (Answered reply) new

@@ -9,9 +9,14 @@ ghost use Rattle.board.specs.declared.reply.Reply.{Reply};
 ghost use Rattle.board.specs.Fault.{IsAccepted};
 ghost use Rattle.board.specs.Slot.{BoardSlot, SlotState};
 ghost use Rattle.board.specs.Within.{Seat};
+ghost use Rattle.paced.specs.Line.{IsIdle};
+ghost use Rattle.paced.specs.Pacing.{Handle};
+ghost use Rattle.paced.specs.declared.response.Response.{Response};
 ghost use Rattle.embed.specs.declared.guest.GuestSpec.{GuestSpec};
 ghost use Rattle.embed.specs.Alone.{Answer, Call, IsSeatCourse, IsSeatedAlone, SeeAlike, at_front, new_session_alone, own_calls, part_of_image};
 ghost use Rattle.embed.specs.Course.{Deed, HadRoom, IsCourse, RunsAlone};
+ghost use Rattle.embed.specs.PacedCourse.{AlwaysHadRoom, IsPacedCourse, PacedDeed, RunsAlonePaced, paced_world_of};
+ghost use Rattle.embed.specs.Pausing.{IsCall};
 ghost use Rattle.embed.specs.Refusing.{AreOutlets};
 ghost use Rattle.embed.specs.Session.{IsStep, SessionState, limit_of, new_session, output_of, slots_of, with_memory, with_slot_bytes, world_of};
 
@@ -60,6 +65,15 @@ pub fn a_guest_with_room_runs_alone<A: Allocator>()
         RunsAlone g state old deeds new }
 {}
 
+/// The same where services pause, whatever is called for others between their pieces: an event counts where it begins,
+/// and its reply where it ends.
+pub fn a_guest_with_room_runs_alone_where_services_pause<A: Allocator>()
+    ensures { (g : ℕ) (old new : SessionState) (deeds : List (PacedDeed A)) (state : SlotState) →
+        IsPacedCourse old deeds new → AlwaysHadRoom g deeds →
+        IsIdle g (paced_world_of old) → IsIdle g (paced_world_of new) →
+        slice_get (world_of old).slots g ≡ Some state → RunsAlonePaced g state old deeds new }
+{}
+
 /// Bytes that were put into a guest's memory in place, between two calls, are the event of their write: so what
 /// holds of each guest over courses of events holds of a guest whose CPUs store into memory that is lent to them.
 pub fn a_write_in_place_is_an_event<A: Allocator>()
@@ -77,4 +91,11 @@ pub fn a_write_in_place_is_an_event<A: Allocator>()
         slice_get old.slots slot ≡ Some found → length bytes ≡ length found.memory.bytes →
         IsStep {A = A} old (record { slot = slot; what = EventKind.MemWrite found.memory.base bytes }) Reply.Done
         (with_memory slot found (record found.memory { bytes = bytes }) old) }
+
+    // also as a call, where no service of the slot is paused
+    ensures call { (old : SessionState) (slot : ℕ) (found : BoardSlot) (bytes : List ℕ) →
+        slice_get old.slots slot ≡ Some found → length bytes ≡ length found.memory.bytes →
+        IsIdle slot (paced_world_of old) →
+        IsCall {A = A} old (Handle (record { slot = slot; what = EventKind.MemWrite found.memory.base bytes }))
+        (Response.Answered Reply.Done) (with_slot_bytes slot old bytes) }
 {}

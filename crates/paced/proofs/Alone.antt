@@ -50,9 +50,9 @@ record Comes {A : Type 0} (g : ℕ) (state : SlotState) (events : List (EventKin
 
 -- ---- moves of other slots
 
-record Stays (g : ℕ) (old new : PacedWorld) : Type 0 where
-  slot : slice_get new.world.slots g ≡ slice_get old.world.slots g
-  paused : slice_get new.paused g ≡ slice_get old.paused g
+pub record Stays (g : ℕ) (old new : PacedWorld) : Type 0 where
+  pub slot : slice_get new.world.slots g ≡ slice_get old.world.slots g
+  pub paused : slice_get new.paused g ≡ slice_get old.paused g
 
 unchanged : (g : ℕ) (old new : PacedWorld) (output : List ℕ) → IsUnchanged old new output → Stays g old new
 unchanged g old new output u = record {
@@ -67,7 +67,7 @@ of_others Does g h old response output block console new other t = record {
   paused = ap (λ (paused : List (Option Pause)). slice_get paused g) t.paused ∙ get_set_other old.paused h g (paused_by t.turn) other;
 }
 
-others_at : {A : Type 0} (g : ℕ) (budget : Budget) (call : Call A) (o : Option (Option Pause)) (old : PacedWorld) (response : Response A) (output : List ℕ) (block console : ℕ) (new : PacedWorld) → slot_in call ≢ g
+pub others_at : {A : Type 0} (g : ℕ) (budget : Budget) (call : Call A) (o : Option (Option Pause)) (old : PacedWorld) (response : Response A) (output : List ℕ) (block console : ℕ) (new : PacedWorld) → slot_in call ≢ g
     → ComesTo budget call o old response output block console new → Stays g old new
 others_at g budget call None old response output block console new other c = unchanged g old new output c.1
 others_at g budget (Handle event) (Some None) old response output block console new other c = of_others (Begins event.what budget) g event.slot old response output block console new other c

@@ -1,7 +1,8 @@
 //! The host of `host.c`, in Rust: the same guest, on a thread of its own, and the same lines.
 
-use kalyubos::{Board, Error, Slot, Window};
+use kalyubos::{Board, Budget, Error, Slot, Window};
 use std::error;
+use std::num::NonZeroU32;
 use std::thread;
 
 const MEMORY: u64 = 0x8000_0000;
@@ -39,8 +40,13 @@ impl Driver<'_> {
         self.board.read(0, self.window, offset, 4)
     }
 
+    /// A store. Where its service pauses, it goes on at once: a host with more guests would first let them have their turn.
     fn set(&mut self, offset: u16, value: u32) -> Result<(), Error> {
-        self.board.write(0, self.window, offset, 4, value).map(drop)
+        let mut pending = self.board.write(0, self.window, offset, 4, value)?;
+        while pending.more {
+            pending = self.board.go_on(0)?;
+        }
+        Ok(())
     }
 
     fn store(&mut self, addr: u64, from: &[u8]) -> Result<(), Error> {
@@ -135,7 +141,11 @@ fn main() -> Result<(), Box<dyn error::Error>> {
     let mut image = vec![0; 2 * 512];
     image[512..532].copy_from_slice(b"hello from sector 1\n");
     let slot = Slot::new(MEMORY, 0x1_0000, 0..2).identity("a disk of two".parse()?);
-    let mut board = Board::new(&[slot], &image, 8)?;
+    let budget = Budget {
+        chains: NonZeroU32::new(1),
+        bytes: None,
+    };
+    let mut board = Board::with_budget(&[slot], &image, 8, budget)?;
     thread::scope(|cpus| {
         cpus.spawn(|| guest(&mut board))
             .join()
