@@ -60,10 +60,11 @@ static uint32_t notify(uint8_t guest, uint16_t chains)
     return kalyubos_write(&board, guest, KALYUBOS_BLOCK, 0x50, 4, 0, &pending);
 }
 
+/* Microseconds of processor time: other work on the machine counts for nothing. */
 static double now(void)
 {
     struct timespec t;
-    clock_gettime(CLOCK_MONOTONIC, &t);
+    clock_gettime(CLOCK_PROCESS_CPUTIME_ID, &t);
     return (double)t.tv_sec * 1e6 + (double)t.tv_nsec / 1e3;
 }
 
