@@ -7,6 +7,7 @@ from . import documents
 from .scenarios import CRATE, Broken
 
 PAGE = os.path.join(CRATE, "RULES.md")
+CHANGES = os.path.join(CRATE, "mutants", "changes")
 LINK = re.compile(r"\[([^\]]*)\]\(\.\./\.\./docs/([^#)]*)#([^)]*)\)$")
 NAMED = re.compile(r"`([a-z_]+/[a-z0-9_]+)`")
 ENDING = re.compile(rf"(?:(.+): )?({NAMED.pattern}(?:, {NAMED.pattern})*)")
@@ -16,7 +17,7 @@ ENDING = re.compile(rf"(?:(.+): )?({NAMED.pattern}(?:, {NAMED.pattern})*)")
 class Row:
     """A line of the page's lists: the rule's link, which is empty below the rule's first line, what is said, and scenarios.
 
-    With both, what is said are wrong devices, with a semicolon between them; without words it is a worked value; without a
+    With both, what is said are wrong devices, with a semicolon between them; without words scenarios alone; without a
     scenario the reason why there is none.
     """
 
@@ -99,6 +100,13 @@ def load():
         rules[-1].devices.extend(line.devices)
         rules[-1].scenarios.update(line.scenarios)
     return rules
+
+
+def measured():
+    """The devices that mutants makes, each with the scenario that it fails: the first lines of its blocks."""
+    with open(CHANGES, encoding="utf-8") as file:
+        firsts = [block.strip("\n").split("\n")[0] for block in file.read().split("\n\n")]
+    return {tuple(first.rsplit(" | ", 1)) for first in firsts}
 
 
 def by_scenario(rules):
