@@ -13,8 +13,8 @@ use chain::Chain;
 use guest_memory::GuestMemory;
 use std::alloc::Allocator;
 
-/// The bytes of a sector (5.2.4).
-pub(crate) const SECTOR_LEN: u64 = 512;
+/// The bytes of a sector.
+pub(crate) const SECTOR_LEN: u64 = sector_cache::SECTOR_LEN as u64;
 
 /// The bytes of a request's header: type, reserved, sector.
 pub(crate) const HEADER_LEN: u64 = 16;

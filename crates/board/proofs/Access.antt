@@ -6,7 +6,7 @@ use Rattle.std.specs.List.{slice_get}
 use Rattle.std.proofs.Math.Seq.{map-set_same}
 use Rattle.std.proofs.lemmas.Bool.Decides.{nat_tests}
 use Rattle.std.proofs.lemmas.Option.{get_or_from_slice_get}
-use Rattle.guest_memory.specs.Memory.{put}
+use Rattle.guest_memory.specs.Memory.{is_inside, put}
 use Rattle.sector_cache.specs.Disk.{Disk}
 use Rattle.board.specs.declared.event.EventKind.TheVariants.{MemWrite, Input}
 use Rattle.board.specs.declared.pause.Pause.{Pause}
@@ -16,7 +16,7 @@ use Rattle.board.specs.declared.reply.Reply.{Reply}
 use Rattle.board.specs.declared.reply.Reply.TheVariants.{Done, Took}
 use Rattle.board.specs.Extent.{IsApart}
 use Rattle.board.specs.Image.{bytes_of, health_of}
-use Rattle.board.specs.Machine.{holds, block_irq, console_irq}
+use Rattle.board.specs.Machine.{block_irq, console_irq}
 use Rattle.board.specs.Outcome.{replies}
 use Rattle.board.specs.Pausing.{met_in}
 use Rattle.board.specs.Slot.{BoardSlot, state_of}
@@ -42,7 +42,7 @@ unmet_turn slot new turn failures note (inr is) = rw is (note ∙ unmet slot.dis
 
 -- bytes that fit a slot's memory were put there: the event of that write is answered
 pub bytes_put : (A : Type 0) (slots : List BoardSlot) (disk : Disk) (h : ℕ) (slot new : BoardSlot) (addr : ℕ) (bytes : List ℕ) (done : Bool) →
-    AllPairs IsApart (extents_of slots) → slice_get slots h ≡ Some slot → done ≡ holds slot.memory addr (length bytes) →
+    AllPairs IsApart (extents_of slots) → slice_get slots h ≡ Some slot → done ≡ is_inside slot.memory addr (length bytes) →
     OnTrue done (new ≡ record slot { memory = put slot.memory addr bytes }) →
     OnTrue done
     (Answers {A = A} (seen slots disk) (record { slot = h; what = MemWrite addr bytes }) Done [] [] (seen (slice_set slots h new) disk))

@@ -3,7 +3,7 @@ use Rattle.std.proofs.Common.{◌≡◌, inl, inr, ℕ, Bool, true, false, Optio
 use Rattle.std.specs.Prelude.{if◌then◌else◌, MatchOption}
 use Rattle.std.specs.List.{slice_get}
 use Rattle.std.proofs.Math.Seq.{map-set_same}
-use Rattle.guest_memory.specs.Memory.{part_of, put}
+use Rattle.guest_memory.specs.Memory.{is_inside, part_of, put}
 use Rattle.mmio_window.specs.declared.device_kind.DeviceKind.{DeviceKind}
 use Rattle.mmio_window.specs.declared.device_kind.DeviceKind.TheVariants.{Block, Console}
 use Rattle.board.specs.declared.event.Event.{Event}
@@ -13,7 +13,7 @@ use Rattle.board.specs.declared.reply.Reply.TheVariants.{Bytes, BadRange}
 use Rattle.board.specs.declared.reply.Record.{Record}
 use Rattle.board.specs.Image.{Health}
 use Rattle.board.specs.Line.{Move, IsLine}
-use Rattle.board.specs.Machine.{holds, task_at, with_write, Gives}
+use Rattle.board.specs.Machine.{task_at, with_write, Gives}
 use Rattle.board.specs.Outcome.{Outcome, does, replies}
 use Rattle.board.specs.Slot.{SlotState}
 use Rattle.board.specs.Task.{Task, Nothing, ServeBlock, ServeReceive, ServeTransmit, PutOut, Finishes}
@@ -59,8 +59,8 @@ served_named : {A : Type 0} (state : SlotState) (what : EventKind A) (old new : 
 served_named state (Read window offset width) old new outcome h = named outcome _ h.alike
 served_named state (Write window offset width value) old new outcome h =
     finished_named (task_at window offset width value state) (with_write window offset width value state) old new outcome h ∙ write_named window offset width value state
-served_named {A} state (MemRead addr len) old new outcome h = named outcome _ h.alike ∙ read_named A state addr len (holds state.memory addr len)
-served_named {A} state (MemWrite addr bytes) old new outcome h = named outcome _ h.alike ∙ put_named A state addr bytes (holds state.memory addr (length bytes))
+served_named {A} state (MemRead addr len) old new outcome h = named outcome _ h.alike ∙ read_named A state addr len (is_inside state.memory addr len)
+served_named {A} state (MemWrite addr bytes) old new outcome h = named outcome _ h.alike ∙ put_named A state addr bytes (is_inside state.memory addr (length bytes))
 served_named state (Input bytes) old new outcome h = named outcome _ h.is
 served_named state (Resize cols rows) old new outcome h = named outcome _ h.alike
 

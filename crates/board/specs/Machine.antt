@@ -1,6 +1,6 @@
 -- The one-slot machine: what a guest would see if it were alone, one event after another.
-use Rattle.std.specs.Prelude.{◌≡◌, ℕ, ◌+◌, ◌&&◌, Bool, false, nat_le, if◌then◌else◌, List, [], ◌∷◌, ◌++◌, length, map, take}
-use Rattle.guest_memory.specs.Memory.{Memory, part_of, put}
+use Rattle.std.specs.Prelude.{◌≡◌, ℕ, false, if◌then◌else◌, List, [], ◌∷◌, ◌++◌, length, map, take}
+use Rattle.guest_memory.specs.Memory.{is_inside, part_of, put}
 use Rattle.mmio_window.specs.declared.action.Action.{Action}
 use Rattle.mmio_window.specs.declared.device_kind.DeviceKind.{DeviceKind}
 use Rattle.mmio_window.specs.declared.device_kind.DeviceKind.TheVariants.{Block, Console}
@@ -20,19 +20,15 @@ use Rattle.board.specs.Outcome.{Outcome, replies, does, IsDetermined}
 use Rattle.board.specs.Slot.{SlotState}
 use Rattle.board.specs.Task.{Task, task_of, IsReceiveService, Finishes}
 
--- whether the n bytes from address a on all lie in the memory
-abbrev pub holds : Memory → ℕ → ℕ → Bool
-holds memory a n = nat_le memory.base a && nat_le (a + n) (memory.base + length memory.bytes)
-
 -- what comes of a read and of a write of memory
 abbrev pub memory_read : {A : Type 0} → SlotState → ℕ → ℕ → Outcome A
 memory_read state addr len =
-    if holds state.memory addr len then replies state (Bytes (part_of state.memory addr len))
+    if is_inside state.memory addr len then replies state (Bytes (part_of state.memory addr len))
     else replies state BadRange
 
 abbrev pub memory_written : {A : Type 0} → SlotState → ℕ → List ℕ → Outcome A
 memory_written state addr bytes =
-    if holds state.memory addr (length bytes)
+    if is_inside state.memory addr (length bytes)
     then does (record state { memory = put state.memory addr bytes })
     else replies state BadRange
 

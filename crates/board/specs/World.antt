@@ -1,7 +1,7 @@
 -- The whole board as it can be seen from outside, and what one event may do to it.
 use Rattle.std.specs.Prelude.{◌≡◌, ◌≢◌, ◌⊎◌, ℕ, ◌<◌, ◌||◌, Bool, true, false, nat_lt, if◌then◌else◌, IsTrue, ⊤, Some, List, [], ◌++◌, map, slice_set, MatchOption}
 use Rattle.std.specs.List.{slice_get}
-use Rattle.guest_memory.specs.Memory.{Memory, Inside}
+use Rattle.guest_memory.specs.Memory.{Inside, Memory, is_inside}
 use Rattle.chain.specs.Service.{Site, Refused, IsRefusedService}
 use Rattle.mmio_window.specs.declared.queue.Queue.{Queue}
 use Rattle.mmio_window.specs.Queue.{queue_kind}
@@ -19,7 +19,7 @@ use Rattle.board.specs.declared.reply.Reply.TheVariants.{BadSlot, NoMemory}
 use Rattle.board.specs.declared.reply.Record.{Record}
 use Rattle.board.specs.Extent.{outside_of}
 use Rattle.board.specs.Image.{Health, bytes_of, health_of}
-use Rattle.board.specs.Machine.{holds, task_at, with_write, Gives, record_of}
+use Rattle.board.specs.Machine.{task_at, with_write, Gives, record_of}
 use Rattle.board.specs.Outcome.{Outcome, replies, IsDetermined}
 use Rattle.board.specs.Slot.{SlotState, BoardSlot, state_of}
 use Rattle.board.specs.Task.{Task, Nothing, ServeBlock, ServeReceive, ServeTransmit, PutOut, device_of, IsBlockService}
@@ -77,7 +77,7 @@ pub record IsServed {A : Type 0} (state : SlotState) (what : EventKind A) (old n
 pub record IsUnread {A : Type 0} (state : SlotState) (addr len : ℕ) (old new : Health)
     (outcome : Outcome A) : Type 0 where
   pub some : 0 < len
-  pub inside : IsTrue (holds state.memory addr len)
+  pub inside : IsTrue (is_inside state.memory addr len)
   pub unchanged : outcome ≡ replies state NoMemory
   pub image : new ≡ old
 

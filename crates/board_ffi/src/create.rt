@@ -13,10 +13,8 @@ ghost use Rattle.board_ffi.specs.Create.{AreSized, IsMade, IsNotMade, budget_of,
 use crate::codes::{BAD_SIZE, DONE, HAS_BOARD, NO_BOARD, NO_MEMORY, of_fault};
 use crate::handle::Handle;
 use embed::{Budget, Extent, GuestSpec, Session, SessionFault, SlotSpec};
+use sector_cache::are_whole_sectors;
 use std::alloc::{AllocError, Global};
-
-/// The length of a sector in bytes (5.2).
-const SECTOR_LEN: usize = 512;
 
 /// How many bytes of a console's output may wait at most.
 const MOST_WAITING: u32 = 0x100_0000;
@@ -148,7 +146,7 @@ fn session(
     ensures bad_board { (fault : BoardFault) → IsBoardFault (map guest_of slots.now) image.now cache budget fault →
         IsErrAnd result (λ why. (why ≡ SessionFault.Board fault) ⊎ (why ≡ SessionFault.NoMemory)) }
 {
-    if !image.len().is_multiple_of(SECTOR_LEN) {
+    if !are_whole_sectors(image.len() as u64) {
         return Err(SessionFault::BadImage);
     }
     if !are_outlets(slots) {

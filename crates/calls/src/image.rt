@@ -6,7 +6,7 @@ ghost use Rattle.sector_cache.specs.Disk.{new_disk};
 ghost use Rattle.sector_cache.specs.MemoryImage.{disk_of};
 
 use replay::{ReplayFault, gather};
-use sector_cache::{ImageFault, MemoryImage};
+use sector_cache::{ImageFault, MemoryImage, SECTOR_LEN};
 use std::alloc::{AllocError, Allocator};
 use std::io::Read;
 
@@ -20,7 +20,7 @@ pub enum NoImage {
 }
 
 /// The bytes of the image of a call without words: eight sectors.
-const ZERO_BYTES: usize = 8 * 512;
+const ZERO_BYTES: usize = 8 * SECTOR_LEN;
 
 /// An image of eight zero sectors.
 pub fn zero_image<A: Allocator>(alloc: A) -> Result<MemoryImage<A>, ReplayFault>

@@ -5,7 +5,7 @@ use Rattle.std.specs.List.{slice_get}
 use Rattle.std.proofs.lemmas.Bool.Decides.{nat_tests}
 use Rattle.std.proofs.lemmas.List.{map-set, take_all, drop_all}
 use Rattle.std.proofs.lemmas.Option.{slice_get-map, slice_get_within}
-use Rattle.guest_memory.specs.Memory.{Inside, Memory, put, put_at}
+use Rattle.guest_memory.specs.Memory.{Inside, Memory, is_inside, put, put_at}
 use Rattle.guest_memory.proofs.Ranges.{is_inside-tells}
 use Rattle.sector_cache.specs.Disk.{Disk}
 use Rattle.board.specs.declared.event.EventKind.TheVariants.{MemWrite}
@@ -13,7 +13,6 @@ use Rattle.board.specs.declared.reply.Reply.TheVariants.{Done}
 use Rattle.board.specs.Extent.{outside_of}
 use Rattle.board.specs.Image.{bytes_of}
 use Rattle.board.specs.Lending.{put_back}
-use Rattle.board.specs.Machine.{holds}
 use Rattle.board.specs.Slot.{BoardSlot, state_of}
 use Rattle.board.specs.World.{Answers, met_refusal, seen}
 use Rattle.board.proofs.Seats.{extents_of-set, noted_set, step_there}
@@ -35,7 +34,7 @@ answers : (A : Type 0) (slots : List BoardSlot) (disk : Disk) (h : ℕ) (found :
     (seen (slice_set slots h (record found { memory = put found.memory addr bytes })) disk)
 answers A slots disk h found addr bytes here inside =
     let new : BoardSlot = record found { memory = put found.memory addr bytes } in
-    let test : holds found.memory addr (length bytes) ≡ true = (is_inside-tells found.memory addr (length bytes)).1 inside in
+    let test : is_inside found.memory addr (length bytes) ≡ true = (is_inside-tells found.memory addr (length bytes)).1 inside in
     record {
       written = _;
       step =

@@ -6,7 +6,7 @@ use Rattle.std.specs.Option.{option_and_then}
 use Rattle.std.proofs.lemmas.List.{set-get_or, length-map, length-set, get_or-set_same}
 use Rattle.std.proofs.lemmas.Option.{get_or_from_slice_get, slice_get-map, slice_get_within, slice_get_past, slice_get_cases, unwrap_or-slice_get, same_Some}
 use Rattle.std.proofs.lemmas.Bool.Decides.{nat_tests}
-use Rattle.guest_memory.specs.Memory.{Inside, part_of, put}
+use Rattle.guest_memory.specs.Memory.{Inside, is_inside, part_of, put}
 use Rattle.guest_memory.proofs.Ranges.{is_inside-tells}
 use Rattle.chain.specs.declared.budget.Budget.{Budget}
 use Rattle.sector_cache.specs.Disk.{Disk}
@@ -23,7 +23,7 @@ use Rattle.board.specs.declared.reply.Reply.TheVariants.{Done, Bytes, Took, BadS
 use Rattle.board.specs.declared.reply.Record.{Record}
 use Rattle.board.specs.Extent.{outside_of, outside_from}
 use Rattle.board.specs.Image.{Health, bytes_of}
-use Rattle.board.specs.Machine.{holds, record_of, task_at, with_write}
+use Rattle.board.specs.Machine.{record_of, task_at, with_write}
 use Rattle.board.specs.Outcome.{Outcome, replies}
 use Rattle.board.specs.Pausing.{Begins, GoesOn, HasLimit, asked}
 use Rattle.board.specs.Slot.{SlotState, BoardSlot, state_of}
@@ -518,11 +518,11 @@ not_true : (b : Bool) → (b ≡ true → ⊥) → b ≡ false
 not_true true never = absurd (never refl)
 not_true false never = refl
 
-held : (found : BoardSlot) (addr n : ℕ) → Inside found.memory addr n → holds found.memory addr n ≡ true
+held : (found : BoardSlot) (addr n : ℕ) → Inside found.memory addr n → is_inside found.memory addr n ≡ true
 held found addr n inside = (is_inside-tells found.memory addr n).1 inside
 
-not_held : (found : BoardSlot) (addr n : ℕ) → (Inside found.memory addr n → ⊥) → holds found.memory addr n ≡ false
-not_held found addr n outside = not_true (holds found.memory addr n) (λ is. outside ((is_inside-tells found.memory addr n).0 is))
+not_held : (found : BoardSlot) (addr n : ℕ) → (Inside found.memory addr n → ⊥) → is_inside found.memory addr n ≡ false
+not_held found addr n outside = not_true (is_inside found.memory addr n) (λ is. outside ((is_inside-tells found.memory addr n).0 is))
 
 read_at : (A : Type 0) (s : SessionState) (slot addr n : ℕ) (new : List ℕ) (o : Option BoardSlot) → slice_get s.slots slot ≡ o →
     IsSomeAnd o (λ found. Inside found.memory addr n) → IsSomeAnd o (λ found. new ≡ part_of found.memory addr n) →
@@ -558,7 +558,7 @@ refused_at s event (Some found) here given quiet =
     let test : nat_lt event.slot (length s.slots) ≡ true = grind (arith, nat_tests) in
     rw test (unchanged s event BadRange found here refl (λ is. absurd (cc)) (λ is. absurd (cc)) (given found refl) quiet)
 
-outside_of_slot : (o : Option BoardSlot) (addr n : ℕ) → (IsSomeAnd o (λ found. Inside found.memory addr n) → ⊥) → (found : BoardSlot) → o ≡ Some found → holds found.memory addr n ≡ false
+outside_of_slot : (o : Option BoardSlot) (addr n : ℕ) → (IsSomeAnd o (λ found. Inside found.memory addr n) → ⊥) → (found : BoardSlot) → o ≡ Some found → is_inside found.memory addr n ≡ false
 outside_of_slot None addr n outside found is = absurd (cc)
 outside_of_slot (Some slot) addr n outside found is = not_held found addr n (λ inside. outside (rw (same_Some slot found is) inside))
 

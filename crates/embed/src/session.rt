@@ -25,11 +25,9 @@ use crate::guest::GuestSpec;
 use crate::output_queue::OutputQueue;
 use board::{Board, BoardFault, Event, MemoryImage, Refused, Reply, SlotSpec};
 use paced::{Budget, Paced, Response};
+use sector_cache::are_whole_sectors;
 use std::alloc::{AllocError, Allocator, Global};
 use std::marker::Model;
-
-/// The length of a sector in bytes (5.2).
-const SECTOR_LEN: usize = 512;
 
 /// How many bytes of one guest's output may wait at most.
 const MOST_WAITING: u32 = 0x100_0000;
@@ -87,7 +85,7 @@ impl<A: Allocator + Copy> Session<A> {
         ensures bad_board { (fault : BoardFault) → IsBoardFault guests.now image.now cache budget fault →
             IsErrAnd result (λ why. (why ≡ SessionFault.Board fault) ⊎ (why ≡ SessionFault.NoMemory)) }
     {
-        if !image.len().is_multiple_of(SECTOR_LEN) {
+        if !are_whole_sectors(image.len() as u64) {
             return Err(SessionFault::BadImage);
         }
         if !are_outlets(guests) {

@@ -6,7 +6,7 @@ use Rattle.std.specs.List.{slice_get}
 use Rattle.std.specs.Option.{option_map}
 use Rattle.std.proofs.lemmas.List.{set-get_or}
 use Rattle.std.proofs.lemmas.Option.{get_or_from_slice_get, slice_get-map}
-use Rattle.guest_memory.specs.Memory.{Inside, put}
+use Rattle.guest_memory.specs.Memory.{Inside, is_inside, put}
 use Rattle.guest_memory.proofs.Ranges.{is_inside-tells}
 use Rattle.chain.specs.declared.budget.Budget.{Budget}
 use Rattle.sector_cache.specs.Disk.{Disk}
@@ -18,7 +18,7 @@ use Rattle.board.specs.declared.reply.Reply.{Reply}
 use Rattle.board.specs.declared.reply.Reply.TheVariants.{Done, BadRange}
 use Rattle.board.specs.declared.reply.Record.{Record}
 use Rattle.board.specs.Image.{Health, bytes_of}
-use Rattle.board.specs.Machine.{block_irq, console_irq, holds}
+use Rattle.board.specs.Machine.{block_irq, console_irq}
 use Rattle.board.specs.Outcome.{Outcome}
 use Rattle.board.specs.Pausing.{Begins, TakesTurn, asked}
 use Rattle.board.specs.Slot.{BoardSlot, SlotState, state_of}
@@ -69,7 +69,7 @@ answered_turn {A} old new event budget reply state out out' here none answers =
 
 -- and so is one whose range doesn't lie in the memory
 refused_turn : (A : Type 0) (old : World) (h addr : ℕ) (bytes : List ℕ) (budget : Budget) (state : SlotState)
-    → slice_get old.slots h ≡ Some state → holds state.memory addr (length bytes) ≡ false
+    → slice_get old.slots h ≡ Some state → is_inside state.memory addr (length bytes) ≡ false
     → TakesTurn (Begins {A = A} (MemWrite addr bytes) budget) old h (turn.Answered BadRange) (block_irq state) (console_irq state) [] [] old
 refused_turn A old h addr bytes budget state here outside = record {
   output = [];
@@ -113,7 +113,7 @@ module _ (A : Type 0) {I : Type 0} (disk : I → Disk) (old : PacedState I) (boa
       → Responds old.budget (paced_world disk old) (Handle write) (Answered BadRange) [] [] (paced_world disk (record old { board = board }))
   not_written waits fits outside is =
       let found = found_at old.board.slots h fits in
-      let test : holds found.0.memory addr (length bytes) ≡ false = not_true _ (λ held. outside (rw found.1 ((is_inside-tells found.0.memory addr (length bytes)).0 held))) in
+      let test : is_inside found.0.memory addr (length bytes) ≡ false = not_true _ (λ held. outside (rw found.1 ((is_inside-tells found.0.memory addr (length bytes)).0 held))) in
       let state = state_of (bytes_of (disk old.board.image)) found.0 in
       begun disk old board h (turn.Answered BadRange) (block_irq state) (console_irq state) [] [] (Answered BadRange) write (record old { board = board }) refl waits
       (rw is (refused_turn A (world_of disk old.board) h addr bytes old.budget state (seen_at found.0 found.1) test)) refl (same waits)

@@ -6,7 +6,7 @@ use Rattle.std.proofs.lemmas.Option.{slice_get_cases, slice_get-map}
 use Rattle.std.specs.List.{slice_get}
 use Rattle.std.specs.Option.{option_map}
 use Rattle.std.specs.Prelude.{IsSomeAnd, MatchOption, slice_set}
-use Rattle.guest_memory.specs.Memory.{Inside, Memory, put}
+use Rattle.guest_memory.specs.Memory.{Inside, Memory, is_inside, put}
 use Rattle.guest_memory.proofs.Ranges.{is_inside-tells}
 use Rattle.sector_cache.specs.Disk.{Disk}
 use Rattle.board.specs.declared.event.Event.{Event}
@@ -16,7 +16,7 @@ use Rattle.board.specs.declared.reply.Reply.TheVariants.{BadRange, BadSlot, Byte
 use Rattle.board.specs.declared.reply.Record.{Record}
 use Rattle.board.specs.Image.{Tells, bytes_of}
 use Rattle.board.specs.Line.{IsRun}
-use Rattle.board.specs.Machine.{block_irq, console_irq, holds, record_of}
+use Rattle.board.specs.Machine.{block_irq, console_irq, record_of}
 use Rattle.board.specs.Outcome.{replies}
 use Rattle.board.specs.Slot.{BoardSlot, SlotState, state_of}
 use Rattle.board.specs.World.{Answers, BoardState, MissingStep, SlotStep, World, disturbed_of, extents_of, seen, world_of}
@@ -50,8 +50,8 @@ outside_memory : (A : Type 0) (slots : List BoardSlot) (disk : Disk) (h : ℕ) (
     → Answers {A = A} (seen slots disk) (record { slot = h; what = MemWrite addr bytes }) BadRange [] [] (seen slots disk)
 outside_memory A slots disk h found addr bytes here out =
     let state = state_of (bytes_of disk) found in
-    let test : holds found.memory addr (length bytes) ≡ false =
-    elim (cases_Bool (holds found.memory addr (length bytes))) [ inl inside ↦ absurd (out ((is_inside-tells found.memory addr (length bytes)).0 inside)) | inr no' ↦ no' ]
+    let test : is_inside found.memory addr (length bytes) ≡ false =
+    elim (cases_Bool (is_inside found.memory addr (length bytes))) [ inl inside ↦ absurd (out ((is_inside-tells found.memory addr (length bytes)).0 inside)) | inr no' ↦ no' ]
     in
     record {
       written = record_of h (replies state BadRange);
@@ -92,7 +92,7 @@ pub part_read : (A : Type 0) {I : Type 0} (disk : I → Disk) (board : BoardStat
 part_read A disk board slot addr len part it =
     let bytes = bytes_of (disk board.image) in
     let state = state_of bytes it.found in
-    let test : holds it.found.memory addr len ≡ true = (is_inside-tells it.found.memory addr len).1 it.inside in
+    let test : is_inside it.found.memory addr len ≡ true = (is_inside-tells it.found.memory addr len).1 it.inside in
     let is = it.is in
     record {
       answers = λ tells. record {

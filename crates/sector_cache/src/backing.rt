@@ -6,7 +6,7 @@ ghost use Rattle.std.specs.IoError.{error_kind};
 ghost use Rattle.sector_cache.specs.Backing.{Gets, HasSector, LeavesShort, Puts, PutsSector, count_of};
 
 use crate::fault::FileImageFault;
-use crate::sector::SECTOR_BYTES;
+use crate::sector::SECTOR_LEN;
 use std::fs::{File, TryLockError};
 use std::io;
 use std::io::{ErrorKind, Seek, SeekFrom};
@@ -92,16 +92,16 @@ impl BackingFile for File {
 pub(crate) fn read_sector<F: BackingFile>(
     file: &mut F,
     sector: u64,
-    into: &mut [u8; SECTOR_BYTES],
+    into: &mut [u8; SECTOR_LEN],
 ) -> io::Result<()>
     requires { 512 * sector < 2 ^ 64 }
     ensures read { OnOk result (HasSector (F.held file.old) sector into.new) }
     ensures stays { F.held file.new ≡ F.held file.old }
 {
-    let at = sector * SECTOR_BYTES as u64;
+    let at = sector * SECTOR_LEN as u64;
     let mut done = 0;
     for _turn in 0..u64::MAX {
-        if done == SECTOR_BYTES {
+        if done == SECTOR_LEN {
             return Ok(());
         }
         done += moved(file.read_from(at + done as u64, &mut into[done..]))?;
@@ -113,31 +113,27 @@ pub(crate) fn read_sector<F: BackingFile>(
 pub(crate) fn write_sector<F: BackingFile>(
     file: &mut F,
     sector: u64,
-    from: &[u8; SECTOR_BYTES],
+    from: &[u8; SECTOR_LEN],
 ) -> io::Result<()>
     requires { 512 * sector < 2 ^ 64 }
     ensures put { PutsSector sector from.now result (F.held file.old) (F.held file.new) }
     ensures short { LeavesShort sector result (F.held file.old) (F.held file.new) }
 {
-    if file.length()? / SECTOR_BYTES as u64 <= sector {
+    if file.length()? / SECTOR_LEN as u64 <= sector {
         return Err(io::Error::from(ErrorKind::UnexpectedEof));
     }
     write_whole(file, sector, from)
 }
 
 // Writes a sector at its place in a file that has it.
-fn write_whole<F: BackingFile>(
-    file: &mut F,
-    sector: u64,
-    from: &[u8; SECTOR_BYTES],
-) -> io::Result<()>
+fn write_whole<F: BackingFile>(file: &mut F, sector: u64, from: &[u8; SECTOR_LEN]) -> io::Result<()>
     requires { 512 * sector < 2 ^ 64 }
     ensures { PutsSector sector from.now result (F.held file.old) (F.held file.new) }
 {
-    let at = sector * SECTOR_BYTES as u64;
+    let at = sector * SECTOR_LEN as u64;
     let mut done = 0;
     for _turn in 0..u64::MAX {
-        if done == SECTOR_BYTES {
+        if done == SECTOR_LEN {
             return Ok(());
         }
         done += moved(file.write_to(at + done as u64, &from[done..]))?;

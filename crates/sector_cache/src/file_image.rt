@@ -8,7 +8,7 @@ use crate::backing;
 use crate::backing::BackingFile;
 use crate::fault::{FileCall, FileFailure, FileImageFault};
 use crate::image::{Image, ImageError};
-use crate::sector::SECTOR_BYTES;
+use crate::sector::{SECTOR_LEN, are_whole_sectors};
 use std::fs::File;
 use std::io;
 use std::io::ErrorKind;
@@ -48,12 +48,12 @@ impl<F: BackingFile> FileImage<F> {
         let Ok(bytes) = file.length() else {
             return Err(FileImageFault::Io);
         };
-        if !bytes.is_multiple_of(SECTOR_BYTES as u64) {
+        if !are_whole_sectors(bytes) {
             return Err(FileImageFault::BadSize);
         }
         Ok(FileImage {
             file,
-            sectors: bytes / SECTOR_BYTES as u64,
+            sectors: bytes / SECTOR_LEN as u64,
             failures: 0,
             mark: false,
             is_lost: false,

@@ -25,6 +25,7 @@ pub use image::{Image, ImageError};
 pub use laws::memory_images_tell;
 pub use memory::MemoryImage;
 pub use scripted::ScriptedImage;
+pub use sector::{SECTOR_LEN, are_whole_sectors};
 
 #[cfg(test)]
 mod tests;

@@ -25,7 +25,7 @@ impl<A: Allocator> MemoryImage<A> {
         ensures seen { IfOk result (λ image. disk_of image ≡ new_disk bytes.items) }
         ensures bad_size { IsErrOf result ImageFault.BadSize ↔ (length bytes.items % 512 ≢ 0) }
     {
-        if !bytes.len().is_multiple_of(sector::SECTOR_BYTES) {
+        if !sector::are_whole_sectors(bytes.len() as u64) {
             return Err(ImageFault::BadSize);
         }
         Ok(MemoryImage { bytes, mark: false })

@@ -134,7 +134,7 @@ impl<A: Allocator> Image for ScriptedImage<A> {
             (IsHalfWritten sector from.now (disk_of self.old) (disk_of self.new)) }
     {
         if self.next_call_fails() {
-            let mut torn = [0; sector::SECTOR_BYTES];
+            let mut torn = [0; sector::SECTOR_LEN];
             self.memory.read_sector(sector, &mut torn)?;
             sector::copy_half(&mut torn, from);
             self.memory.write_sector(sector, &torn)?;

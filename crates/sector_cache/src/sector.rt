@@ -1,40 +1,47 @@
-//! One sector of a list of bytes, read and written in place.
+//! The length of a sector, and one sector of a list of bytes, read and written in place.
 
-ghost use Rattle.std.specs.Prelude.{◌≡◌, ◌+◌, ◌*◌, ◌≤◌, ◌++◌, length, take, drop, IsSomeAnd};
+ghost use Rattle.std.specs.Prelude.{◌≡◌, ◌↔◌, ◌+◌, ◌*◌, ◌%◌, ◌≤◌, ◌++◌, length, take, drop, IsSomeAnd, IsTrue};
 ghost use Rattle.sector_cache.specs.Sector.{sector_of, with_sector};
 
-/// How many bytes a sector has.
-pub(crate) const SECTOR_BYTES: usize = 512;
+/// The length of a sector in bytes (5.2).
+pub const SECTOR_LEN: usize = 512;
+
+/// Whether so many bytes are whole sectors.
+pub fn are_whole_sectors(bytes: u64) -> bool
+    ensures { IsTrue result ↔ (bytes % 512 ≡ 0) }
+{
+    bytes.is_multiple_of(SECTOR_LEN as u64)
+}
 
 /// One sector where it lies.
-pub(crate) fn lend(bytes: &[u8], sector: u64) -> Option<&[u8; SECTOR_BYTES]>
+pub(crate) fn lend(bytes: &[u8], sector: u64) -> Option<&[u8; SECTOR_LEN]>
     requires { 512 * (sector + 1) ≤ length bytes.now }
     ensures { IsSomeAnd result (λ lent. lent.now ≡ sector_of bytes.now sector) }
 {
-    bytes[sector as usize * SECTOR_BYTES..].first_chunk()
+    bytes[sector as usize * SECTOR_LEN..].first_chunk()
 }
 
 /// Copies one sector out of `bytes`.
-pub(crate) fn copy_from(bytes: &[u8], sector: u64, into: &mut [u8; SECTOR_BYTES])
+pub(crate) fn copy_from(bytes: &[u8], sector: u64, into: &mut [u8; SECTOR_LEN])
     requires { 512 * (sector + 1) ≤ length bytes.now }
     ensures { into.new ≡ sector_of bytes.now sector }
 {
-    let start = sector as usize * SECTOR_BYTES;
-    into.copy_from_slice(&bytes[start..start + SECTOR_BYTES]);
+    let start = sector as usize * SECTOR_LEN;
+    into.copy_from_slice(&bytes[start..start + SECTOR_LEN]);
 }
 
 /// Copies one sector into `bytes`.
-pub(crate) fn copy_into(bytes: &mut [u8], sector: u64, from: &[u8; SECTOR_BYTES])
+pub(crate) fn copy_into(bytes: &mut [u8], sector: u64, from: &[u8; SECTOR_LEN])
     requires { 512 * (sector + 1) ≤ length bytes.old }
     ensures { bytes.new ≡ with_sector bytes.old sector from.now }
 {
-    let start = sector as usize * SECTOR_BYTES;
-    bytes[start..start + SECTOR_BYTES].copy_from_slice(from);
+    let start = sector as usize * SECTOR_LEN;
+    bytes[start..start + SECTOR_LEN].copy_from_slice(from);
 }
 
 /// Copies the first half of one sector over that of another.
-pub(crate) fn copy_half(into: &mut [u8; SECTOR_BYTES], from: &[u8; SECTOR_BYTES])
+pub(crate) fn copy_half(into: &mut [u8; SECTOR_LEN], from: &[u8; SECTOR_LEN])
     ensures { into.new ≡ take 256 from.now ++ drop 256 into.old }
 {
-    into[..SECTOR_BYTES / 2].copy_from_slice(&from[..SECTOR_BYTES / 2]);
+    into[..SECTOR_LEN / 2].copy_from_slice(&from[..SECTOR_LEN / 2]);
 }

@@ -2,10 +2,9 @@
 
 ghost use Rattle.std.specs.Prelude.{◌≡◌, ◌≢◌, ◌<◌, ℕ, List, length};
 ghost use Rattle.std.specs.Bool.{OnTrue, OnFalse};
-ghost use Rattle.guest_memory.specs.Memory.{Inside, put};
+ghost use Rattle.guest_memory.specs.Memory.{Inside, is_inside, put};
 ghost use Rattle.board.specs.declared.event.EventKind.{EventKind};
 ghost use Rattle.board.specs.Image.{Health};
-ghost use Rattle.board.specs.Machine.{holds};
 ghost use Rattle.board.specs.Outcome.{replies};
 ghost use Rattle.board.specs.Slot.{state_of};
 ghost use Rattle.board.specs.World.{MayGive};
@@ -56,7 +55,7 @@ impl<A: Allocator + Copy> Slot<A> {
 impl<A: Allocator> Slot<A> {
     /// Puts bytes into the memory, where all of the range lies in it.
     pub(crate) fn put_bytes(&mut self, addr: u64, new: &[u8]) -> bool
-        ensures test { result ≡ holds self.old.memory addr (length new.now) }
+        ensures test { result ≡ is_inside self.old.memory addr (length new.now) }
         ensures done { OnTrue result
             (self.new ≡ record self.old { memory = put self.old.memory addr new.now }) }
         ensures kept { OnFalse result (self.new ≡ self.old) }

@@ -5,8 +5,8 @@ use Rattle.sector_cache.proofs.backing.read_sector.Goals as goal
 pub loop-turn-init : goal.loop-turn-init
 loop-turn-init g c = (refl, (search rules, (search rules, front_of_none _ _ _ _ refl)))
 
-pub returns-then-done-eq-SECTOR_BYTES-clause-read : goal.returns-then-done-eq-SECTOR_BYTES-clause-read
-returns-then-done-eq-SECTOR_BYTES-clause-read g c =
+pub returns-then-done-eq-SECTOR_LEN-clause-read : goal.returns-then-done-eq-SECTOR_LEN-clause-read
+returns-then-done-eq-SECTOR_LEN-clause-read g c =
     let (stays, (within, (long, front))) = c.loop-turn.invariant in
     got_whole _ _ _ _ _ front (search rules) long refl
 
