@@ -690,8 +690,8 @@ call_of_step s new event reply idle many asks step = step_call_at s new event re
 
 -- what a range that isn't in the memory is answered
 pub refused_whole : {A : Type 0} (s : SessionState) (event : Event A) (inside : Bool) → IsStep s event (if inside then BadRange else BadSlot) s → IsWhole s event (refusing_response (if inside then refusal.BadRange else refusal.BadSlot)) s
-refused_whole s event true step = step
-refused_whole s event false step = step
+refused_whole s _ true step = step
+refused_whole s _ false step = step
 
 pub refused_call : {A : Type 0} (s : SessionState) (event : Event A) (inside : Bool) → IsIdle event.slot s → length s.paused ≡ length s.slots → ((state : SlotState) → asked event.what state ≡ None) → IsStep s event (if inside then BadRange else BadSlot) s
     → IsCall s (Handle event) (refusing_response (if inside then refusal.BadRange else refusal.BadSlot)) s
@@ -702,10 +702,10 @@ refused_call s event false idle many asks step = call_of_step s s event BadSlot 
 
 as_many_paused : {A : Type 0} (budget : Budget) (call : Call A) (o : Option (Option Pause)) (old new : PacedWorld) (response : Response A) (output : List ℕ) (block console : ℕ)
     → paced.ComesTo budget call o old response output block console new → length new.paused ≡ length old.paused
-as_many_paused budget (Handle event) None old new response output block console comes = ap (λ (w : PacedWorld). length w.paused) comes.1.same
+as_many_paused budget (Handle _) None old new response output block console comes = ap (λ (w : PacedWorld). length w.paused) comes.1.same
 as_many_paused budget (GoOn slot) None old new response output block console comes = ap (λ (w : PacedWorld). length w.paused) comes.1.same
-as_many_paused budget (Handle event) (Some None) old new response output block console comes = ap length comes.paused ∙ length-set old.paused event.slot (paused_by comes.turn)
-as_many_paused budget (Handle event) (Some (Some pause)) old new response output block console comes = ap (λ (w : PacedWorld). length w.paused) comes.1.same
+as_many_paused budget (Handle begun) (Some None) old new response output block console comes = ap length comes.paused ∙ length-set old.paused begun.slot (paused_by comes.turn)
+as_many_paused budget (Handle _) (Some (Some pause)) old new response output block console comes = ap (λ (w : PacedWorld). length w.paused) comes.1.same
 as_many_paused budget (GoOn slot) (Some None) old new response output block console comes = ap (λ (w : PacedWorld). length w.paused) comes.1.same
 as_many_paused budget (GoOn slot) (Some (Some pause)) old new response output block console comes = ap length comes.paused ∙ length-set old.paused slot (paused_by comes.turn)
 
