@@ -1,14 +1,12 @@
 -- How a text is cut at its first line feed, and a line at its first space.
-use Rattle.std.proofs.Common.{◌≡◌, ℕ, ◌+◌, ◌<◌, ◌≤◌, Bool, true, false, eqb, List, [], ◌∷◌, ◌++◌, All, Option, Some, None, length, get_or, take, drop, sym, ap, ◌∙◌, arith}
+use Rattle.std.proofs.Common.{◌≡◌, ℕ, ◌+◌, ◌<◌, ◌≤◌, Bool, false, eqb, List, [], ◌∷◌, ◌++◌, All, length, get_or, take, drop, sym, ap, ◌∙◌, arith}
 use Rattle.std.proofs.lemmas.Bool.{eq-eqb, eqb-true, ne_eqb}
 use Rattle.std.proofs.lemmas.List.{take-append-drop, drop_more, get_or-take, length-take}
 use Rattle.std.proofs.lemmas.List.Elements.{All-from_get_or}
 use Rattle.std.proofs.lemmas.List.Splits.{slice_split_at, slice_split_none, length-slice_split}
 use Rattle.std.specs.List.{slice_split}
-use Rattle.std.specs.Option.{is_some, option_copied}
-use Rattle.std.specs.Borrow.{Bor}
 use Rattle.memchr.specs.Find.{NoneBefore, Nowhere, Passes, is_byte as is_one}
-use Rattle.trace.specs.Cuts.{fields_of, fields_left, is_space}
+use Rattle.trace.specs.Cuts.{fields_of, is_space}
 
 -- the test for a byte
 abbrev pub is_byte : ℕ → ℕ → Bool
@@ -36,11 +34,6 @@ pub some_fields : (line : List ℕ) → 0 < length (fields_of line)
 unfolding fields_of
 some_fields line = omega (arith, length-slice_split is_space line)
 
--- where a field follows, there is more than one
-pub no_more : (all : List (List ℕ)) (a : List ℕ) (rest : Option (Bor (List ℕ))) → all ≡ a ∷ fields_left (option_copied rest) → is_some rest ≡ true → length all ≡ 1 → ⊥
-no_more all a None e is h = absurd cc
-no_more all a (Some rest) e is h = omega (arith, ap length e, some_fields rest.now)
-
 -- what a search for a byte found
 none_of : (b : ℕ) (xs : List ℕ) (i : ℕ) → Nowhere (Passes (is_one b) xs) 0 i → (k : ℕ) → k < i → get_or xs k 0 ≡ b → ⊥
 none_of b xs i none k lt e = none k (omega arith) lt (eq-eqb (get_or xs k 0) b e)
@@ -50,8 +43,3 @@ cut_found b xs i h = let high = h.0.high in cut_at b xs i high (none_of b xs i h
 
 pub cut_unfound : (b : ℕ) (xs : List ℕ) → Nowhere (Passes (is_one b) xs) 0 (length xs) → slice_split (is_byte b) xs ≡ xs ∷ []
 cut_unfound b xs none = cut_none b xs (length xs) (omega arith) (none_of b xs (length xs) none)
-
--- a line with a space has more than one field
-pub fields_found : (line : List ℕ) (i : ℕ) → NoneBefore (Passes (is_one 32) line) 0 (length line) i × Passes (is_one 32) line i → 1 < length (fields_of line)
-unfolding fields_of
-fields_found line i h = omega (arith, ap length (cut_found 32 line i h), length-slice_split is_space (drop (i + 1) line))

@@ -1,6 +1,6 @@
 -- The line of a slot, of an event and of the cache: its word, and fields that say what they have to.
 use Rattle.std.proofs.Common.{◌≡◌, ◌≢◌, ◌==◌, ℕ, ◌+◌, ◌*◌, ◌^◌, ◌<◌, Bool, true, false, cond, eqb, if◌then◌else◌, length, List, [], ◌∷◌, get_or, refl, sym, ap, subst, ◌∙◌, arith, MatchBool, inl, inr}
-use Rattle.std.specs.Prelude.{⊤, Option, Some, None, IfSome, IfNone}
+use Rattle.std.specs.Prelude.{⊤}
 use Rattle.mmio_window.specs.declared.device_kind.DeviceKind.{DeviceKind}
 use Rattle.mmio_window.specs.declared.device_kind.DeviceKind.TheVariants.{Block, Console}
 use Rattle.board.specs.declared.event.Event.{Event}
@@ -137,9 +137,6 @@ slot_said : (version : ℕ) (s : SlotSpec) → SlotInRange s → EachSays (shape
 slot_said version s h =
     (number 64 s.base h.base, (number 64 s.len h.len, (number 64 s.extent.start h.start, (number 64 s.extent.count h.count, ((s.read_only, refl), (number 16 s.cols h.cols, (number 16 s.rows h.rows, last_said (version == 2) s h)))))))
 
-pub slot_says : (version : ℕ) (s : SlotSpec) → SlotInRange s → (fault : FaultKind) → AllSay fault (shapes version Slot (slot_rest version s)) (slot_rest version s)
-slot_says version s h = all_say (shapes version Slot (slot_rest version s)) (slot_rest version s) (slot_said version s h)
-
 slot_above : (version : ℕ) (s : SlotSpec) → SlotInRange s → AllAbove 32 (slot_rest version s)
 slot_above version s h =
     (above_num s.base, (above_num s.len, (above_num s.extent.start, (above_num s.extent.count, (above_mode s.read_only, (above_num s.cols, (above_num s.rows, last_above (version == 2) s h)))))))
@@ -227,11 +224,6 @@ entered_what version slot (what.Resize cols rows) lt range fine =
 pub entered_event : {A : Type 0} (version : ℕ) (e : Event A) → IsFine e → EnteredEvent version (event_line e)
 unfolding event_line
 entered_event version e h = entered_what version e.slot e.what h.fits.slot h.fits.what h.printable
-
--- a field that was found to be another word, or none
-pub not_cache : (o : Option Word) (f : List ℕ) → IfSome o (λ w. f ≡ spelled w) → IfNone o ((w : Word) → f ≢ spelled w) → (o ≡ Some Cache → ⊥) → f ≡ spelled Cache → ⊥
-not_cache None f some none other e = none Cache e
-not_cache (Some w) f some none other e = other (ap Some (same_word w Cache (sym some ∙ e)))
 
 -- ---- the fields of a line that was made of them
 

@@ -1,15 +1,18 @@
 -- The first field at fault, found by leaving one field after another.
-use Rattle.std.proofs.Common.{◌≡◌, ◌≢◌, ◌==◌, ◌<◌, ◌-◌, ℕ, suc, MatchBool, List, [], ◌∷◌, ◌++◌, length, take, drop, map, slice_index_or, Option, None, Some, IfSome, refl, sym, ap, subst, ◌∙◌, arith, length-drop}
+use Rattle.std.proofs.Common.{◌≡◌, ◌≢◌, ◌==◌, ◌↔◌, ◌<◌, ◌-◌, ℕ, suc, Bool, true, false, not, IsTrue, MatchBool, List, [], ◌∷◌, ◌++◌, length, take, drop, map, slice_index_or, Option, None, Some, IfSome, refl, sym, ap, subst, ◌∙◌, arith, length-drop}
 use Rattle.std.specs.Borrow.{Bor}
 use Rattle.std.specs.Prelude.{⊤}
-use Rattle.std.proofs.lemmas.Bool.{ne_eqb}
-use Rattle.std.proofs.lemmas.List.{take_all}
+use Rattle.std.specs.Option.{is_some}
+use Rattle.std.proofs.lemmas.Bool.{eq-eqb, ne_eqb}
+use Rattle.std.proofs.lemmas.List.{length-map, take_all}
 use Rattle.trace.specs.declared.fault.FaultKind.{FaultKind}
+use Rattle.trace.specs.declared.fault.FaultKind.TheVariants as kind
+use Rattle.trace.specs.Refusals.{RefusesFields}
 use Rattle.trace.specs.Faults.{AllSay, IsAtFault, fault_of, first_field, order, other_fields}
 use Rattle.trace.specs.declared.table.Field.{Field}
 use Rattle.trace.specs.declared.word.Word.{Word}
 use Rattle.trace.specs.Cuts.{fields_of}
-use Rattle.trace.specs.Words.{Says, Shape, shape_of, shapes, spelled, width_among}
+use Rattle.trace.specs.Words.{AllRight, AreRight, Says, Shape, Num, Offset, Value, Window, Width, Mode, Bytes, Identity, shape_of, shapes, spelled, width_among}
 use Rattle.trace.proofs.Entries.{one_way, same_word}
 use Rattle.trace.proofs.Unique.{same_kind}
 
@@ -111,3 +114,61 @@ module _ (kind : FaultKind) (version : ℕ) (line : List ℕ) (row : List Field)
       let same = row_is w is cut by table said in
       subst (λ (fs : List (List ℕ)). AllSay kind (shapes version w (other_fields line)) fs) same.1
       (subst (λ (ss : List Shape). AllSay kind ss fields) same.0 say)
+
+-- ---- from the checks of the fields to their fault
+
+-- fields after others are checked by themselves
+all_after : (fault : FaultKind) (ss ts : List Shape) (fs gs : List (List ℕ)) → length ss ≡ length fs → AllSay fault (ss ++ ts) (fs ++ gs) → AllSay fault ts gs
+all_after fault [] ts [] gs same h = h
+all_after fault [] ts (f ∷ fs) gs same h = absurd (omega (arith, same))
+all_after fault (s ∷ ss) ts [] gs same h = absurd (omega (arith, same))
+all_after fault (s ∷ ss) ts (f ∷ fs) gs same h = all_after fault ss ts fs gs (omega (arith, same)) h.1
+
+said_here : (kind : FaultKind) (shape : Shape) (field : List ℕ) → fault_of shape ≡ kind → MatchBool (order (fault_of shape) == order kind) (Says shape field) ⊤ → Says shape field
+said_here kind shape field is h =
+    let same : (order (fault_of shape) == order kind) ≡ true = eq-eqb (order (fault_of shape)) (order kind) (ap order is) in
+    rw same at h
+
+-- where one field is at fault, they don't all say a value
+refuses : (kind : FaultKind) (ss : List Shape) (fs : List (List ℕ)) (shape : Shape) (field : List ℕ) → IsAtFault kind ss fs shape field → ¬ AllSay kind ss fs
+refuses kind ss fs shape field at all =
+    let split = subst (λ (xs : List (List ℕ)). AllSay kind (at.before ++ shape ∷ at.after) xs) at.fields_are (subst (λ (xs : List Shape). AllSay kind xs fs) at.shapes_are all) in
+    let here = all_after kind at.before (shape ∷ at.after) at.front (field ∷ at.rest) at.as_many split in
+    at.fails (said_here kind shape field at.of_kind here.0)
+
+pub none_found : (kind : FaultKind) (ss : List Shape) (fs : List (List ℕ)) (width : List ℕ) (found : Option (Field × Bor (List ℕ))) (none : Bool) → is_some found ≡ not none → IfSome found (λ f. IsAtFault kind ss fs (shape_of width f.0) f.1.now) → (is_some found ≡ false → AllSay kind ss fs)
+    → IsTrue none ↔ AllSay kind ss fs
+none_found kind ss fs width None true is some all = (λ e. all refl, λ h. refl)
+none_found kind ss fs width None false is some all = absurd cc
+none_found kind ss fs width (Some f) true is some all = absurd cc
+none_found kind ss fs width (Some f) false is some all = (λ e. absurd cc, λ h. absurd (refuses kind ss fs (shape_of width f.0) f.1.now some h))
+
+one_right : (shape : Shape) (field : List ℕ) → MatchBool (order (fault_of shape) == order kind.Number) (Says shape field) ⊤ → MatchBool (order (fault_of shape) == order kind.Choice) (Says shape field) ⊤ → MatchBool (order (fault_of shape) == order kind.Bytes) (Says shape field) ⊤ → Says shape field
+one_right (Num bits) field n c b = n
+one_right Offset field n c b = n
+one_right (Value width) field n c b = n
+one_right Window field n c b = c
+one_right Width field n c b = c
+one_right Mode field n c b = c
+one_right Bytes field n c b = b
+one_right Identity field n c b = b
+
+-- as many fields, of which each passes each check, are right
+all_right : (ss : List Shape) (fs : List (List ℕ)) → length fs ≡ length ss → AllSay kind.Number ss fs → AllSay kind.Choice ss fs → AllSay kind.Bytes ss fs → AllRight ss fs
+all_right [] [] many n c b = tt
+all_right [] (f ∷ fs) many n c b = absurd (omega (arith, many))
+all_right (s ∷ ss) [] many n c b = absurd (omega (arith, many))
+all_right (s ∷ ss) (f ∷ fs) many n c b = (one_right s f n.0 c.0 b.0, all_right ss fs (omega (arith, many)) n.1 c.1 b.1)
+
+-- the fields after a word, which aren't right
+module _ (version : ℕ) (word : Word) (row : List Field) (width : List ℕ) (fields : List (List ℕ)) (by : width ≡ slice_index_or fields 3 []) (table : (fs : List (List ℕ)) → map (shape_of (width_among fs)) row ≡ shapes version word fs) where
+  shapes_are : map (shape_of width) row ≡ shapes version word fields
+  shapes_are = ap (λ (x : List ℕ). map (shape_of x) row) by ∙ table fields
+
+  all_of : (kind : FaultKind) → AllSay kind (map (shape_of width) row) fields → AllSay kind (shapes version word fields) fields
+  all_of kind h = subst (λ (ss : List Shape). AllSay kind ss fields) shapes_are h
+
+  pub bytes_refused : ¬ AreRight version word fields → length fields ≡ length row → AllSay kind.Number (map (shape_of width) row) fields → AllSay kind.Choice (map (shape_of width) row) fields → RefusesFields version word fields kind.Bytes
+  bytes_refused wrong many numbers choices =
+      let counted : length row ≡ length (shapes version word fields) = sym (rw length-map refl) ∙ ap length shapes_are in
+      (many ∙ counted, all_of kind.Number numbers, all_of kind.Choice choices, λ all. wrong (all_right (shapes version word fields) fields (many ∙ counted) (all_of kind.Number numbers) (all_of kind.Choice choices) all))

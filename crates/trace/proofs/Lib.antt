@@ -7,7 +7,7 @@ pub mod PairSteps
 pub mod Judging
 pub mod Entries
 pub mod Saying
-pub mod Named
+pub mod Taking
 pub mod Clean
 pub mod Faulty
 pub mod Sofar

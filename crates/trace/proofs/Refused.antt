@@ -1,12 +1,12 @@
 -- A line that is refused for its fields is refused.
-use Rattle.std.proofs.Common.{◌≡◌, ℕ, [], ◌∷◌, Bool, true, List, get_or, drop, sym, ap, subst, ◌∙◌}
+use Rattle.std.proofs.Common.{◌≡◌, ◌≢◌, ℕ, [], ◌∷◌, Bool, true, List, get_or, drop, refl, sym, ap, subst, arith}
 use Rattle.trace.specs.declared.fault.FaultKind.{FaultKind}
 use Rattle.trace.specs.declared.fault.FaultKind.TheVariants as kind
 use Rattle.trace.specs.declared.word.Word.{Word}
-use Rattle.trace.specs.declared.word.Word.TheVariants.{Slot}
+use Rattle.trace.specs.declared.word.Word.TheVariants.{Cache, Slot, Read, Write, MemRead, MemWrite, Input, Resize}
 use Rattle.trace.specs.Cuts.{fields_of}
 use Rattle.trace.specs.Faults.{MayStand, other_fields}
-use Rattle.trace.specs.Refusals.{RefusesFields, RefusesFieldsOf, RefusesLine, RefusesAfterWord}
+use Rattle.trace.specs.Refusals.{RefusesFields, RefusesLine, RefusesAfterWord}
 use Rattle.trace.specs.Words.{spelled}
 
 after : (version : ℕ) (begun : Bool) (line : List ℕ) (word : Word) (fault : FaultKind) (fields : List (List ℕ)) → MayStand 3 word → fields_of line ≡ spelled word ∷ fields → (begun ≡ true → word ≡ Slot → ⊥) → RefusesFields version word fields fault → RefusesAfterWord version begun line fault
@@ -31,7 +31,13 @@ refused_after version begun line word kind.Choice fields may is ordered h = afte
 refused_after version begun line word kind.Bytes fields may is ordered h = after version begun line word kind.Bytes fields may is ordered h
 refused_after version begun line word kind.NoMemory fields may is ordered h = absurd h
 
--- the same of a word that was found and has the same fields in each version
-pub refused_event : (version : ℕ) (begun : Bool) (line first : List ℕ) (rest : List (List ℕ)) (found word : Word) (fault : FaultKind) → fields_of line ≡ first ∷ rest → first ≡ spelled found → found ≡ word → MayStand 3 word → (word ≡ Slot → ⊥) → RefusesFieldsOf word rest fault → RefusesLine version begun line fault
-refused_event version begun line first rest found word fault cut some same may other h =
-    refused_after version begun line word fault rest may (cut ∙ ap (λ (f : List ℕ). f ∷ rest) (some ∙ ap spelled same)) (λ _ e. other e) (h version)
+-- a word of the lines after the second
+pub may_stand : (word : Word) → word ≢ Cache → MayStand 3 word
+may_stand Cache other = absurd (other refl)
+may_stand Slot other = omega arith
+may_stand Read other = omega arith
+may_stand Write other = omega arith
+may_stand MemRead other = omega arith
+may_stand MemWrite other = omega arith
+may_stand Input other = omega arith
+may_stand Resize other = omega arith

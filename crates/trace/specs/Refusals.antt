@@ -16,18 +16,12 @@ use Rattle.trace.specs.declared.word.Word.{Word}
 use Rattle.trace.specs.declared.word.Word.TheVariants.{Cache, Slot}
 use Rattle.trace.specs.declared.read.said.Said.{Said}
 use Rattle.trace.specs.Said.{IsFineSaid, said_fields}
-use Rattle.trace.specs.Words.{Value, Width, Says, spelled, shapes}
+use Rattle.trace.specs.Words.{spelled, shapes}
 
 -- an event that its integers admit and that has a line
 pub record IsFine {A : Type 0} (e : Event A) : Type 0 where
   pub fits : EventInRange e
   pub printable : IsPrintableKind e.what
-
--- a width is refused, or the value that is read by it
-abbrev pub RefusesValue : List ℕ → List ℕ → FaultKind → Type 0
-RefusesValue width value kind.Number = ¬ Says (Value width) value
-RefusesValue width value kind.Choice = Says (Value width) value × (¬ Says Width width)
-RefusesValue width value _ = ⊥
 
 -- the fields after a word fail this check, and pass those before it
 abbrev pub RefusesFields : ℕ → Word → List (List ℕ) → FaultKind → Type 0

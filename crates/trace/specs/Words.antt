@@ -1,5 +1,5 @@
 -- The table of a trace's lines: the word that each begins with, and what the fields after it say.
-use Rattle.std.specs.Prelude.{◌≡◌, ℕ, ◌*◌, ◌^◌, ◌<◌, ◌⊎◌, Bool, List, [], ◌∷◌, codes, length, slice_index_or, ◌%◌, All}
+use Rattle.std.specs.Prelude.{◌≡◌, ℕ, ◌*◌, ◌^◌, ◌<◌, ◌⊎◌, ⊤, Bool, List, [], ◌∷◌, codes, length, slice_index_or, ◌%◌, All}
 use Rattle.mmio_window.specs.declared.device_kind.DeviceKind.{DeviceKind}
 use Rattle.trace.specs.declared.table.Field.{Field}
 use Rattle.trace.specs.declared.table.Field.TheVariants as field
@@ -94,6 +94,17 @@ shapes version MemRead fields = Num 8 ∷ Num 64 ∷ Num 32 ∷ []
 shapes version MemWrite fields = Num 8 ∷ Num 64 ∷ Bytes ∷ []
 shapes version Input fields = Num 8 ∷ Bytes ∷ []
 shapes version Resize fields = Num 8 ∷ Num 16 ∷ Num 16 ∷ []
+
+-- the fields are as many as the shapes, and each says a value of its own
+abbrev pub AllRight : List Shape → List (List ℕ) → Type 0
+AllRight [] [] = ⊤
+AllRight [] (field ∷ fields) = ⊥
+AllRight (shape ∷ more) [] = ⊥
+AllRight (shape ∷ more) (field ∷ fields) = Says shape field × AllRight more fields
+
+-- the fields are those that a word has in a version
+abbrev pub AreRight : ℕ → Word → List (List ℕ) → Type 0
+AreRight version word fields = AllRight (shapes version word fields) fields
 
 -- of the fields of a line, the one by which a value is read
 abbrev pub width_among : List (List ℕ) → List ℕ

@@ -1,9 +1,9 @@
 //! Reading a whole trace.
 //!
 //! `cut` takes lines and fields off, `entry` and `fields` read one line, `frequent` those that come most often, and
-//! `number`, `choice`, `value` and `bytes` one field. `said` is the event that a line says, before anything owns it.
+//! `number`, `choice` and `bytes` one field. `said` is the event that a line says, before anything owns it.
 //! `judging` goes over a whole text and keeps what stands before its events, `events` takes these one by one, and
-//! `at_fault` finds which field of a line is at fault.
+//! `at_fault` finds the fault of a line, and its field.
 
 ghost use Rattle.std.specs.Prelude.{◌≡◌, ◌≢◌, ◌≤◌, IfOk, IfErr, OnOk};
 ghost use Rattle.trace.specs.Faults.{IsFault, IsCleanBefore};
@@ -25,22 +25,22 @@ mod frequent;
 mod judging;
 mod number;
 mod said;
-mod value;
 
 use crate::fault::{FaultKind, TraceFault};
+use crate::read::at_fault::fault_in;
 pub use crate::read::at_fault::{field_at_fault, first_word};
 pub use crate::read::bytes::{read_bytes, spelled_len};
 pub use crate::read::cut::line_of;
-use crate::read::cut::{one, take_field, take_line};
+use crate::read::cut::{take_field, take_line};
 use crate::read::entry::{Entry, entry_of};
 pub use crate::read::event_line::event_of_line;
 pub use crate::read::events::take_event;
+use crate::read::fields::sectors_of;
 pub use crate::read::judging::{Judged, judge};
-use crate::read::number::number_u32;
 pub use crate::read::said::{Said, What};
 use crate::trace::Trace;
-use crate::version::version_of;
-use crate::word::is_cache;
+use crate::version::{VERSION_1, version_of};
+use crate::word::{Word, is_cache};
 use board::Event;
 use std::alloc::{AllocError, Allocator};
 
@@ -70,13 +70,10 @@ pub(crate) fn cache_of(rest: &[u8]) -> Result<(u32, &[u8]), FaultKind>
     if !is_cache(first) {
         return Err(FaultKind::Word);
     }
-    let Some(sectors) = one(others) else {
-        return Err(FaultKind::Fields);
-    };
-    let Some(cache) = number_u32(sectors) else {
-        return Err(FaultKind::Number);
-    };
-    Ok((cache, after))
+    match sectors_of(others) {
+        Some(cache) => Ok((cache, after)),
+        None => Err(fault_in(VERSION_1, Word::Cache, others)),
+    }
 }
 
 /// The trace whose text this is. A `line` beside a fault is numbered from 1.

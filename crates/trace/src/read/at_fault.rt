@@ -1,18 +1,18 @@
-//! Which field of a line is at fault.
+//! Which field of a line is at fault, over the table of its fields.
 
-ghost use Rattle.std.specs.Prelude.{◌≡◌, ◌≢◌, ◌↔◌, [], ℕ, List, IsTrue, IfSome, IsNone, map, slice_index_or};
+ghost use Rattle.std.specs.Prelude.{◌≡◌, ◌≢◌, ◌↔◌, [], ℕ, List, IsTrue, IfSome, IsNone, length, map, slice_index_or};
 ghost use Rattle.std.specs.Option.{option_copied};
 ghost use Rattle.trace.specs.Cuts.{fields_left};
 ghost use Rattle.trace.specs.Faults.{AllSay, IsAtFault, fault_of, first_field, other_fields};
-ghost use Rattle.trace.specs.Words.{Says, shape_of, shapes, spelled, width_among};
+ghost use Rattle.trace.specs.Refusals.{RefusesFields};
+ghost use Rattle.trace.specs.Words.{AreRight, Says, Value, shape_of, shapes, spelled, width_among};
 ghost use Rattle.trace.specs.declared.word.Word.{Word};
 
 use crate::fault::FaultKind;
 use crate::read::bytes::{are_bytes, identity_of};
 use crate::read::choice::{mode_of, width_of, window_of};
 use crate::read::cut::take_field;
-use crate::read::number::{number, number_u8, number_u16, number_u32, offset_of};
-use crate::read::value::width_and_value;
+use crate::read::number::{fixed_number, number, number_u8, number_u16, number_u32, offset_of};
 use crate::table::{Field, fields_after};
 use crate::word::{Word, word_of};
 
@@ -49,6 +49,45 @@ fn nth_field(rest: Option<&[u8]>, n: usize) -> &[u8]
         return field;
     }
     nth_field(rest, n - 1)
+}
+
+/// The fault of the fields that are left after a word, in a version.
+pub(crate) fn fault_in(version: u8, word: Word, rest: Option<&[u8]>) -> FaultKind
+    requires { ¬ AreRight version word (fields_left (option_copied rest)) }
+    ensures { RefusesFields version word (fields_left (option_copied rest.entry)) result }
+{
+    let fields = fields_after(version, word);
+    let width = nth_field(rest, 3);
+    if !are_as_many(fields, rest) {
+        FaultKind::Fields
+    } else if !all_say(fields, rest, width, FaultKind::Number) {
+        FaultKind::Number
+    } else if !all_say(fields, rest, width, FaultKind::Choice) {
+        FaultKind::Choice
+    } else {
+        FaultKind::Bytes
+    }
+}
+
+// Whether the fields that are left are as many as these.
+fn are_as_many(fields: &[Field], rest: Option<&[u8]>) -> bool
+    ensures { IsTrue result ↔ (length (fields_left (option_copied rest.entry)) ≡ length fields.now) }
+{
+    let Some(line) = rest else {
+        return fields.is_empty();
+    };
+    let [_, others @ ..] = fields else {
+        return false;
+    };
+    let (_, rest) = take_field(line);
+    are_as_many(others, rest)
+}
+
+// Whether each of the fields that are left whose fault is of this kind says a value.
+fn all_say(fields: &[Field], rest: Option<&[u8]>, width: &[u8], kind: FaultKind) -> bool
+    ensures { IsTrue result ↔ AllSay kind (map (shape_of width.now) fields.now) (fields_left (option_copied rest.entry)) }
+{
+    first_at_fault(fields, rest, width, kind).is_none()
 }
 
 // The first of the fields that are left that has a fault of this kind. A value is read by this width.
@@ -94,11 +133,21 @@ fn says(field: Field, width: &[u8], bytes: &[u8]) -> bool
         Field::Columns | Field::Rows => number_u16(bytes).is_some(),
         Field::Slot => number_u8(bytes).is_some(),
         Field::Offset => offset_of(bytes).is_some(),
-        Field::Value => !matches!(width_and_value(width, bytes), Err(FaultKind::Number)),
+        Field::Value => is_value(width, bytes),
         Field::Window => window_of(bytes).is_some(),
         Field::Width => width_of(bytes).is_some(),
         Field::Mode => mode_of(bytes).is_some(),
         Field::Bytes => are_bytes(bytes),
         Field::Identity => identity_of(bytes).is_some(),
+    }
+}
+
+// Whether bytes are a value of a width. Where there is no such width, they may be one.
+fn is_value(width: &[u8], bytes: &[u8]) -> bool
+    ensures { IsTrue result ↔ Says (Value width.now) bytes.now }
+{
+    match width_of(width) {
+        Some(width) => fixed_number(bytes, 2 * width as usize).is_some(),
+        None => true,
     }
 }

@@ -1,209 +1,217 @@
-//! Reading the fields of one line, once its word is known.
+//! Reading the fields of one line, once its word is known, from left to right.
 //!
-//! The numbers are looked at, then the choices, then the bytes, each from left to right, so that the fault
-//! that is answered is the first in the order of the checks.
+//! Where a field says no value the answer is `None`; `at_fault` then finds the fault.
 
-ghost use Rattle.std.specs.Prelude.{◌≡◌, ◌∷◌, [], IfOk, IfErr};
+ghost use Rattle.std.specs.Prelude.{◌≡◌, ◌≢◌, ◌<◌, ◌^◌, ◌∷◌, [], ℕ, All, IfSome, IfNone};
+ghost use Rattle.std.specs.Option.{option_copied};
+ghost use Rattle.trace.specs.Cuts.{fields_left};
+ghost use Rattle.trace.specs.Refusals.{IsFineSlot};
 ghost use Rattle.trace.specs.Said.{IsFineSaid, said_fields};
-ghost use Rattle.trace.specs.Text.{slot_fields};
-ghost use Rattle.trace.specs.Words.{spelled};
-ghost use Rattle.trace.specs.Refusals.{RefusesFields, RefusesFieldsOf, IsFineSlot};
+ghost use Rattle.trace.specs.Spelling.{bytes as bytes_field};
+ghost use Rattle.trace.specs.Text.{cache_fields, slot_fields};
+ghost use Rattle.trace.specs.Version.{IsVersion, identity_in_version_1, in_version_2};
+ghost use Rattle.trace.specs.Words.{AllRight, AreRight, Identity, spelled};
 
-use crate::fault::FaultKind;
-use crate::read::bytes::are_bytes;
+use crate::read::bytes::{are_bytes, identity_of};
 use crate::read::choice::{mode_of, width_of, window_of};
-use crate::read::number::{number, number_u8, number_u16, number_u32, offset_of};
+use crate::read::cut::{at_end, take_field};
+use crate::read::number::{fixed_number, number, number_u8, number_u16, number_u32, offset_of};
 use crate::read::said::{Said, What};
-use crate::read::value::width_and_value;
-use crate::version::identity_in_version_1;
+use crate::version::{VERSION_1, identity_in_version_1};
 use crate::word::Word;
 use board::{Extent, SlotSpec};
 
-/// A read of a register: slot, window, offset and width.
-pub(crate) fn read_of(
-    slot: &[u8],
-    window: &[u8],
-    offset: &[u8],
-    width: &[u8],
-) -> Result<Said<'static>, FaultKind>
-    ensures ok { IfOk result (λ e. said_fields e ≡ spelled Word.Read ∷ slot.now ∷ window.now ∷ offset.now ∷ width.now ∷ []) }
-    ensures fine { IfOk result IsFineSaid }
-    ensures err { IfErr result (λ fault. RefusesFieldsOf Word.Read (slot.now ∷ window.now ∷ offset.now ∷ width.now ∷ []) fault) }
+/// The capacity of the cache that the fields after its word say.
+pub(crate) fn sectors_of(rest: Option<&[u8]>) -> Option<u32>
+    ensures fields { IfSome result (λ sectors. cache_fields sectors ≡ spelled Word.Cache ∷ fields_left (option_copied rest.entry)) }
+    ensures none { IfNone result ((version : ℕ) → ¬ AreRight version Word.Cache (fields_left (option_copied rest.entry))) }
 {
-    let Some(slot) = number_u8(slot) else {
-        return Err(FaultKind::Number);
-    };
-    let Some(offset) = offset_of(offset) else {
-        return Err(FaultKind::Number);
-    };
-    let Some(window) = window_of(window) else {
-        return Err(FaultKind::Choice);
-    };
-    let Some(width) = width_of(width) else {
-        return Err(FaultKind::Choice);
-    };
+    let (field, rest) = take_field(rest?);
+    let sectors = number_u32(field)?;
+    at_end(rest)?;
+    Some(sectors)
+}
+
+/// The event that the fields after a word say.
+pub(crate) fn event_of(word: Word, rest: Option<&[u8]>) -> Option<Said<'_>>
+    requires not_cache { word ≢ Word.Cache }
+    requires not_slot { word ≢ Word.Slot }
+    ensures fields { IfSome result (λ e. said_fields e ≡ spelled word ∷ fields_left (option_copied rest.entry)) }
+    ensures fine { IfSome result IsFineSaid }
+    ensures none { IfNone result ((version : ℕ) → ¬ AreRight version word (fields_left (option_copied rest.entry))) }
+{
+    match word {
+        Word::Read => read_of(rest),
+        Word::Write => write_of(rest),
+        Word::MemRead => mem_read_of(rest),
+        Word::MemWrite => mem_write_of(rest),
+        Word::Input => input_of(rest),
+        Word::Resize => resize_of(rest),
+        Word::Cache | Word::Slot => unreachable!(),
+    }
+}
+
+fn read_of(rest: Option<&[u8]>) -> Option<Said<'_>>
+    ensures fields { IfSome result (λ e. said_fields e ≡ spelled Word.Read ∷ fields_left (option_copied rest.entry)) }
+    ensures fine { IfSome result IsFineSaid }
+    ensures none { IfNone result ((version : ℕ) → ¬ AreRight version Word.Read (fields_left (option_copied rest.entry))) }
+{
+    let (field, rest) = take_field(rest?);
+    let slot = number_u8(field)?;
+    let (field, rest) = take_field(rest?);
+    let window = window_of(field)?;
+    let (field, rest) = take_field(rest?);
+    let offset = offset_of(field)?;
+    let (field, rest) = take_field(rest?);
+    let width = width_of(field)?;
+    at_end(rest)?;
     let what = What::Read {
         window,
         offset,
         width,
     };
-    Ok(Said { slot, what })
+    Some(Said { slot, what })
 }
 
-/// A write of a register: slot, window, offset, width and value.
-pub(crate) fn write_of(
-    slot: &[u8],
-    window: &[u8],
-    offset: &[u8],
-    width: &[u8],
-    value: &[u8],
-) -> Result<Said<'static>, FaultKind>
-    ensures ok { IfOk result (λ e. said_fields e ≡ spelled Word.Write ∷ slot.now ∷ window.now ∷ offset.now ∷ width.now ∷ value.now ∷ []) }
-    ensures fine { IfOk result IsFineSaid }
-    ensures err { IfErr result (λ fault. RefusesFieldsOf Word.Write (slot.now ∷ window.now ∷ offset.now ∷ width.now ∷ value.now ∷ []) fault) }
+fn write_of(rest: Option<&[u8]>) -> Option<Said<'_>>
+    ensures fields { IfSome result (λ e. said_fields e ≡ spelled Word.Write ∷ fields_left (option_copied rest.entry)) }
+    ensures fine { IfSome result IsFineSaid }
+    ensures none { IfNone result ((version : ℕ) → ¬ AreRight version Word.Write (fields_left (option_copied rest.entry))) }
 {
-    let Some(slot) = number_u8(slot) else {
-        return Err(FaultKind::Number);
-    };
-    let Some(offset) = offset_of(offset) else {
-        return Err(FaultKind::Number);
-    };
-    let (width, value) = match width_and_value(width, value) {
-        Ok(found) => found,
-        Err(fault) => return Err(fault),
-    };
-    let Some(window) = window_of(window) else {
-        return Err(FaultKind::Choice);
-    };
+    let (field, rest) = take_field(rest?);
+    let slot = number_u8(field)?;
+    let (field, rest) = take_field(rest?);
+    let window = window_of(field)?;
+    let (field, rest) = take_field(rest?);
+    let offset = offset_of(field)?;
+    let (field, rest) = take_field(rest?);
+    let width = width_of(field)?;
+    let (field, rest) = take_field(rest?);
+    let value = fixed_number(field, 2 * width as usize)?;
+    at_end(rest)?;
     let what = What::Write {
         window,
         offset,
         width,
         value,
     };
-    Ok(Said { slot, what })
+    Some(Said { slot, what })
 }
 
-/// A read of memory: slot, address and length.
-pub(crate) fn mem_read_of(slot: &[u8], addr: &[u8], len: &[u8]) -> Result<Said<'static>, FaultKind>
-    ensures ok { IfOk result (λ e. said_fields e ≡ spelled Word.MemRead ∷ slot.now ∷ addr.now ∷ len.now ∷ []) }
-    ensures fine { IfOk result IsFineSaid }
-    ensures err { IfErr result (λ fault. RefusesFieldsOf Word.MemRead (slot.now ∷ addr.now ∷ len.now ∷ []) fault) }
+fn mem_read_of(rest: Option<&[u8]>) -> Option<Said<'_>>
+    ensures fields { IfSome result (λ e. said_fields e ≡ spelled Word.MemRead ∷ fields_left (option_copied rest.entry)) }
+    ensures fine { IfSome result IsFineSaid }
+    ensures none { IfNone result ((version : ℕ) → ¬ AreRight version Word.MemRead (fields_left (option_copied rest.entry))) }
 {
-    let Some(slot) = number_u8(slot) else {
-        return Err(FaultKind::Number);
-    };
-    let Some(addr) = number(addr) else {
-        return Err(FaultKind::Number);
-    };
-    let Some(len) = number_u32(len) else {
-        return Err(FaultKind::Number);
-    };
+    let (field, rest) = take_field(rest?);
+    let slot = number_u8(field)?;
+    let (field, rest) = take_field(rest?);
+    let addr = number(field)?;
+    let (field, rest) = take_field(rest?);
+    let len = number_u32(field)?;
+    at_end(rest)?;
     let what = What::MemRead { addr, len };
-    Ok(Said { slot, what })
+    Some(Said { slot, what })
 }
 
-/// A write of memory: slot, address and bytes.
-pub(crate) fn mem_write_of<'a>(
-    slot: &[u8],
-    addr: &[u8],
-    bytes: &'a [u8],
-) -> Result<Said<'a>, FaultKind>
-    ensures ok { IfOk result (λ e. said_fields e ≡ spelled Word.MemWrite ∷ slot.now ∷ addr.now ∷ bytes.now ∷ []) }
-    ensures fine { IfOk result IsFineSaid }
-    ensures err { IfErr result (λ fault. RefusesFieldsOf Word.MemWrite (slot.now ∷ addr.now ∷ bytes.now ∷ []) fault) }
+fn mem_write_of(rest: Option<&[u8]>) -> Option<Said<'_>>
+    ensures fields { IfSome result (λ e. said_fields e ≡ spelled Word.MemWrite ∷ fields_left (option_copied rest.entry)) }
+    ensures fine { IfSome result IsFineSaid }
+    ensures none { IfNone result ((version : ℕ) → ¬ AreRight version Word.MemWrite (fields_left (option_copied rest.entry))) }
 {
-    let Some(slot) = number_u8(slot) else {
-        return Err(FaultKind::Number);
-    };
-    let Some(addr) = number(addr) else {
-        return Err(FaultKind::Number);
-    };
+    let (field, rest) = take_field(rest?);
+    let slot = number_u8(field)?;
+    let (field, rest) = take_field(rest?);
+    let addr = number(field)?;
+    let (bytes, rest) = take_field(rest?);
+    at_end(rest)?;
     if !are_bytes(bytes) {
-        return Err(FaultKind::Bytes);
+        return None;
     }
     let what = What::MemWrite { addr, bytes };
-    Ok(Said { slot, what })
+    Some(Said { slot, what })
 }
 
-/// Console input: slot and bytes.
-pub(crate) fn input_of<'a>(slot: &[u8], bytes: &'a [u8]) -> Result<Said<'a>, FaultKind>
-    ensures ok { IfOk result (λ e. said_fields e ≡ spelled Word.Input ∷ slot.now ∷ bytes.now ∷ []) }
-    ensures fine { IfOk result IsFineSaid }
-    ensures err { IfErr result (λ fault. RefusesFieldsOf Word.Input (slot.now ∷ bytes.now ∷ []) fault) }
+fn input_of(rest: Option<&[u8]>) -> Option<Said<'_>>
+    ensures fields { IfSome result (λ e. said_fields e ≡ spelled Word.Input ∷ fields_left (option_copied rest.entry)) }
+    ensures fine { IfSome result IsFineSaid }
+    ensures none { IfNone result ((version : ℕ) → ¬ AreRight version Word.Input (fields_left (option_copied rest.entry))) }
 {
-    let Some(slot) = number_u8(slot) else {
-        return Err(FaultKind::Number);
-    };
+    let (field, rest) = take_field(rest?);
+    let slot = number_u8(field)?;
+    let (bytes, rest) = take_field(rest?);
+    at_end(rest)?;
     if !are_bytes(bytes) {
-        return Err(FaultKind::Bytes);
+        return None;
     }
     let what = What::Input { bytes };
-    Ok(Said { slot, what })
+    Some(Said { slot, what })
 }
 
-/// A new size of the console: slot, columns and rows.
-pub(crate) fn resize_of(slot: &[u8], cols: &[u8], rows: &[u8]) -> Result<Said<'static>, FaultKind>
-    ensures ok { IfOk result (λ e. said_fields e ≡ spelled Word.Resize ∷ slot.now ∷ cols.now ∷ rows.now ∷ []) }
-    ensures fine { IfOk result IsFineSaid }
-    ensures err { IfErr result (λ fault. RefusesFieldsOf Word.Resize (slot.now ∷ cols.now ∷ rows.now ∷ []) fault) }
+fn resize_of(rest: Option<&[u8]>) -> Option<Said<'_>>
+    ensures fields { IfSome result (λ e. said_fields e ≡ spelled Word.Resize ∷ fields_left (option_copied rest.entry)) }
+    ensures fine { IfSome result IsFineSaid }
+    ensures none { IfNone result ((version : ℕ) → ¬ AreRight version Word.Resize (fields_left (option_copied rest.entry))) }
 {
-    let Some(slot) = number_u8(slot) else {
-        return Err(FaultKind::Number);
-    };
-    let Some(cols) = number_u16(cols) else {
-        return Err(FaultKind::Number);
-    };
-    let Some(rows) = number_u16(rows) else {
-        return Err(FaultKind::Number);
-    };
+    let (field, rest) = take_field(rest?);
+    let slot = number_u8(field)?;
+    let (field, rest) = take_field(rest?);
+    let cols = number_u16(field)?;
+    let (field, rest) = take_field(rest?);
+    let rows = number_u16(field)?;
+    at_end(rest)?;
     let what = What::Resize { cols, rows };
-    Ok(Said { slot, what })
+    Some(Said { slot, what })
 }
 
-/// A slot of version 1: its memory, its extent, its mode and its console's size.
-pub(crate) fn slot_of(
-    base: &[u8],
-    len: &[u8],
-    start: &[u8],
-    count: &[u8],
-    mode: &[u8],
-    cols: &[u8],
-    rows: &[u8],
-) -> Result<SlotSpec, FaultKind>
-    ensures ok { IfOk result (λ s. slot_fields 1 s ≡ spelled Word.Slot ∷ base.now ∷ len.now ∷ start.now ∷ count.now ∷ mode.now ∷ cols.now ∷ rows.now ∷ []) }
-    ensures fine { IfOk result (IsFineSlot 1) }
-    ensures err { IfErr result (λ fault. RefusesFields 1 Word.Slot (base.now ∷ len.now ∷ start.now ∷ count.now ∷ mode.now ∷ cols.now ∷ rows.now ∷ []) fault) }
+/// The slot that the fields after its word say in a version.
+pub(crate) fn slot_of(version: u8, rest: Option<&[u8]>) -> Option<SlotSpec>
+    requires { IsVersion version }
+    ensures fields { IfSome result (λ s. slot_fields version s ≡ spelled Word.Slot ∷ fields_left (option_copied rest.entry)) }
+    ensures fine { IfSome result (IsFineSlot version) }
+    ensures none { IfNone result (¬ AreRight version Word.Slot (fields_left (option_copied rest.entry))) }
 {
-    let Some(base) = number(base) else {
-        return Err(FaultKind::Number);
-    };
-    let Some(len) = number(len) else {
-        return Err(FaultKind::Number);
-    };
-    let Some(start) = number(start) else {
-        return Err(FaultKind::Number);
-    };
-    let Some(count) = number(count) else {
-        return Err(FaultKind::Number);
-    };
-    let Some(cols) = number_u16(cols) else {
-        return Err(FaultKind::Number);
-    };
-    let Some(rows) = number_u16(rows) else {
-        return Err(FaultKind::Number);
-    };
-    let Some(read_only) = mode_of(mode) else {
-        return Err(FaultKind::Choice);
-    };
+    let (field, rest) = take_field(rest?);
+    let base = number(field)?;
+    let (field, rest) = take_field(rest?);
+    let len = number(field)?;
+    let (field, rest) = take_field(rest?);
+    let start = number(field)?;
+    let (field, rest) = take_field(rest?);
+    let count = number(field)?;
+    let (field, rest) = take_field(rest?);
+    let read_only = mode_of(field)?;
+    let (field, rest) = take_field(rest?);
+    let cols = number_u16(field)?;
+    let (field, rest) = take_field(rest?);
+    let rows = number_u16(field)?;
+    let identity = last_identity(version, rest)?;
     let extent = Extent { start, count };
-    Ok(SlotSpec {
+    Some(SlotSpec {
         base,
         len,
         extent,
         read_only,
         cols,
         rows,
-        identity: identity_in_version_1(),
+        identity,
     })
+}
+
+// The identity that the last field of a slot spells in version 2, and that of a slot whose line has ended in version 1.
+fn last_identity(version: u8, rest: Option<&[u8]>) -> Option<[u8; 20]>
+    requires { IsVersion version }
+    ensures last { IfSome result (λ bs. in_version_2 version (bytes_field bs ∷ []) ≡ fields_left (option_copied rest.entry)) }
+    ensures range { IfSome result (λ bs. All (λ b. b < 2 ^ 8) bs) }
+    ensures left_out { IfSome result (λ bs. version ≡ 1 → bs ≡ identity_in_version_1) }
+    ensures none { IfNone result (¬ AllRight (in_version_2 version (Identity ∷ [])) (fields_left (option_copied rest.entry))) }
+{
+    if version == VERSION_1 {
+        at_end(rest)?;
+        return Some(identity_in_version_1());
+    }
+    let (field, rest) = take_field(rest?);
+    let identity = identity_of(field)?;
+    at_end(rest)?;
+    Some(identity)
 }
