@@ -196,7 +196,7 @@ function ring(st,key,e,took,q){
     });
     heads.className="heads";box.append(heads,links);
   }
-  box.append(chains,table);
+  if(rows.length)box.append(chains,table);
   if(used.length){
     const done=titled("used");done.className="done";
     for(const [i,v] of used){const tr=el("tr",isNew(v));tr.append(el("td","",i),el("td","",v.line.slice(v.line.indexOf(":")+2)));done.append(tr)}

@@ -91,9 +91,7 @@ impl<I: Image + Drop, A: Allocator + Copy> Watcher<I, A> {
         head.count(line);
         head.say(" guest ");
         head.count(u64::from(slot));
-        head.say(" ");
         say_place(head, &event.what);
-        head.say(": ");
         say_event(head, &event.what);
         let Some(words) = self.board.interrupts(slot) else {
             head.say(" -> no such guest");

@@ -69,7 +69,7 @@ impl<W: Write + Drop, A: Allocator> Woven<W, A> {
             self.is_full = true;
             return Err(io::Error::from(ErrorKind::OutOfMemory));
         }
-        if self.is_inside || has_tab(said.bytes()) {
+        if self.is_inside || said.bytes().is_empty() || has_tab(said.bytes()) {
             return Ok(());
         }
         self.append(said.bytes())
