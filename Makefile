@@ -28,7 +28,7 @@ show: vshow
 
 # Proves and builds vshow.
 vshow:
-	@cd crates/show && mkdir -p out && rt run > out/run.log 2>&1 || { tail -20 out/run.log >&2; exit 1; }
+	@cd crates/show && mkdir -p out && rt run -- ../../examples/broken-driver.trace > out/run.log 2>&1 || { tail -20 out/run.log >&2; exit 1; }
 	@cp crates/show/out/show crates/show/out/vshow
 
 # Opens pages of vshow in a headless Chromium, and compares what they show with the text; it wants chromium and python3.
@@ -39,8 +39,10 @@ look-test: vshow
 look-picture: look-test
 	@cp crates/show/look/out/broken-driver.png examples/broken-driver.png
 
-# Compares what vshow says with records, over every scenario and N traces of the fuzzer from the seed FROM on.
+# Compares what vshow says with records, over every scenario and N traces of the fuzzer from the seed FROM on. Before that it
+# tries each rule on a driver's mistakes, over a trace that breaks it and one near it that doesn't.
 show-check: vshow
+	@crates/show/look/rules crates/show/out/vshow
 	@crates/show/look/check --fuzz $(N) --from $(FROM) crates/show/out/vshow
 
 # The gate: every proof from nothing, the must-fail edits, the tests and the programs.

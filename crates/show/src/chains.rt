@@ -3,6 +3,8 @@
 ghost use Rattle.std.specs.Prelude.{IfSome, All};
 ghost use Rattle.chain.specs.Buffers.{Good};
 
+use crate::chain_mistakes::chain_mistake;
+use crate::mistakes::Mistake;
 use crate::request::{RequestSeen, request_seen};
 use crate::text::Text;
 use block_device::BlockDevice;
@@ -17,11 +19,11 @@ use std::alloc::Allocator;
 /// What stands before a service at its ring's place.
 #[derive(Clone, Copy, Debug, PartialEq, Eq)]
 pub enum Ahead {
-    /// A chain, by its head or its buffer id, and what it asks of a block device.
+    /// A chain at a place, what it asks of a block device, and what it has that the standard forbids a driver.
     Chain {
         place: u16,
-        head: u16,
         request: Option<RequestSeen>,
+        mistake: Option<Mistake>,
     },
     /// What can't be served.
     Fault(Fault),
@@ -29,10 +31,12 @@ pub enum Ahead {
     Nothing,
 }
 
-/// Asks a copy of the ring what a service takes next, which opens where `opens`. The chain is left in `chain`, and said.
+/// Asks a copy of the ring, whose queue has this size, what a service takes next, which opens where `opens`. The chain is
+/// left in `chain`, and said.
 pub fn look_ahead<A: Allocator, T: Allocator>(
     mem: &GuestMemory<A>,
     queue: &Queue,
+    size: u16,
     device: Option<&BlockDevice>,
     opens: bool,
     chain: &mut Chain,
@@ -55,11 +59,11 @@ pub fn look_ahead<A: Allocator, T: Allocator>(
                 None => None,
             };
             say_chain(text, mem, queue, &token, chain);
-            let (place, head) = parts_of(&token);
+            let (place, _) = parts_of(&token);
             Ahead::Chain {
                 place,
-                head,
                 request,
+                mistake: chain_mistake(mem, queue, size, &token, chain),
             }
         }
         Ok(None) => Ahead::Nothing,

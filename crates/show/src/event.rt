@@ -1,6 +1,6 @@
 //! What an event was, by name.
 
-use crate::names::{device_name, field_name, register_name, say_interrupts, say_status};
+use crate::names::{field_name, register_name, say_interrupts, say_status};
 use crate::text::Text;
 use board::{DeviceKind, EventKind};
 use mmio_window::{CONFIGURATION_OFFSET, Register};
@@ -9,12 +9,15 @@ use std::alloc::Allocator;
 /// How many bytes of a text are shown.
 pub const SHOWN: usize = 64;
 
-/// Says the device or the memory that an event is about.
+/// Says the device or the memory that an event is about, between a guest and what was done.
 pub fn say_place<A: Allocator>(text: &mut Text<A>, what: &EventKind<A>) {
     text.say(match what {
-        EventKind::Read { window, .. } | EventKind::Write { window, .. } => device_name(*window),
-        EventKind::MemRead { .. } | EventKind::MemWrite { .. } => "memory",
-        EventKind::Input { .. } | EventKind::Resize { .. } => "console",
+        EventKind::Read { window, .. } | EventKind::Write { window, .. } => match window {
+            DeviceKind::Block => " block: ",
+            DeviceKind::Console => " console: ",
+        },
+        EventKind::MemRead { .. } | EventKind::MemWrite { .. } => " memory: ",
+        EventKind::Input { .. } | EventKind::Resize { .. } => " console: ",
     });
 }
 

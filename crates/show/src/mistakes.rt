@@ -1,12 +1,8 @@
 //! What the standard forbids a driver, found where the driver does it. The device copes with all of it.
 
-use crate::guest::ring_of;
-use crate::service::Served;
-use crate::state::WindowSeen;
-use board::{Board, Image};
-use chain::{Chain, Fault};
-use mmio_window::{CONFIGURATION_OFFSET, Queue, Register};
-use std::alloc::Allocator;
+use crate::state::{NO_QUEUE, QueueSeen, WindowSeen};
+use chain::Fault;
+use mmio_window::{CONFIGURATION_OFFSET, Register};
 
 /// What a driver did that the standard forbids it.
 #[derive(Clone, Copy, Debug, PartialEq, Eq)]
@@ -30,6 +26,15 @@ pub enum Mistake {
     TableNotNegotiated,
     TableInTable,
     TableWithNext,
+    ListWritableFirst,
+    ListUnfinished,
+    ListTooLong,
+    ListNotNegotiated,
+    ListWithTable,
+    FlagInTable,
+    AvailableChanged,
+    AreaUnaligned,
+    PackedAreaUnaligned,
 }
 
 impl Mistake {
@@ -45,6 +50,11 @@ impl Mistake {
                 "2.7.5.3.1"
             }
             Mistake::IdxJumps => "2.7.6.1",
+            Mistake::AreaUnaligned => "2.7.1",
+            Mistake::PackedAreaUnaligned => "2.8.11",
+            Mistake::AvailableChanged => "2.8.16",
+            Mistake::ListWritableFirst | Mistake::ListUnfinished | Mistake::ListTooLong => "2.8.17",
+            Mistake::ListNotNegotiated | Mistake::ListWithTable | Mistake::FlagInTable => "2.8.19",
             Mistake::EarlyNotification => "3.1.1",
             Mistake::NoVersion1 => "6.1",
             Mistake::ControlAccess
@@ -80,15 +90,34 @@ impl Mistake {
             Mistake::NextOutside => "an index of a descriptor lies outside its table",
             Mistake::ChainLoops => "a chain of descriptors has a loop",
             Mistake::ChainTooLong => "a chain has more than 2^32 bytes",
-            Mistake::TableNotNegotiated => "an indirect table without INDIRECT_DESC",
+            Mistake::ListWritableFirst => "a list has a writable buffer before a readable one",
+            Mistake::ListUnfinished => {
+                "a list is made available before all of its descriptors are"
+            }
+            Mistake::ListTooLong => "a list of descriptors is longer than the queue",
+            Mistake::ListWithTable => "a descriptor with INDIRECT is linked by NEXT",
+            Mistake::FlagInTable => {
+                "a descriptor of an indirect table has another flag than WRITE"
+            }
+            Mistake::AvailableChanged => "a descriptor is changed that is available",
+            Mistake::AreaUnaligned | Mistake::PackedAreaUnaligned => {
+                "a queue is made ready of which an area isn't aligned"
+            }
+            Mistake::TableNotNegotiated | Mistake::ListNotNegotiated => {
+                "an indirect table without INDIRECT_DESC"
+            }
             Mistake::TableInTable => "an indirect table inside an indirect table",
             Mistake::TableWithNext => "a descriptor with INDIRECT has NEXT too",
         }
     }
 
-    /// The mistake that a fault of a split ring shows, where the standard forbids it to the driver.
-    pub fn of_fault(fault: Fault) -> Option<Mistake> {
+    /// The mistake that a fault shows, where the standard forbids it to the driver of such a ring.
+    pub fn of_fault(fault: Fault, is_packed: bool) -> Option<Mistake> {
         match fault {
+            Fault::Loop if is_packed => Some(Mistake::ListTooLong),
+            Fault::NoIndirect if is_packed => Some(Mistake::ListNotNegotiated),
+            Fault::Joined if is_packed => Some(Mistake::ListWithTable),
+            _ if is_packed => None,
             Fault::Jump => Some(Mistake::IdxJumps),
             Fault::Index => Some(Mistake::NextOutside),
             Fault::Loop => Some(Mistake::ChainLoops),
@@ -183,18 +212,44 @@ pub fn write_mistake(
         | Register::QueueDeviceLow
         | Register::QueueDeviceHigh
             if is_selected_ready(old) => { Some(Mistake::ReadyQueueWritten) }
+        Register::QueueReady if value == 1 && !is_selected_ready(old) => area_mistake(old),
         _ if access_of(register) == Access::Read => Some(Mistake::ReadOnlyWritten),
         _ => None,
     }
 }
 
+// The selected queue.
+fn selected(window: &WindowSeen) -> QueueSeen {
+    let [queue_0, queue_1] = window.queues;
+    match window.queue_sel {
+        0 => queue_0,
+        1 => queue_1,
+        _ => NO_QUEUE,
+    }
+}
+
 // Whether the selected queue is ready.
 fn is_selected_ready(window: &WindowSeen) -> bool {
-    let [queue_0, queue_1] = &window.queues;
-    match window.queue_sel {
-        0 => queue_0.ring.is_some(),
-        1 => queue_1.ring.is_some(),
-        _ => false,
+    selected(window).ring.is_some()
+}
+
+/// The feature RING_PACKED (6).
+const RING_PACKED: u64 = 1 << 34;
+
+// What is wrong with the areas of the selected queue.
+fn area_mistake(window: &WindowSeen) -> Option<Mistake> {
+    let queue = selected(window);
+    let is_packed = window.negotiated & RING_PACKED != 0;
+    let driver_unit = if is_packed { 4 } else { 2 };
+    if queue.descriptor_area % 16 == 0
+        && queue.driver_area % driver_unit == 0
+        && queue.device_area % 4 == 0
+    {
+        None
+    } else if is_packed {
+        Some(Mistake::PackedAreaUnaligned)
+    } else {
+        Some(Mistake::AreaUnaligned)
     }
 }
 
@@ -214,29 +269,4 @@ fn status_mistake(value: u32, old: &WindowSeen, new: &WindowSeen) -> Option<Mist
     } else {
         None
     }
-}
-
-/// What is wrong with a chain that a service took.
-pub fn mistake_of<I: Image, A: Allocator>(
-    board: &Board<I, A>,
-    served: Served,
-    chain: &Chain,
-) -> Option<Mistake> {
-    match ring_of(board, served.slot, served.kind, served.queue)? {
-        Queue::Split(_) if is_writable_first(chain) => Some(Mistake::WritableFirst),
-        _ => None,
-    }
-}
-
-// Whether a writable buffer stands before a readable one.
-fn is_writable_first(chain: &Chain) -> bool {
-    let mut has_writable = false;
-    for buffer in chain.buffers() {
-        if buffer.writable {
-            has_writable = true;
-        } else if has_writable {
-            return true;
-        }
-    }
-    false
 }

@@ -30,8 +30,12 @@ pre{font:12px/1.5 ui-monospace,monospace;white-space:pre-wrap;overflow-wrap:anyw
 .bad{color:var(--fault);font-weight:600}
 .item{font:12px/1.5 ui-monospace,monospace;overflow-wrap:anywhere;padding:0 4px}
 .new{background:var(--new)}
-.ring{display:flex;gap:0;margin:4px 0}
-.ring table{border-collapse:collapse;font:12px/18px ui-monospace,monospace}
+.ring{display:flex;gap:0;margin:4px 0;align-items:flex-start;overflow-x:auto}
+.ring svg{flex:none}
+.ring table{border-collapse:collapse;font:12px/18px ui-monospace,monospace;flex:none}
+.ring caption{height:18px;text-align:left;padding:0 8px;white-space:nowrap}
+.ring .done{margin-left:18px}
+.ring .heads td{text-align:right}
 .ring td{padding:0 8px;height:18px;border-bottom:1px solid var(--line)}
 .ring tr.offer td:first-child{box-shadow:inset 4px 0 var(--write)}
 .ring tr.took td:first-child{box-shadow:inset 4px 0 var(--service)}
@@ -56,7 +60,7 @@ const FAULTS=/^ {2}ends: (a fault|Jump|Index|Loop|TooMany|Table|Nested|Joined|No
 // ---- the events of the text, by places in it
 const at=[],ends=[],guest=[],place=[],kind=[],number=[],said=new Map(),board=[],mistakes=[];
 let guests=0,summary="";
-function keyOf(line){const m=/^ {2}state (\w+) (status|features|generation|queue \d( descriptor \d+| on offer)?)/.exec(line);return m?m[1]+" "+m[2]:null}
+function keyOf(line){const m=/^ {2}state (\w+) (status|features|generation|queue \d( descriptor \d+| used \d+| on offer)?)/.exec(line);return m?m[1]+" "+m[2]:null}
 function read(){
   let p=0,e=-1,over=false;
   while(p<raw.length){
@@ -107,8 +111,8 @@ function draw(){
 function el(tag,cls,text){const x=document.createElement(tag);if(cls)x.className=cls;if(text!==undefined)x.textContent=text;return x}
 function rowFor(e){
   const r=el("div","row"+(e===cur?" on":""));r.dataset.e=e;r.style.borderLeftColor="var(--"+KINDS[kind[e]]+")";
-  const line=plain(lineOf(e)),gap=line.indexOf(" "),bar=line.lastIndexOf(" | ");
-  r.append(el("span","n",line.slice(0,gap)),line.slice(gap+1,bar<0?undefined:bar));
+  const line=plain(lineOf(e)),gap=line.indexOf(" "),tab=line.indexOf("\t");
+  r.append(el("span","n",line.slice(0,gap)),line.slice(gap+1,tab<0?undefined:tab));
   if(kind[e]>=6)r.append(" ",el("em","",KINDS[kind[e]]));
   return r;
 }
@@ -130,7 +134,7 @@ function stateAt(g,e){
     out.set(name.slice(name.indexOf(" ")+1),{line:list[i][1].slice(8),e:list[i][0]});
   }
   for(const [key,v] of [...out]){
-    const m=/^(\w+ queue \d)( descriptor| on offer)/.exec(key);if(!m)continue;
+    const m=/^(\w+ queue \d)( descriptor| used| on offer)/.exec(key);if(!m)continue;
     const q=out.get(m[1]);
     if(!q||q.line.includes("not ready")||v.e<madeReady(g,m[1],e))out.delete(key);
   }
@@ -145,10 +149,10 @@ function madeReady(g,key,e){
 function side(){
   const s=$("side");s.replaceChildren();
   if(!count){s.append(el("pre","",board.join("\n")));return}
-  const e=cur,text=plain(raw.slice(at[e],ends[e])).split("\n"),head=text[0],bar=head.lastIndexOf(" | ");
+  const e=cur,text=plain(raw.slice(at[e],ends[e])).split("\n"),head=text[0],tab=head.indexOf("\t");
   s.append(el("h2","","Line "+number[e]));
-  const first=el("pre","",head.slice(head.indexOf(" ")+1,bar<0?undefined:bar));first.id="what";s.append(first);
-  const rec=el("pre","key",bar<0?"":"record  "+head.slice(bar+3));rec.id="record";s.append(rec);
+  const first=el("pre","",head.slice(head.indexOf(" ")+1,tab<0?undefined:tab));first.id="what";s.append(first);
+  const rec=el("pre","key",tab<0?"":"record  "+head.slice(tab+1));rec.id="record";s.append(rec);
   const came=text.slice(1).filter(l=>!l.startsWith("  state"));
   if(came.length){s.append(el("h2","","What came of it"));for(const l of came)s.append(el("pre",/^ {2}(mistake|ends: [A-Z])/.test(l)?"bad":"",l.slice(2)))}
   const st=stateAt(guest[e],e);
@@ -156,7 +160,7 @@ function side(){
   const box=el("div");box.id="state";s.append(box);
   const took=new Set();for(const l of came){const m=/^ {2}chain/.test(l);if(m)for(const x of l.matchAll(/\((\d+)\)/g))took.add(+x[1])}
   for(const key of [...st.keys()].sort()){
-    if(/ descriptor | on offer/.test(key))continue;
+    if(/ descriptor | used | on offer/.test(key))continue;
     const v=st.get(key);
     box.append(el("div","item"+(v.e===e?" new":""),plain(v.line)));
     if(/ queue \d$/.test(key)&&!v.line.includes("not ready"))box.append(ring(st,key,e,took,v));
@@ -167,29 +171,51 @@ function side(){
     for(const [line,t] of mistakes.slice(0,200)){const x=el("div","item link",plain(t));x.onclick=()=>pick(eventAt(line));s.append(x)}
   }
 }
-// the descriptors of a queue, with a line from each to its next
+// a queue: what is on offer, its descriptors with a line from each to its next, and its used entries
 function ring(st,key,e,took,q){
-  const box=el("div","ring"),rows=[],here=head=>at_e&&took.has(head),at_e=q.e<=e&&lineOf(e).includes(key.slice(0,key.indexOf(" ")));
-  const offer=new Set(),o=st.get(key+" on offer");
-  if(o){for(const h of o.line.slice(o.line.indexOf(":")+1).trim().split(" "))if(h)offer.add(+h)}
-  for(const [k,v] of st){if(k.startsWith(key+" descriptor ")){rows.push([+k.slice(k.lastIndexOf(" ")+1),v])}}
-  rows.sort((a,b)=>a[0]-b[0]);
-  const packed=q.line.includes("packed"),place=new Map(rows.map((r,i)=>[r[0],i]));
-  const svg=document.createElementNS("http://www.w3.org/2000/svg","svg");svg.setAttribute("width",54);svg.setAttribute("height",rows.length*18);
-  const table=el("table");
+  const box=el("div","ring"),wrap=el("div","queue"),offer=[],o=st.get(key+" on offer"),isNew=v=>v.e===e?"new":"";
+  wrap.dataset.key=key;
+  if(o)for(const h of o.line.slice(o.line.indexOf(":")+1).trim().split(" "))if(h)offer.push(h);
+  const rows=entries(st,key+" descriptor "),used=entries(st,key+" used "),packed=q.line.includes("packed");
+  const served=lineOf(e).includes(key.slice(0,key.indexOf(" "))),place=new Map(rows.map((r,i)=>[r[0],i]));
+  const high=Math.max(rows.length,offer.length,used.length)*18+18,table=titled("descriptors"),fresh=new Set(used.filter(u=>u[1].e===e).map(u=>u[0]));
+  const chains=drawing(46,high);
   rows.forEach(([i,v],n)=>{
-    const t=v.line.slice(v.line.indexOf(":")+2),tr=el("tr",(offer.has(i)?"offer ":"")+(here(i)?"took ":"")+(v.e===e?"new":""));
+    const t=v.line.slice(v.line.indexOf(":")+2),tr=el("tr",(offer.includes(""+i)?"offer ":"")+(served&&(took.has(i)||packed&&fresh.has(i))?"took ":"")+isNew(v));
     tr.append(el("td","",i),el("td","",t));table.append(tr);
-    const m=/, next (\d+)/.exec(t),next=m?+m[1]:packed&&/, next/.test(t)?i+1:null;
-    if(next!==null){
-      const y=n*18+9,to=place.has(next)?place.get(next)*18+9:null,p=document.createElementNS(svg.namespaceURI,"path");
-      p.setAttribute("d",to===null?"M52 "+y+" h-14 m0 -4 v8":"M52 "+y+" C "+(44-Math.min(40,Math.abs(to-y)/3))+" "+y+" "+(44-Math.min(40,Math.abs(to-y)/3))+" "+to+" 52 "+to);
-      p.setAttribute("fill","none");p.setAttribute("stroke",to===null?"var(--fault)":to<=y?"var(--mistake)":offer.has(i)?"var(--write)":"var(--dim)");p.setAttribute("stroke-width","1.5");svg.append(p);
-    }
+    const m=/, next (\d+)/.exec(t),next=m?+m[1]:packed&&/, next/.test(t)?(place.has(i+1)?i+1:0):null;
+    if(next===null)return;
+    const y=rowY(n),to=place.has(next)?rowY(place.get(next)):null,x=to===null?0:36-Math.min(32,Math.abs(to-y)/3);
+    curve(chains,to===null?"M44 "+y+" h-14 m0 -4 v8":"M44 "+y+" C "+x+" "+y+" "+x+" "+to+" 44 "+to,to===null?"fault":to<=y?"mistake":offer.includes(""+i)?"write":"dim");
   });
-  const wrap=el("div"),line=el("div","item"+(o&&o.e===e?" new":""),o&&offer.size?"on offer: "+[...offer].join(" "):"");
-  box.append(svg,table);wrap.append(line,box);
+  if(offer.length){
+    const heads=titled("on offer"),links=drawing(40,high);
+    offer.forEach((h,n)=>{
+      const tr=el("tr",isNew(o));tr.append(el("td","",h));heads.append(tr);
+      const to=place.get(+h);if(to!==undefined)curve(links,"M2 "+rowY(n)+" C 20 "+rowY(n)+" 20 "+rowY(to)+" 38 "+rowY(to),"write");
+    });
+    heads.className="heads";box.append(heads,links);
+  }
+  if(rows.length)box.append(chains,table);
+  if(used.length){
+    const done=titled("used");done.className="done";
+    for(const [i,v] of used){const tr=el("tr",isNew(v));tr.append(el("td","",i),el("td","",v.line.slice(v.line.indexOf(":")+2)));done.append(tr)}
+    box.append(done);
+  }
+  wrap.append(box);
   return wrap;
+}
+function entries(st,begin){
+  const rows=[];
+  for(const [k,v] of st)if(k.startsWith(begin))rows.push([+k.slice(begin.length),v]);
+  return rows.sort((a,b)=>a[0]-b[0]);
+}
+function titled(text){const t=el("table"),c=el("caption","key",text);t.append(c);return t}
+const rowY=n=>n*18+27;
+function drawing(wide,high){const s=document.createElementNS("http://www.w3.org/2000/svg","svg");s.setAttribute("width",wide);s.setAttribute("height",high);return s}
+function curve(svg,d,color){
+  const p=document.createElementNS(svg.namespaceURI,"path");
+  p.setAttribute("d",d);p.setAttribute("fill","none");p.setAttribute("stroke","var(--"+color+")");p.setAttribute("stroke-width","1.5");svg.append(p);
 }
 // ---- a lane for each guest
 function lanes(){

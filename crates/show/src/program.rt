@@ -1,15 +1,13 @@
 //! The program's work, over a runtime that tests can replace.
 
 use crate::page::save_page;
-use crate::replaying::{replay, say};
-use crate::weave::Form;
+use crate::replaying::show;
 use crate::words::{Call, read_words};
 use calls::{Advice, Fault, end, image_in, refuse, text_in, told, zero_image};
 use replay::ReplayFault;
 use sector_cache::{Image, MemoryImage};
 use std::alloc::Allocator;
 use std::io;
-use std::io::Write;
 use std::rt::Files;
 
 /// How a call looks.
@@ -17,41 +15,36 @@ const CALL: &str = "vshow TRACE, or vshow TRACE IMAGE, with --page FILE";
 
 /// Does what the words after the program's name ask for, and answers the status.
 pub fn program<R: Print + Eprint + Files + AllocGlobal>(rt: &R, words: &[String]) -> u8 {
-    let mut out = io::writer(rt);
-    let outcome = carry_out(rt, words, &mut out);
-    end(&outcome, &mut out)
+    end(&carry_out(rt, words), &mut io::writer(rt))
 }
 
 // Does what the words ask for, all but the last line.
-fn carry_out<R: Eprint + Files + AllocGlobal, W: Write>(
+fn carry_out<R: Print + Eprint + Files + AllocGlobal>(
     rt: &R,
     words: &[String],
-    out: &mut W,
 ) -> Result<(), Fault> {
     let call = match read_words(rt.alloc(), words) {
         Ok(call) => call,
         Err(fault) => return refuse(rt, fault, Advice::on_words(fault, CALL, words)),
     };
-    show_files(rt, rt.alloc(), &call, out)?;
+    show_files(rt, rt.alloc(), &call)?;
     Ok(())
 }
 
 // Shows the call's trace over its image.
-fn show_files<A: Allocator + Copy, R: Eprint + Files, W: Write>(
+fn show_files<A: Allocator + Copy, R: Print + Eprint + Files>(
     rt: &R,
     alloc: A,
     call: &Call<'_>,
-    out: &mut W,
 ) -> Result<(), ReplayFault> {
     let image = image_of(rt, alloc, call)?;
     let text = text_in(rt, alloc, call.trace)?;
-    let sectors = image.sectors();
-    let replayed = told(rt, alloc, &text, sectors, replay(alloc, &text, image))?;
     match call.page {
-        Some(path) => save_page(rt, alloc, &text, replayed, path),
+        Some(path) => save_page(rt, alloc, &text, image, path),
         None => {
-            let said = say(alloc, &text, replayed, Form::Plain, out);
-            told(rt, alloc, &text, sectors, said)
+            let sectors = image.sectors();
+            let (_, outcome) = show(alloc, &text, image, io::writer(rt));
+            told(rt, alloc, &text, sectors, outcome)
         }
     }
 }

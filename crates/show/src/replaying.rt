@@ -1,43 +1,56 @@
 //! A trace replayed as `vreplay` does it, with what happened said between the records.
 //!
-//! The records are those of a replay over the image. They are kept, and a second board over a copy of the image then goes
+//! The records are those of a replay over the image, as they are written. A second board over a copy of the image goes
 //! along with them, event by event, to say what each was.
 
-ghost use Rattle.std.specs.Prelude.{Some, [], IfOk};
-ghost use Rattle.sector_cache.specs.Disk.{Disk};
+ghost use Rattle.std.specs.Prelude.{OnOk};
 ghost use Rattle.sector_cache.specs.MemoryImage.{disk_of};
-ghost use Rattle.calls.specs.Replayed.{HasRun};
+ghost use Rattle.show.specs.Replaying.{ShowsRun};
 
-use crate::lines::take_line;
-use crate::text::Text;
-use crate::watch::Watcher;
-use crate::weave::{Form, weave};
-use board::Board;
+use crate::teller::Teller;
+use crate::weaver::Weaver;
 use calls::replayed;
 use replay::ReplayFault;
 use sector_cache::MemoryImage;
 use std::alloc::Allocator;
+use std::io;
 use std::io::Write;
-use trace::read_trace;
 
-/// A replay that came to its end: the text of its records, and the image as it was before.
-#[derive(Drop)]
-pub struct Replayed<A: Allocator> {
-    pub records: Vec<u8, A>,
-    pub before: MemoryImage<A>,
-}
-
-/// Replays a trace's text over an image.
-pub fn replay<A: Allocator + Copy>(
+/// Replays a trace's text over an image, and writes the records, each behind what is said of its event and before what came
+/// of that.
+pub fn show<A: Allocator + Copy, W: Write + Drop>(
     alloc: A,
     text: &[u8],
     image: MemoryImage<A>,
-) -> Result<Replayed<A>, ReplayFault> {
+    out: W,
+) -> (W, Result<(), ReplayFault>)
+    ensures { OnOk result.1 (ShowsRun A text.now (W.contents out) (W.contents result.0) (disk_of image)) }
+{
     let Some(before) = copied(alloc, &image) else {
+        return (out, Err(ReplayFault::NoMemory));
+    };
+    let teller = Teller::new(alloc, text, before);
+    let mut weaver = Weaver::new(alloc, teller, out);
+    match replayed(alloc, text, &mut weaver, image) {
+        Ok(_) => weaver.end(),
+        Err(fault) => {
+            let (out, fault) = weaver.give_up(fault);
+            (out, Err(fault))
+        }
+    }
+}
+
+/// Replays a trace's text over a copy of the image, and keeps nothing: whether there is anything to show.
+pub fn try_replay<A: Allocator + Copy>(
+    alloc: A,
+    text: &[u8],
+    image: &MemoryImage<A>,
+) -> Result<(), ReplayFault> {
+    let Some(copy) = copied(alloc, image) else {
         return Err(ReplayFault::NoMemory);
     };
-    let records = records_of(alloc, text, image)?;
-    Ok(Replayed { records, before })
+    replayed(alloc, text, &mut io::sink(), copy)?;
+    Ok(())
 }
 
 // The same image once more.
@@ -46,74 +59,4 @@ fn copied<A: Allocator + Copy>(alloc: A, image: &MemoryImage<A>) -> Option<Memor
         return None;
     };
     MemoryImage::new(bytes).ok()
-}
-
-// The text of the records of a trace's replay.
-fn records_of<A: Allocator + Copy>(
-    alloc: A,
-    text: &[u8],
-    image: MemoryImage<A>,
-) -> Result<Vec<u8, A>, ReplayFault>
-    ensures run { IfOk result (λ records. (after : Disk) × HasRun A (Some text.now) (Some []) (Some records.items) (disk_of image) after) }
-{
-    let mut records = Vec::new(alloc);
-    match replayed(alloc, text, &mut records, image) {
-        Ok(_) => Ok(records),
-        Err(ReplayFault::Write) => Err(ReplayFault::NoMemory),
-        Err(fault) => Err(fault),
-    }
-}
-
-/// Writes the records of a replay of this text, and what happened between them.
-pub fn say<A: Allocator + Copy, W: Write>(
-    alloc: A,
-    text: &[u8],
-    replayed: Replayed<A>,
-    form: Form,
-    out: &mut W,
-) -> Result<(), ReplayFault> {
-    let Replayed { records, before } = replayed;
-    let (front, lines, first) = cut(text);
-    let trace = match read_trace(alloc, front) {
-        Ok(trace) => trace,
-        Err(fault) => return Err(ReplayFault::Trace(fault)),
-    };
-    let board = match Board::new(alloc, &trace.slots, before, trace.cache) {
-        Ok(board) => board,
-        Err(refused) => return Err(ReplayFault::Board(refused.why)),
-    };
-    let Ok(mut watcher) = Watcher::new(alloc, board) else {
-        return Err(ReplayFault::NoMemory);
-    };
-    let mut head = Text::new(alloc);
-    watcher.say_board(&trace, &mut head);
-    weave(
-        alloc,
-        &mut watcher,
-        lines,
-        first,
-        records.as_slice(),
-        &head,
-        form,
-        out,
-    )
-}
-
-// The lines before the first event, the events' own, and the number of the first of these.
-fn cut(text: &[u8]) -> (&[u8], &[u8], u64) {
-    let mut rest = text;
-    let mut number: u64 = 1;
-    while let Some((line, after)) = take_line(rest) {
-        let is_event = number > 2 && !line.starts_with(b"slot ");
-        if is_event {
-            break;
-        }
-        number = number.wrapping_add(1);
-        rest = after;
-    }
-    let front = text.len().saturating_sub(rest.len());
-    match text.get(..front) {
-        Some(front) => (front, rest, number),
-        None => (text, &[], number),
-    }
 }

@@ -4,9 +4,10 @@ use crate::chains::{Ahead, look_ahead};
 use crate::event::SHOWN;
 use crate::fault_site::say_site;
 use crate::guest::{ring_of, window_of};
-use crate::mistakes::{Mistake, mistake_of};
+use crate::mistakes::Mistake;
 use crate::request::say_request;
 use crate::state::say_packed_place;
+use crate::tables::say_queue_head;
 use crate::text::Text;
 use board::{Board, DeviceKind, EventKind, Image, Pause, Reply, Turn};
 use chain::{Budget, Chain, Fault};
@@ -73,7 +74,7 @@ pub fn serve<I: Image, A: Allocator + Copy>(
                 text,
             );
             if mistake.is_none() {
-                mistake = mistake_of(board, served, chain);
+                mistake = mistake_of(ahead);
             }
         }
         match turn {
@@ -130,11 +131,31 @@ fn ahead_of<I: Image, A: Allocator>(
     let Some(ring) = ring_of(board, slot, kind, queue) else {
         return Ahead::Nothing;
     };
+    let size = size_of(board, served);
     match (kind, board.block_device(slot)) {
         (DeviceKind::Block, Some(device)) => {
-            look_ahead(mem, ring, Some(&device), opens, chain, text)
+            look_ahead(mem, ring, size, Some(&device), opens, chain, text)
         }
-        _ => look_ahead(mem, ring, None, opens, chain, text),
+        _ => look_ahead(mem, ring, size, None, opens, chain, text),
+    }
+}
+
+// The size of a queue.
+fn size_of<I: Image, A: Allocator>(board: &Board<I, A>, served: Served) -> u16 {
+    match window_of(board, served.slot, served.kind) {
+        Some(window) => match window.registers(served.queue) {
+            Some(registers) => (registers.number % 0x1_0000) as u16,
+            None => 0,
+        },
+        None => 0,
+    }
+}
+
+// What is wrong with the chain that was ahead.
+fn mistake_of(ahead: Ahead) -> Option<Mistake> {
+    match ahead {
+        Ahead::Chain { mistake, .. } => mistake,
+        _ => None,
     }
 }
 
@@ -216,6 +237,14 @@ fn say_outcome<I: Image, A: Allocator>(
     text.say(", len ");
     text.count(u64::from(len));
     text.say("\n");
+    let entry = place.checked_rem(size_of(board, served)).unwrap_or(0);
+    say_queue_head(text, served.kind, served.queue, " used ");
+    text.count(u64::from(entry));
+    text.say(": id ");
+    text.count(u64::from(head));
+    text.say(", len ");
+    text.count(u64::from(len));
+    text.say("\n");
 }
 
 // The head or the buffer id, and the len, in the used entry of a place.
@@ -285,7 +314,7 @@ fn say_end<I: Image, A: Allocator>(
         return;
     };
     text.say("  ends: ");
-    let size = (registers.number % 0x1_0000) as u16;
+    let size = size_of(board, served);
     match (fault, reply) {
         (Some(fault), _) => {
             text.say(fault_name(fault));

@@ -1,10 +1,14 @@
 //! What a slot's devices and queues hold, as far as a person is shown it, and how it is said.
 
+ghost use Rattle.packed_ring.specs.Ring.{LiesIn};
+
 use crate::names::{feature_word, say_features, say_status, status_word};
+use crate::places::{is_available, next_place};
 use crate::text::Text;
 use board::DeviceKind;
 use guest_memory::GuestMemory;
 use mmio_window::{Queue, QueueRegisters, Window};
+use packed_ring::PackedRing;
 use std::alloc::Allocator;
 
 /// A window.
@@ -53,6 +57,8 @@ pub enum RingSeen {
     },
     Packed {
         place: u16,
+        /// The first place that isn't available.
+        available: u16,
         /// The driver's event suppression structure.
         event_place: u16,
         event_flags: u16,
@@ -107,14 +113,14 @@ fn queue_seen<A: Allocator>(mem: &GuestMemory<A>, registers: Option<&QueueRegist
         driver_area: registers.driver_area,
         device_area: registers.device_area,
         ring: match &registers.ring {
-            Some(queue) => ring_seen(mem, queue),
+            Some(queue) => ring_seen(mem, queue, (registers.number % 0x1_0000) as u16),
             None => None,
         },
     }
 }
 
-/// What is seen of a ring. Its areas lie in the memory of its guest.
-pub fn ring_seen<A: Allocator>(mem: &GuestMemory<A>, queue: &Queue) -> Option<RingSeen> {
+// What is seen of the ring of a queue of this size. Its areas lie in the memory of its guest.
+fn ring_seen<A: Allocator>(mem: &GuestMemory<A>, queue: &Queue, size: u16) -> Option<RingSeen> {
     if !queue.lies_in(mem) {
         return None;
     }
@@ -134,11 +140,26 @@ pub fn ring_seen<A: Allocator>(mem: &GuestMemory<A>, queue: &Queue) -> Option<Ri
             let (event_place, event_flags) = ring.driver_events(mem);
             Some(RingSeen::Packed {
                 place: ring.place(),
+                available: available_place(mem, ring, size),
                 event_place,
                 event_flags,
             })
         }
     }
+}
+
+// The first place of a packed ring of this size that isn't available.
+fn available_place<A: Allocator>(mem: &GuestMemory<A>, ring: &PackedRing, size: u16) -> u16
+    requires { LiesIn mem.now ring.now.setup }
+{
+    for step in 0..size {
+        let place = next_place(ring.place(), step, size);
+        match ring.descriptor_of(mem, place) {
+            Some((_, _, flags)) if is_available(flags, place < size) => {}
+            _ => return place,
+        }
+    }
+    next_place(ring.place(), size, size)
 }
 
 /// Says what of a window isn't as it was, a line each.
@@ -234,10 +255,13 @@ fn say_ring<A: Allocator>(text: &mut Text<A>, size: u32, ring: RingSeen) {
         }
         RingSeen::Packed {
             place,
+            available,
             event_place,
             event_flags,
         } => {
-            text.say(", ready, packed, next ");
+            text.say(", ready, packed, available to ");
+            say_packed_place(text, size, u32::from(available));
+            text.say(", used to ");
             say_packed_place(text, size, u32::from(place));
             text.say(", driver events flags ");
             text.count(u64::from(event_flags & 3));

@@ -1,20 +1,34 @@
 //! The descriptors of a guest's queues, and the chains on offer, said where they change.
 
+ghost use Rattle.split_ring.specs.Ring.{LiesIn};
+ghost use Rattle.packed_ring.specs.Ring.{LiesIn as PackedLiesIn};
+
 use crate::chains::say_buffer;
 use crate::names::device_name;
-use crate::state::{QueueSeen, RingSeen};
+use crate::places::{AVAIL, USED, is_available, next_place};
 use crate::text::Text;
 use board::DeviceKind;
 use guest_memory::GuestMemory;
 use indirect::{INDIRECT, NEXT};
 use mmio_window::{Queue, QueueRegisters};
+use packed_ring::PackedRing;
+use split_ring::SplitRing;
 use std::alloc::Allocator;
 
 /// The bytes of a descriptor (2.7.5, 2.8.13).
 const DESCRIPTOR_LEN: usize = 16;
 
-/// How many chains on offer are listed.
+/// How many chains on offer in a split ring are listed.
 const MOST_LISTED: u16 = 64;
+
+/// How the descriptors of a queue changed.
+#[derive(Clone, Copy, Debug, PartialEq, Eq)]
+pub enum Change {
+    Nothing,
+    Descriptors,
+    /// Also one that was available in a packed ring.
+    Available,
+}
 
 /// A copy of a queue's descriptors as they were said last.
 #[derive(Drop)]
@@ -30,7 +44,8 @@ impl<A: Allocator> Table<A> {
         }
     }
 
-    /// Says the descriptors of a queue that aren't as they were said last. One that isn't ready has none.
+    /// Says the descriptors of a queue that aren't as they were said last, and answers how they changed. A queue that isn't
+    /// ready has none.
     pub fn say_changes<M: Allocator>(
         &mut self,
         text: &mut Text<A>,
@@ -38,25 +53,26 @@ impl<A: Allocator> Table<A> {
         kind: DeviceKind,
         index: u32,
         registers: &QueueRegisters,
-    ) {
+    ) -> Change {
         let Some(queue) = &registers.ring else {
             self.bytes.clear();
-            return;
+            return Change::Nothing;
         };
-        let len = u64::from(registers.number % 0x1_0000) * 16;
-        let Some(now) = mem.part(registers.descriptor_area, len) else {
-            return;
+        let size = (registers.number % 0x1_0000) as u16;
+        let Some(now) = mem.part(registers.descriptor_area, 16 * u64::from(size)) else {
+            return Change::Nothing;
         };
         if self.bytes.as_slice() == now {
-            return;
+            return Change::Nothing;
         }
+        let available = self.available_len(queue, size);
+        let mut change = Change::Descriptors;
         for (number, new) in now.chunks_exact(DESCRIPTOR_LEN).enumerate() {
             if self.is_other(number, new) {
-                text.say("  state ");
-                text.say(device_name(kind));
-                text.say(" queue ");
-                text.count(u64::from(index));
-                text.say(" descriptor ");
+                if ahead_of(queue, size, number as u16) < available {
+                    change = Change::Available;
+                }
+                say_queue_head(text, kind, index, " descriptor ");
                 text.count(number as u64);
                 say_descriptor(text, mem, queue, number as u16);
                 text.say("\n");
@@ -66,6 +82,29 @@ impl<A: Allocator> Table<A> {
         if self.bytes.extend_from_slice(now).is_err() {
             text.give_up();
         }
+        change
+    }
+
+    // How many descriptors of a packed ring of a size were available from its place on, when they were said last.
+    fn available_len(&self, queue: &Queue, size: u16) -> u16 {
+        let Queue::Packed(ring) = queue else {
+            return 0;
+        };
+        for step in 0..size {
+            let place = next_place(ring.place(), step, size);
+            let number = place.checked_rem(size).unwrap_or(0);
+            let at = usize::from(number) * DESCRIPTOR_LEN + 14;
+            let is_on_offer = match self.bytes.get(at..at + 2) {
+                Some([low, high]) => {
+                    is_available(u16::from_le_bytes([*low, *high]), place < size)
+                }
+                _ => false,
+            };
+            if !is_on_offer {
+                return step;
+            }
+        }
+        size
     }
 
     // Whether a descriptor isn't as it was said last. One that was never said counts as zeros.
@@ -76,6 +115,18 @@ impl<A: Allocator> Table<A> {
             Some(old) => old != new,
             None => new != [0; DESCRIPTOR_LEN].as_slice(),
         }
+    }
+}
+
+// How many descriptors stand before one in a packed ring of a size, from the ring's place on.
+fn ahead_of(queue: &Queue, size: u16, number: u16) -> u16 {
+    match queue {
+        Queue::Packed(ring) => {
+            let ahead = u32::from(number) + u32::from(size);
+            let ahead = ahead.saturating_sub(u32::from(ring.position()));
+            ahead.checked_rem(u32::from(size)).unwrap_or(0) as u16
+        }
+        Queue::Split(_) => number,
     }
 }
 
@@ -125,41 +176,61 @@ fn say_descriptor<A: Allocator, M: Allocator>(
 const PACKED_FLAGS: [(u16, &str); 4] = [
     (NEXT, ", next"),
     (INDIRECT, ", indirect"),
-    (0x80, ", avail"),
-    (0x8000, ", used"),
+    (AVAIL, ", avail"),
+    (USED, ", used"),
 ];
 
-/// Says the heads that are on offer in a split ring, where its state isn't as it was.
+/// Says the chains that are on offer in a ring, each by its head or by the position of its list, where the queue's state or
+/// its descriptors changed.
 pub fn say_on_offer<A: Allocator, M: Allocator>(
     text: &mut Text<A>,
     mem: &GuestMemory<M>,
     kind: DeviceKind,
     index: u32,
-    old: &QueueSeen,
-    new: &QueueSeen,
+    registers: &QueueRegisters,
+    has_changed: bool,
+    change: Change,
 ) {
-    if old == new {
-        return;
+    let size = (registers.number % 0x1_0000) as u16;
+    match &registers.ring {
+        Some(Queue::Split(ring)) if has_changed && ring.lies_in(mem) => {
+            say_queue_head(text, kind, index, " on offer:");
+            say_heads(text, mem, ring, registers.driver_area, size);
+        }
+        Some(Queue::Packed(ring)) if has_changed || change != Change::Nothing => {
+            if ring.lies_in(mem) {
+                say_queue_head(text, kind, index, " on offer:");
+                say_lists(text, mem, ring, size);
+            }
+        }
+        _ => return,
     }
-    let Some(
-        RingSeen::Split {
-            place,
-            available_idx,
-            ..
-        },
-    ) = new.ring
-    else {
-        return;
-    };
+    text.say("\n");
+}
+
+/// Begins a line on the state of a queue.
+pub fn say_queue_head<A: Allocator>(text: &mut Text<A>, kind: DeviceKind, index: u32, what: &str) {
     text.say("  state ");
     text.say(device_name(kind));
     text.say(" queue ");
     text.count(u64::from(index));
-    text.say(" on offer:");
-    let offered = available_idx.wrapping_sub(place);
+    text.say(what);
+}
+
+// Says the heads that are on offer in a split ring.
+fn say_heads<A: Allocator, M: Allocator>(
+    text: &mut Text<A>,
+    mem: &GuestMemory<M>,
+    ring: &SplitRing,
+    driver_area: u64,
+    size: u16,
+)
+    requires { LiesIn mem.now ring.now.setup }
+{
+    let offered = ring.available_idx(mem).wrapping_sub(ring.place());
     for step in 0..offered.min(MOST_LISTED) {
-        let entry = entry_of(place.wrapping_add(step), new.number);
-        if let Some(head) = mem.get_u16(new.driver_area.wrapping_add(entry)) {
+        let entry = entry_of(ring.place().wrapping_add(step), size);
+        if let Some(head) = mem.get_u16(driver_area.wrapping_add(entry)) {
             text.say(" ");
             text.count(u64::from(head));
         }
@@ -167,11 +238,36 @@ pub fn say_on_offer<A: Allocator, M: Allocator>(
     if offered > MOST_LISTED {
         text.say(" ..");
     }
-    text.say("\n");
+}
+
+// Says the positions at which lists are on offer in a packed ring.
+fn say_lists<A: Allocator, M: Allocator>(
+    text: &mut Text<A>,
+    mem: &GuestMemory<M>,
+    ring: &PackedRing,
+    size: u16,
+)
+    requires { PackedLiesIn mem.now ring.now.setup }
+{
+    let mut begins = true;
+    for step in 0..size {
+        let place = next_place(ring.place(), step, size);
+        let Some((_, _, flags)) = ring.descriptor_of(mem, place) else {
+            return;
+        };
+        if begins {
+            if !is_available(flags, place < size) {
+                return;
+            }
+            text.say(" ");
+            text.count(u64::from(place.checked_rem(size).unwrap_or(0)));
+        }
+        begins = flags & NEXT == 0;
+    }
 }
 
 // Where the available entry of a place stands in its ring of a size (2.7.6).
-fn entry_of(place: u16, size: u32) -> u64 {
-    let entry = u32::from(place).checked_rem(size).unwrap_or(0);
-    u64::from(entry).wrapping_mul(2).wrapping_add(4)
+fn entry_of(place: u16, size: u16) -> u64 {
+    let entry = place.checked_rem(size).unwrap_or(0);
+    2 * u64::from(entry) + 4
 }

@@ -96,6 +96,10 @@ impl<A: Allocator> Text<A> {
 
     /// Appends a number by decimal digits.
     pub fn count(&mut self, number: u64) {
+        if number < 10 {
+            self.put(&[DIGITS[number as usize]]);
+            return;
+        }
         let mut digits = [b'0'; 20];
         let mut rest = number;
         let mut from = 20;

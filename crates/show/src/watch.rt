@@ -6,7 +6,7 @@ use crate::mistakes::{Mistake, read_mistake, write_mistake};
 use crate::names::say_interrupts;
 use crate::service::{Served, serve};
 use crate::state::{NEW_WINDOW, WindowSeen, say_changes, window_seen};
-use crate::tables::{Table, say_on_offer};
+use crate::tables::{Change, Table, say_on_offer};
 use crate::text::Text;
 use board::{Board, DeviceKind, Event, EventKind, Image, Reply, SlotSpec};
 use chain::{Chain, Fault};
@@ -91,9 +91,7 @@ impl<I: Image + Drop, A: Allocator + Copy> Watcher<I, A> {
         head.count(line);
         head.say(" guest ");
         head.count(u64::from(slot));
-        head.say(" ");
         say_place(head, &event.what);
-        head.say(": ");
         say_event(head, &event.what);
         let Some(words) = self.board.interrupts(slot) else {
             head.say(" -> no such guest");
@@ -201,7 +199,10 @@ impl<I: Image + Drop, A: Allocator + Copy> Watcher<I, A> {
         );
         guest.block = new.0;
         guest.console = new.1;
-        guest.say_changes(&self.board, slot, &old, &new, tail);
+        let has_changed = guest.say_changes(&self.board, slot, &old, &new, tail);
+        if has_changed && matches!(&event.what, EventKind::MemWrite { .. }) {
+            self.note(line, slot, Some(Mistake::AvailableChanged), tail);
+        }
         if let EventKind::Write {
             window,
             offset,
@@ -260,7 +261,8 @@ impl<I: Image + Drop, A: Allocator + Copy> Watcher<I, A> {
 }
 
 impl<A: Allocator> Guest<A> {
-    // Says what of the windows and of the queues isn't as it was.
+    // Says what of the windows and of the queues isn't as it was, and answers whether a descriptor isn't that was available
+    // in a packed ring.
     fn say_changes<I: Image>(
         &mut self,
         board: &Board<I, A>,
@@ -268,11 +270,11 @@ impl<A: Allocator> Guest<A> {
         old: &(WindowSeen, WindowSeen),
         new: &(WindowSeen, WindowSeen),
         text: &mut Text<A>,
-    ) {
+    ) -> bool {
         let (block, console) = (DeviceKind::Block, DeviceKind::Console);
         say_changes(text, block, &old.0, &new.0);
         say_changes(text, console, &old.1, &new.1);
-        say_queue(
+        let requests = say_queue(
             text,
             board,
             slot,
@@ -281,7 +283,7 @@ impl<A: Allocator> Guest<A> {
             &old.0,
             &new.0,
         );
-        say_queue(
+        let receive = say_queue(
             text,
             board,
             slot,
@@ -290,7 +292,7 @@ impl<A: Allocator> Guest<A> {
             &old.1,
             &new.1,
         );
-        say_queue(
+        let transmit = say_queue(
             text,
             board,
             slot,
@@ -299,10 +301,12 @@ impl<A: Allocator> Guest<A> {
             &old.1,
             &new.1,
         );
+        requests || receive || transmit
     }
 }
 
-// Says what is on offer in a queue, and its descriptors, where they aren't as they were.
+// Says what is on offer in a queue, and its descriptors, where they aren't as they were. It answers whether one of these
+// was available in a packed ring.
 fn say_queue<I: Image, A: Allocator>(
     text: &mut Text<A>,
     board: &Board<I, A>,
@@ -311,21 +315,23 @@ fn say_queue<I: Image, A: Allocator>(
     table: &mut Table<A>,
     old: &WindowSeen,
     new: &WindowSeen,
-) {
+) -> bool {
     let (kind, index) = queue;
     let (Some(mem), Some(window)) = (board.memory(slot), window_of(board, slot, kind)) else {
-        return;
+        return false;
     };
     let Some(registers) = window.registers(index) else {
-        return;
+        return false;
     };
-    table.say_changes(text, mem, kind, index, registers);
+    let change = table.say_changes(text, mem, kind, index, registers);
     let ([old_0, old_1], [new_0, new_1]) = (&old.queues, &new.queues);
-    if index == 0 {
-        say_on_offer(text, mem, kind, index, old_0, new_0);
+    let has_changed = if index == 0 {
+        old_0 != new_0
     } else {
-        say_on_offer(text, mem, kind, index, old_1, new_1);
-    }
+        old_1 != new_1
+    };
+    say_on_offer(text, mem, kind, index, registers, has_changed, change);
+    change == Change::Available
 }
 
 // Says a slot of a trace.
@@ -408,12 +414,9 @@ fn is_packed_queue<I: Image, A: Allocator>(board: &Board<I, A>, served: Served) 
     )
 }
 
-// What a fault shows that the standard forbids a driver. Its sections are those of split rings.
+// What a fault shows that the standard forbids a driver.
 fn fault_mistake(fault: Option<Fault>, is_packed: bool) -> Option<Mistake> {
-    match fault {
-        Some(fault) if !is_packed => Mistake::of_fault(fault),
-        _ => None,
-    }
+    Mistake::of_fault(fault?, is_packed)
 }
 
 // Says the reasons of interrupts that an event raised.

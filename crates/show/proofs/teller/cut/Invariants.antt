@@ -1,5 +1,5 @@
 use Rattle.std.proofs.Common.{length}
-use Rattle.show.proofs.replaying.cut.Given as goal
+use Rattle.show.proofs.teller.cut.Given as goal
 
 abbrev pub decreases-loop-line : goal.decreases-loop-line
 decreases-loop-line l = length l.rest

@@ -1,0 +1,3 @@
+pub mod Woven
+pub mod Weaver
+pub mod Replaying

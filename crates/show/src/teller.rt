@@ -1,0 +1,113 @@
+//! What is said of the events of a trace, one after another, by a watcher that goes along with them.
+
+use crate::lines::take_line;
+use crate::text::Text;
+use crate::watch::Watcher;
+use board::Board;
+use sector_cache::MemoryImage;
+use std::alloc::Allocator;
+use trace::{event_of_line, read_trace};
+
+/// What was said last of the events of a trace, and those that are left.
+#[derive(Drop)]
+pub struct Teller<'t, A: Allocator> {
+    alloc: A,
+    watcher: Option<Watcher<MemoryImage<A>, A>>,
+    /// The lines of the events that are left, and the number of the first.
+    lines: &'t [u8],
+    number: u64,
+    /// What the last event was, and what came of it.
+    head: Text<A>,
+    tail: Text<A>,
+}
+
+impl<'t, A: Allocator + Copy> Teller<'t, A> {
+    /// One for a trace's text, over the image as it is before. It has said the board. Of a text that isn't a trace's it says
+    /// nothing, and wants memory at its first event.
+    pub fn new(alloc: A, text: &'t [u8], before: MemoryImage<A>) -> Teller<'t, A> {
+        let (front, lines, number) = cut(text);
+        let mut tail = Text::new(alloc);
+        let watcher = watcher_of(alloc, front, before, &mut tail);
+        Teller {
+            alloc,
+            watcher,
+            lines,
+            number,
+            head: Text::new(alloc),
+            tail,
+        }
+    }
+
+    /// What the last event was.
+    pub fn head(&self) -> &Text<A> {
+        &self.head
+    }
+
+    /// What came of it.
+    pub fn tail(&self) -> &Text<A> {
+        &self.tail
+    }
+
+    /// Goes on to the next event.
+    pub fn next(&mut self) {
+        self.head.clear();
+        self.tail.clear();
+        let Some(watcher) = &mut self.watcher else {
+            self.head.give_up();
+            return;
+        };
+        let Some((line, after)) = take_line(self.lines) else {
+            return;
+        };
+        match event_of_line(self.alloc, line) {
+            Ok(Some(event)) => watcher.event(self.number, &event, &mut self.head, &mut self.tail),
+            Ok(None) => {}
+            Err(_) => self.head.give_up(),
+        }
+        self.lines = after;
+        self.number = self.number.wrapping_add(1);
+    }
+
+    /// Says how it ended, in place of the last event.
+    pub fn end(&mut self) {
+        self.head.clear();
+        self.tail.clear();
+        match &self.watcher {
+            Some(watcher) => watcher.say_end(&mut self.head),
+            None => self.head.give_up(),
+        }
+    }
+}
+
+// A watcher on the board of what stands before a trace's events, where there is one. It says that board.
+fn watcher_of<A: Allocator + Copy>(
+    alloc: A,
+    front: &[u8],
+    before: MemoryImage<A>,
+    text: &mut Text<A>,
+) -> Option<Watcher<MemoryImage<A>, A>> {
+    let trace = read_trace(alloc, front).ok()?;
+    let board = Board::new(alloc, &trace.slots, before, trace.cache).ok()?;
+    let watcher = Watcher::new(alloc, board).ok()?;
+    watcher.say_board(&trace, text);
+    Some(watcher)
+}
+
+// The lines before the first event, the events' own, and the number of the first of these.
+fn cut(text: &[u8]) -> (&[u8], &[u8], u64) {
+    let mut rest = text;
+    let mut number: u64 = 1;
+    while let Some((line, after)) = take_line(rest) {
+        let is_event = number > 2 && !line.starts_with(b"slot ");
+        if is_event {
+            break;
+        }
+        number = number.wrapping_add(1);
+        rest = after;
+    }
+    let front = text.len().saturating_sub(rest.len());
+    match text.get(..front) {
+        Some(front) => (front, rest, number),
+        None => (text, &[], number),
+    }
+}
