@@ -22,6 +22,7 @@ use Rattle.block_device.specs.Request.{request_of, payload_of, code_of}
 use Rattle.block_device.specs.Outcome.{Ends}
 use Rattle.block_device.specs.Device.{block_device, GivesBy}
 use Rattle.block_device.specs.Progress.{IsServable, IsDone}
+use Rattle.block_device.proofs.Endings.{nothing_found}
 
 -- a chain's bytes are few
 pub writable_few : (m : Memory) (buffers : List Buffer) → Good m buffers → length (writable_of buffers) < 2 ^ 32
@@ -48,32 +49,17 @@ zeroes_fit m buffers capacity request segments room good is servable =
 pub done_rejected : {identity : List ℕ} (request : Request) (buffers : List Buffer) (m : Memory) (disk : Disk) (status : RequestStatus) → request ≡ Rejected status
     → IsDone identity request buffers m m disk disk 0 status
 done_rejected request buffers m disk status is =
-    rw is (record {
-      found = [];
-      ends = inl (record { found = []; finds = refl; is = refl });
-      len_is = refl;
-      memory = sym (scattered-nil m (writable_of buffers));
-    })
+    rw is (nothing_found (Rejected status) buffers m disk disk status (inl (record { found = []; finds = refl; is = refl })))
 
 pub done_flushed : {identity : List ℕ} (extent : Extent) (request : Request) (buffers : List Buffer) (m : Memory) (disk disk' : Disk) → request ≡ Flush → disk' ≡ flushed disk
     → IsDone identity request buffers m m (extent_disk extent disk) (extent_disk extent disk') 0 Success
 done_flushed extent request buffers m disk disk' is flushes =
-    rw (is, flushes) (record {
-      found = [];
-      ends = inl (record { found = []; finds = refl; is = refl });
-      len_is = refl;
-      memory = sym (scattered-nil m (writable_of buffers));
-    })
+    rw (is, flushes) (nothing_found Flush buffers m (extent_disk extent disk) _ Success (inl (record { found = []; finds = refl; is = refl })))
 
 pub done_unflushed : {identity : List ℕ} (extent : Extent) (request : Request) (buffers : List Buffer) (m : Memory) (disk disk' : Disk) → request ≡ Flush → disk' ≡ failed disk
     → IsDone identity request buffers m m (extent_disk extent disk) (extent_disk extent disk') 0 IoError
 done_unflushed extent request buffers m disk disk' is fails =
-    rw (is, fails) (record {
-      found = [];
-      ends = inr refl;
-      len_is = refl;
-      memory = sym (scattered-nil m (writable_of buffers));
-    })
+    rw (is, fails) (nothing_found Flush buffers m (extent_disk extent disk) _ IoError (inr refl))
 
 -- the identity is written
 pub done_identity : (identity : List ℕ) (request : Request) (buffers : List Buffer) (m new : Memory) (disk : Disk) → length identity ≡ 20 → request ≡ GetId → new ≡ scatter m (drop 0 (writable_of buffers)) identity

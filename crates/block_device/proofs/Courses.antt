@@ -16,7 +16,7 @@ use Rattle.mmio_window.specs.Queue.{LiesIn, made_as, queue_kind}
 use Rattle.block_device.specs.declared.device.BlockDevice.{BlockDevice}
 use Rattle.block_device.specs.declared.extent.Extent.{Extent}
 use Rattle.block_device.specs.Device.{block_device}
-use Rattle.block_device.specs.Extent.{IsWithin, extent_disk, ToldOutside, KeepsOutside}
+use Rattle.block_device.specs.Extent.{IsWithin, extent_disk, ToldOutside, KeepsOutside, CallsWithin, StaysInExtent}
 use Rattle.block_device.specs.declared.queue.Stop.TheVariants.{Pause, End}
 use Rattle.block_device.specs.Serving.{Stops, site_of}
 use Rattle.block_device.proofs.Extents.{KeepsOutside-same}
@@ -40,12 +40,11 @@ lies_still extent a b keeps lies = omega (arith, keeps.sectors, lies)
 -- chains were served within the budget since the piece began, and this is left of it
 pub record IsInCourse (device : BlockDevice) (budget left : Budget) (start now : Memory) (first queue : Queue) (disk disk' : Disk) (failed : Bool) : Type 0 where
   pub piece : IsInPiece queue_kind (block_device device) budget left (site_of device start first disk) (site_of device now queue disk')
-  pub outside : KeepsOutside device.extent disk disk'
+  pub stays : StaysInExtent device.extent disk disk'
   pub range : SameRange start now
   pub lies : LiesIn now queue
   pub made : made_as queue ≡ made_as first
   pub counted : failed ≡ nat_lt disk.failures disk'.failures
-  pub rises : disk.failures ≤ disk'.failures
 
 not_less : (n : ℕ) → false ≡ nat_lt n n
 not_less n = grind (arith, nat_tests)
@@ -53,12 +52,11 @@ not_less n = grind (arith, nat_tests)
 pub course_start : (device : BlockDevice) (budget : Budget) (m : Memory) (queue : Queue) (disk : Disk) → LiesIn m queue → IsInCourse device budget budget m m queue queue disk disk false
 course_start device budget m queue disk lies = record {
   piece = piece_begins queue_kind (block_device device) budget (site_of device m queue disk);
-  outside = KeepsOutside-same device.extent disk disk refl refl;
+  stays = record { rises = omega arith; outside = KeepsOutside-same device.extent disk disk refl refl };
   range = record { base = refl; size = refl };
   lies = lies;
   made = refl;
   counted = not_less disk.failures;
-  rises = omega arith;
 }
 
 less_more : (a b c : ℕ) → a ≤ b → c ≡ b + 1 → true ≡ nat_lt a c
@@ -87,22 +85,24 @@ pub course_more : (device : BlockDevice) (budget left left' : Budget) (start m a
     → queue_kind.offers m queue ≡ true → queue_kind.Offers m queue buffers entry → taken ≡ queue
     → Does (block_device device) m answered buffers (extent_disk device.extent d) (extent_disk device.extent d') len any
     → m' ≡ queue_kind.used answered taken entry len any → queue' ≡ queue_kind.past taken entry
-    → d'.failures ≡ d.failures + (if more then 1 else 0) → KeepsOutside device.extent d d'
+    → CallsWithin device.extent more d d'
     → SameRange m answered → SameRange answered m' → LiesIn m' queue' → made_as queue' ≡ made_as taken
     → both ≡ (failed || more)
     → IsInCourse device budget left' start m' first queue' disk d' both
-course_more device budget left left' start m answered m' first queue taken queue' disk d d' failed more both buffers entry len any h some spends offers offered same does used past counts outside range range' lies made flag =
+course_more device budget left left' start m answered m' first queue taken queue' disk d d' failed more both buffers entry len any h some spends offers offered same does used past calls range range' lies made flag =
     record {
       piece = piece_goes_on queue_kind (block_device device) budget left left' (site_of device start first disk)
           m answered m' queue queue' (extent_disk device.extent d) (extent_disk device.extent d') buffers entry len any
           h.piece some spends refl offers offered does
           (used ∙ ap (λ q. queue_kind.used answered q entry len any) same) (past ∙ ap (λ q. queue_kind.past q entry) same);
-      outside = outside_trans device.extent disk d d' h.outside outside;
+      stays = record {
+        rises = rises_on more disk.failures d.failures d'.failures h.stays.rises calls.counted;
+        outside = outside_trans device.extent disk d d' h.stays.outside calls.outside;
+      };
       range = same_trans start m m' h.range (same_trans m answered m' range range');
       lies = lies;
       made = made ∙ ap made_as same ∙ h.made;
-      counted = flag ∙ counts_on failed more disk.failures d.failures d'.failures h.counted h.rises counts;
-      rises = rises_on more disk.failures d.failures d'.failures h.rises counts;
+      counted = flag ∙ counts_on failed more disk.failures d.failures d'.failures h.counted h.stays.rises calls.counted;
     }
 
 -- none is on offer

@@ -1,55 +1,39 @@
 -- A piece of a service of the device, as its window shows it.
-use Rattle.std.proofs.Common.{◌≡◌, Option, Some, None, refl, subst}
+use Rattle.std.proofs.Common.{◌≡◌, Option, Some, None, subst}
 use Rattle.guest_memory.specs.Memory.{Memory}
 use Rattle.chain.specs.declared.budget.Budget.{Budget}
 use Rattle.chain.specs.declared.budget.Progress.{Progress}
 use Rattle.sector_cache.specs.Disk.{Disk}
 use Rattle.mmio_window.specs.declared.queue.Queue.{Queue}
-use Rattle.mmio_window.specs.Pieces.{BeginsTo, GoesOnTo}
+use Rattle.mmio_window.specs.declared.stage.Stage.{Stage}
+use Rattle.mmio_window.specs.Pieces.{BeginsTo, ServesTo}
 use Rattle.mmio_window.specs.Serving.{IsNotified, ending_of}
 use Rattle.mmio_window.specs.Window.{WindowState, with_ring}
 use Rattle.mmio_window.proofs.Pieces.{never_pauses, notified_once}
+use Rattle.mmio_window.proofs.Stages.{ends_to, pauses_to}
 use Rattle.block_device.specs.declared.device.BlockDevice.{BlockDevice}
 use Rattle.block_device.specs.declared.queue.Left.{Left}
 use Rattle.block_device.specs.declared.queue.Left.TheVariants.{Open, Closed}
 use Rattle.block_device.specs.Device.{block_device}
 use Rattle.block_device.specs.Extent.{extent_disk}
-use Rattle.block_device.specs.Serving.{BeginsQueue, GoesOnQueue, progress_of, shown, site_of}
+use Rattle.block_device.specs.Serving.{LeavesQueue, progress_of, shown, site_of}
 
-begins_at : (device : BlockDevice) (budget : Budget) (queue last : Queue) (left : Left) (m m' : Memory) (w : WindowState) (disk disk' : Disk)
-    → BeginsQueue device budget (site_of device m queue disk) (site_of device m' last disk') left
-    → BeginsTo (block_device device) budget 0 (Some queue) (progress_of left) m m' w (shown left (with_ring 0 w last)) (extent_disk device.extent disk) (extent_disk device.extent disk')
-begins_at device budget queue last Open m m' w disk disk' h = record { last = last; begins = h; window = refl }
-begins_at device budget queue last (Closed fault wanted) m m' w disk disk' h = record {
-  ending = ending_of fault;
-  notified = record { last = last; wanted = wanted; service = h; window = refl };
-}
-
-goes_on_at : (device : BlockDevice) (budget : Budget) (queue last : Queue) (left : Left) (m m' : Memory) (w : WindowState) (disk disk' : Disk)
-    → GoesOnQueue device budget (site_of device m queue disk) (site_of device m' last disk') left
-    → GoesOnTo (block_device device) budget 0 (Some queue) (progress_of left) m m' w (shown left (with_ring 0 w last)) (extent_disk device.extent disk) (extent_disk device.extent disk')
-goes_on_at device budget queue last Open m m' w disk disk' h = record { last = last; pauses = h; window = refl }
-goes_on_at device budget queue last (Closed fault wanted) m m' w disk disk' h = record {
-  ending = ending_of fault;
-  finished = record { last = last; wanted = wanted; ends = h; window = refl };
-}
+serves_at : (device : BlockDevice) (stage : Stage) (budget : Budget) (queue last : Queue) (left : Left) (m m' : Memory) (w : WindowState) (disk disk' : Disk)
+    → LeavesQueue device stage budget (site_of device m queue disk) (site_of device m' last disk') left
+    → ServesTo stage (block_device device) budget 0 (Some queue) (progress_of left) m m' w (shown left (with_ring 0 w last)) (extent_disk device.extent disk) (extent_disk device.extent disk')
+serves_at device stage budget queue last Open m m' w disk disk' h =
+    pauses_to (block_device device) budget 0 queue last m m' w (extent_disk device.extent disk) (extent_disk device.extent disk') stage h
+serves_at device stage budget queue last (Closed fault wanted) m m' w disk disk' h =
+    ends_to (block_device device) budget 0 queue last m m' w (extent_disk device.extent disk) (extent_disk device.extent disk') stage (ending_of fault) wanted h
 
 -- the queue that the window lends, and what it then shows
-pub begins_to : (device : BlockDevice) (budget : Budget) (found : Option Queue) (queue last : Queue) (left : Left) (progress : Progress) (m m' : Memory) (w w' : WindowState) (disk disk' : Disk)
+pub serves_to : (device : BlockDevice) (stage : Stage) (budget : Budget) (found : Option Queue) (queue last : Queue) (left : Left) (progress : Progress) (m m' : Memory) (w w' : WindowState) (disk disk' : Disk)
     → Some queue ≡ found → progress ≡ progress_of left → w' ≡ shown left (with_ring 0 w last)
-    → BeginsQueue device budget (site_of device m queue disk) (site_of device m' last disk') left
-    → BeginsTo (block_device device) budget 0 found progress m m' w w' (extent_disk device.extent disk) (extent_disk device.extent disk')
-begins_to device budget found queue last left progress m m' w w' disk disk' is told shows h =
-    subst (λ (f : Option Queue). BeginsTo (block_device device) budget 0 f progress m m' w w' (extent_disk device.extent disk) (extent_disk device.extent disk')) is
-    (rw (told, shows) (begins_at device budget queue last left m m' w disk disk' h))
-
-pub goes_on_to : (device : BlockDevice) (budget : Budget) (found : Option Queue) (queue last : Queue) (left : Left) (progress : Progress) (m m' : Memory) (w w' : WindowState) (disk disk' : Disk)
-    → Some queue ≡ found → progress ≡ progress_of left → w' ≡ shown left (with_ring 0 w last)
-    → GoesOnQueue device budget (site_of device m queue disk) (site_of device m' last disk') left
-    → GoesOnTo (block_device device) budget 0 found progress m m' w w' (extent_disk device.extent disk) (extent_disk device.extent disk')
-goes_on_to device budget found queue last left progress m m' w w' disk disk' is told shows h =
-    subst (λ (f : Option Queue). GoesOnTo (block_device device) budget 0 f progress m m' w w' (extent_disk device.extent disk) (extent_disk device.extent disk')) is
-    (rw (told, shows) (goes_on_at device budget queue last left m m' w disk disk' h))
+    → LeavesQueue device stage budget (site_of device m queue disk) (site_of device m' last disk') left
+    → ServesTo stage (block_device device) budget 0 found progress m m' w w' (extent_disk device.extent disk) (extent_disk device.extent disk')
+serves_to device stage budget found queue last left progress m m' w w' disk disk' is told shows h =
+    subst (λ (f : Option Queue). ServesTo stage (block_device device) budget 0 f progress m m' w w' (extent_disk device.extent disk) (extent_disk device.extent disk')) is
+    (rw (told, shows) (serves_at device stage budget queue last left m m' w disk disk' h))
 
 -- without limits it is one service
 pub whole : (device : BlockDevice) (budget : Budget) (found : Option Queue) (progress : Progress) (m m' : Memory) (w w' : WindowState) (s t : Disk)

@@ -1,5 +1,5 @@
 -- Sectors that were moved so far, and what the request is once they all are, or once the image fails.
-use Rattle.std.proofs.Common.{◌≡◌, inl, inr, ℕ, ◌+◌, ◌*◌, ◌<◌, ◌≤◌, Some, List, [], ◌++◌, length, map, take, drop, refl, sym, ap, ◌∙◌, arith, length-take, length-drop, length-append}
+use Rattle.std.proofs.Common.{◌≡◌, inl, inr, ℕ, ◌+◌, ◌*◌, ◌<◌, ◌≤◌, true, false, Some, List, [], ◌++◌, length, map, take, drop, refl, sym, ap, ◌∙◌, arith, length-take, length-drop, length-append}
 use Rattle.std.specs.Prelude.{IfSome, Result, Ok, Err}
 use Rattle.std.proofs.lemmas.List.{take_all, take-take, drop-drop}
 use Rattle.std.proofs.lemmas.List.{length-map, map-append}
@@ -15,10 +15,11 @@ use Rattle.sector_cache.specs.Disk.{Disk, IsWhole, IsTorn, failed, flushed, writ
 use Rattle.block_device.specs.declared.extent.Extent.{Extent}
 use Rattle.block_device.specs.declared.request.RequestStatus.TheVariants.{Success, IoError}
 use Rattle.block_device.specs.declared.request.Request.TheVariants.{Read, Write}
-use Rattle.block_device.specs.Extent.{IsWithin, extent_disk, KeepsOutside}
+use Rattle.block_device.specs.Extent.{IsWithin, extent_disk, CallsWithin}
 use Rattle.block_device.specs.Request.{payload_of}
 use Rattle.block_device.specs.Outcome.{AreAsTold, filled}
 use Rattle.block_device.specs.Progress.{IsDone}
+use Rattle.block_device.proofs.Endings.{nothing_found}
 use Rattle.block_device.proofs.Extents.{filled-nil, written-filled, extent_disk-filled, KeepsOutside-filled, AreAsTold-none, AreAsTold-more, AreAsTold-extent, take-sector}
 
 -- the disk after a sector was lent, and after a read that failed
@@ -129,11 +130,11 @@ writing_more disk d d' sector count done readable chunk is_whole w sooner size i
     }
 
 -- the image fails at a sector
-pub writing_fails : {identity : List ℕ} (extent : Extent) (buffers : List Buffer) (m : Memory) (disk d disk' : Disk) (sector count done : ℕ) → IsWhole disk → IsWithin disk.sector_count extent
+pub writing_fails : (identity : List ℕ) (extent : Extent) (buffers : List Buffer) (m : Memory) (disk d disk' : Disk) (sector count done : ℕ) → IsWhole disk → IsWithin disk.sector_count extent
     → IsWriting disk d (extent.start + sector) (payload_of (readable_of m buffers)) done → done < count → sector + count ≤ extent.count
     → length (payload_of (readable_of m buffers)) ≡ 512 * count → IsTorn (extent.start + sector + done) d disk'
-    → IsDone identity (Write sector count) buffers m m (extent_disk extent disk) (extent_disk extent disk') 0 IoError × KeepsOutside extent disk disk'
-writing_fails extent buffers m disk d disk' sector count done is_whole lies w sooner within size t =
+    → IsDone identity (Write sector count) buffers m m (extent_disk extent disk) (extent_disk extent disk') 0 IoError × CallsWithin extent true disk disk'
+writing_fails identity extent buffers m disk d disk' sector count done is_whole lies w sooner within size t =
     let payload = payload_of (readable_of m buffers) in
     let front = take (512 * done) payload in
     let long : length front ≡ 512 * done = simp length-take (omega arith) in
@@ -143,60 +144,50 @@ writing_fails extent buffers m disk d disk' sector count done is_whole lies w so
     let fits : 512 * sector + length (front ++ t.left) ≤ 512 * extent.count = omega (arith, length-append front t.left, long, t.whole) in
     let seen : extent_disk extent disk' ≡ failed (filled sector (front ++ t.left) (extent_disk extent disk)) =
     ap (extent_disk extent) all ∙ ap failed (extent_disk-filled extent disk sector (front ++ t.left) is_whole lies fits) in (
+      nothing_found (Write sector count) buffers m (extent_disk extent disk) (extent_disk extent disk') IoError (inr (inl (record { done = done; sooner = sooner; torn = t.left; whole = t.whole; is = rw seen refl }))),
       record {
-        found = [];
-        ends = inr (inl (record { done = done; sooner = sooner; torn = t.left; whole = t.whole; is = rw seen refl }));
-        len_is = refl;
-        memory = sym (scattered-nil m (writable_of buffers));
+        counted = ap (λ (d : Disk). d.failures) all;
+        outside = KeepsOutside-filled extent disk disk' sector (front ++ t.left) is_whole lies fits (ap (λ (d : Disk). d.told) all) (ap (λ (d : Disk). d.sector_count) all);
       },
-      KeepsOutside-filled extent disk disk' sector (front ++ t.left) is_whole lies fits (ap (λ (d : Disk). d.told) all) (ap (λ (d : Disk). d.sector_count) all),
     )
 
 -- all are written
-written_all : (extent : Extent) (buffers : List Buffer) (m : Memory) (disk d : Disk) (sector count done : ℕ)
-    → IsWriting disk d (extent.start + sector) (payload_of (readable_of m buffers)) done → done ≡ count → length (payload_of (readable_of m buffers)) ≡ 512 * count
-    → d ≡ filled (extent.start + sector) (payload_of (readable_of m buffers)) disk
-written_all extent buffers m disk d sector count done w all size =
-    w.is ∙ ap (λ bytes. filled (extent.start + sector) bytes disk) (take_all (512 * done) (payload_of (readable_of m buffers)) (omega (arith, size, all)))
+module _ (identity : List ℕ) (extent : Extent) (buffers : List Buffer) (m : Memory) (disk d disk' : Disk) (sector count done : ℕ) (is_whole : IsWhole disk) (lies : IsWithin disk.sector_count extent)
+    (w : IsWriting disk d (extent.start + sector) (payload_of (readable_of m buffers)) done) (all : done ≡ count) (within : sector + count ≤ extent.count)
+    (size : length (payload_of (readable_of m buffers)) ≡ 512 * count) where
+  abbrev payload : List ℕ
+  payload = payload_of (readable_of m buffers)
 
--- and flushed
-pub writing_done : {identity : List ℕ} (extent : Extent) (buffers : List Buffer) (m : Memory) (disk d disk' : Disk) (sector count done : ℕ) → IsWhole disk → IsWithin disk.sector_count extent
-    → IsWriting disk d (extent.start + sector) (payload_of (readable_of m buffers)) done → done ≡ count → sector + count ≤ extent.count
-    → length (payload_of (readable_of m buffers)) ≡ 512 * count → disk' ≡ flushed d
-    → IsDone identity (Write sector count) buffers m m (extent_disk extent disk) (extent_disk extent disk') 0 Success × KeepsOutside extent disk disk'
-writing_done extent buffers m disk d disk' sector count done is_whole lies w all within size flushes =
-    let payload = payload_of (readable_of m buffers) in
-    let so_far = written_all extent buffers m disk d sector count done w all size in
-    let fits : 512 * sector + length payload ≤ 512 * extent.count = omega (arith, size) in
-    let seen : extent_disk extent disk' ≡ flushed (filled sector payload (extent_disk extent disk)) =
-    ap (extent_disk extent) (flushes ∙ ap flushed so_far) ∙ ap flushed (extent_disk-filled extent disk sector payload is_whole lies fits) in (
-      record {
-        found = [];
-        ends = inl (record { found = []; finds = refl; is = rw seen refl });
-        len_is = refl;
-        memory = sym (scattered-nil m (writable_of buffers));
-      },
-      KeepsOutside-filled extent disk disk' sector payload is_whole lies fits
-          (ap (λ (d : Disk). d.told) (flushes ∙ ap flushed so_far)) (ap (λ (d : Disk). d.sector_count) (flushes ∙ ap flushed so_far)),
-    )
+  so_far : d ≡ filled (extent.start + sector) payload disk
+  so_far = w.is ∙ ap (λ bytes. filled (extent.start + sector) bytes disk) (take_all (512 * done) payload (omega (arith, size, all)))
 
--- or the flush fails
-pub writing_unflushed : {identity : List ℕ} (extent : Extent) (buffers : List Buffer) (m : Memory) (disk d disk' : Disk) (sector count done : ℕ) → IsWhole disk → IsWithin disk.sector_count extent
-    → IsWriting disk d (extent.start + sector) (payload_of (readable_of m buffers)) done → done ≡ count → sector + count ≤ extent.count
-    → length (payload_of (readable_of m buffers)) ≡ 512 * count → disk' ≡ failed d
-    → IsDone identity (Write sector count) buffers m m (extent_disk extent disk) (extent_disk extent disk') 0 IoError × KeepsOutside extent disk disk'
-writing_unflushed extent buffers m disk d disk' sector count done is_whole lies w all within size fails =
-    let payload = payload_of (readable_of m buffers) in
-    let so_far = written_all extent buffers m disk d sector count done w all size in
-    let fits : 512 * sector + length payload ≤ 512 * extent.count = omega (arith, size) in
-    let seen : extent_disk extent disk' ≡ failed (filled sector payload (extent_disk extent disk)) =
-    ap (extent_disk extent) (fails ∙ ap failed so_far) ∙ ap failed (extent_disk-filled extent disk sector payload is_whole lies fits) in (
-      record {
-        found = [];
-        ends = inr (inr (rw seen refl));
-        len_is = refl;
-        memory = sym (scattered-nil m (writable_of buffers));
-      },
-      KeepsOutside-filled extent disk disk' sector payload is_whole lies fits
-          (ap (λ (d : Disk). d.told) (fails ∙ ap failed so_far)) (ap (λ (d : Disk). d.sector_count) (fails ∙ ap failed so_far)),
-    )
+  fits : 512 * sector + length payload ≤ 512 * extent.count
+  fits = omega (arith, size)
+
+  -- and flushed
+  pub writing_done : disk' ≡ flushed d
+      → IsDone identity (Write sector count) buffers m m (extent_disk extent disk) (extent_disk extent disk') 0 Success × CallsWithin extent false disk disk'
+  writing_done flushes =
+      let is : disk' ≡ flushed (filled (extent.start + sector) payload disk) = flushes ∙ ap flushed so_far in
+      let seen : extent_disk extent disk' ≡ flushed (filled sector payload (extent_disk extent disk)) =
+      ap (extent_disk extent) is ∙ ap flushed (extent_disk-filled extent disk sector payload is_whole lies fits) in (
+        nothing_found (Write sector count) buffers m (extent_disk extent disk) (extent_disk extent disk') Success (inl (record { found = []; finds = refl; is = rw seen refl })),
+        record {
+          counted = ap (λ (d : Disk). d.failures) is ∙ omega arith;
+          outside = KeepsOutside-filled extent disk disk' sector payload is_whole lies fits (ap (λ (d : Disk). d.told) is) (ap (λ (d : Disk). d.sector_count) is);
+        },
+      )
+
+  -- or the flush fails
+  pub writing_unflushed : disk' ≡ failed d
+      → IsDone identity (Write sector count) buffers m m (extent_disk extent disk) (extent_disk extent disk') 0 IoError × CallsWithin extent true disk disk'
+  writing_unflushed fails =
+      let is : disk' ≡ failed (filled (extent.start + sector) payload disk) = fails ∙ ap failed so_far in
+      let seen : extent_disk extent disk' ≡ failed (filled sector payload (extent_disk extent disk)) =
+      ap (extent_disk extent) is ∙ ap failed (extent_disk-filled extent disk sector payload is_whole lies fits) in (
+        nothing_found (Write sector count) buffers m (extent_disk extent disk) (extent_disk extent disk') IoError (inr (inr (rw seen refl))),
+        record {
+          counted = ap (λ (d : Disk). d.failures) is;
+          outside = KeepsOutside-filled extent disk disk' sector payload is_whole lies fits (ap (λ (d : Disk). d.told) is) (ap (λ (d : Disk). d.sector_count) is);
+        },
+      )

@@ -8,20 +8,21 @@ use Rattle.std.proofs.lemmas.List.{length-replicate, map-append}
 use Rattle.std.proofs.lemmas.List.FromFn.{map-range_with_len_more}
 use Rattle.guest_memory.specs.Memory.{Memory}
 use Rattle.chain.specs.declared.segment.Buffer.{Buffer}
-use Rattle.chain.specs.Bytes.{readable_of, writable_of}
-use Rattle.chain.proofs.Partial.{scattered-nil}
+use Rattle.chain.specs.Bytes.{readable_of}
 use Rattle.sector_cache.specs.Sector.{with_sector}
 use Rattle.sector_cache.specs.Disk.{Disk, IsWhole, IsTorn, failed, flushed, written}
 use Rattle.block_device.specs.declared.extent.Extent.{Extent}
+use Rattle.block_device.specs.declared.request.RequestStatus.{RequestStatus}
 use Rattle.block_device.specs.declared.request.RequestStatus.TheVariants.{Success, IoError}
 use Rattle.block_device.specs.declared.request.Request.TheVariants.{WriteZeroes}
 use Rattle.block_device.specs.declared.zeroes.WriteZeroesSegment.{WriteZeroesSegment}
-use Rattle.block_device.specs.Extent.{IsWithin, extent_disk, KeepsOutside}
+use Rattle.block_device.specs.Extent.{IsWithin, extent_disk, CallsWithin, KeepsOutside}
 use Rattle.block_device.specs.Request.{payload_of}
 use Rattle.block_device.specs.Outcome.{filled, with_sectors}
 use Rattle.block_device.specs.Progress.{IsDone}
 use Rattle.block_device.specs.Zeroes.{IsStopped, all_sectors, has_sectors_within, sectors_of, segment_at, segments_in, zeroed_sectors}
 use Rattle.block_device.proofs.Courses.{lies_still, outside_trans}
+use Rattle.block_device.proofs.Endings.{nothing_found}
 use Rattle.block_device.proofs.Extents.{extent_disk-filled, KeepsOutside-filled, KeepsOutside-same, marked-chunk, same_disk}
 
 abbrev zeros : List ℕ
@@ -230,51 +231,60 @@ segment_stops extent old d d' payload n segment z is below s =
 
 -- ---- the request
 
-pub zeroes_stopped : {identity : List ℕ} (extent : Extent) (buffers : List Buffer) (m : Memory) (disk disk' : Disk) (segments : ℕ)
-    → IsStopped (all_sectors (segments_in (payload_of (readable_of m buffers)))) (extent_disk extent disk) (extent_disk extent disk')
-    → IsDone identity (WriteZeroes segments) buffers m m (extent_disk extent disk) (extent_disk extent disk') 0 IoError
-zeroes_stopped extent buffers m disk disk' segments s = record {
-  found = [];
-  ends = inr (inl (record { left = extent_disk extent disk'; stopped = s; is = refl }));
-  len_is = refl;
-  memory = sym (scattered-nil m (writable_of buffers));
-}
+-- these segments were zeroed so far
+module _ (identity : List ℕ) (extent : Extent) (buffers : List Buffer) (m : Memory) (disk d disk' : Disk) (segments n : ℕ)
+    (z : IsZeroing extent disk d (all_sectors (first_segments (payload_of (readable_of m buffers)) n))) where
+  abbrev payload : List ℕ
+  payload = payload_of (readable_of m buffers)
 
--- all segments are zeroed
-all_zeroed : (extent : Extent) (disk d : Disk) (payload : List ℕ) (segments n : ℕ) → IsZeroing extent disk d (all_sectors (first_segments payload n))
-    → length payload ≡ 16 * segments → n ≡ segments → extent_disk extent d ≡ zeroed_sectors (all_sectors (segments_in payload)) (extent_disk extent disk)
-all_zeroed extent disk d payload segments n z size all =
-    let whole : n ≡ length payload / 16 = omega (arith, size, all) in
-    z.seen ∙ ap (λ k. zeroed_sectors (all_sectors (first_segments payload k)) (extent_disk extent disk)) whole
+  abbrev IsEnd : RequestStatus → Bool → Type 0
+  IsEnd status failed =
+      IsDone identity (WriteZeroes segments) buffers m m (extent_disk extent disk) (extent_disk extent disk') 0 status × CallsWithin extent failed disk disk'
 
--- and flushed
-pub zeroes_done : {identity : List ℕ} (extent : Extent) (buffers : List Buffer) (m : Memory) (disk d disk' : Disk) (segments n : ℕ) → IsZeroing extent disk d (all_sectors (first_segments (payload_of (readable_of m buffers)) n))
-    → length (payload_of (readable_of m buffers)) ≡ 16 * segments → n ≡ segments → disk' ≡ flushed d
-    → IsDone identity (WriteZeroes segments) buffers m m (extent_disk extent disk) (extent_disk extent disk') 0 Success
-zeroes_done extent buffers m disk d disk' segments n z size all flushes =
-    let seen : extent_disk extent disk' ≡ flushed (zeroed_sectors (all_sectors (segments_in (payload_of (readable_of m buffers)))) (extent_disk extent disk)) =
-    ap (extent_disk extent) flushes ∙ ap flushed (all_zeroed extent disk d (payload_of (readable_of m buffers)) segments n z size all) in
-    record {
-      found = [];
-      ends = inl (record { found = []; finds = refl; is = rw seen refl });
-      len_is = refl;
-      memory = sym (scattered-nil m (writable_of buffers));
-    }
+  no_failure : d.failures ≡ disk.failures
+  no_failure = ap (λ (d : Disk). d.failures) z.seen ∙ zeroed-failures (all_sectors (first_segments payload n)) (extent_disk extent disk)
 
--- or the flush fails
-pub zeroes_unflushed : {identity : List ℕ} (extent : Extent) (buffers : List Buffer) (m : Memory) (disk d disk' : Disk) (segments n : ℕ) → IsZeroing extent disk d (all_sectors (first_segments (payload_of (readable_of m buffers)) n))
-    → length (payload_of (readable_of m buffers)) ≡ 16 * segments → n ≡ segments → disk' ≡ failed d
-    → IsDone identity (WriteZeroes segments) buffers m m (extent_disk extent disk) (extent_disk extent disk') 0 IoError
-zeroes_unflushed extent buffers m disk d disk' segments n z size all fails =
-    let seen : extent_disk extent disk' ≡ failed (zeroed_sectors (all_sectors (segments_in (payload_of (readable_of m buffers)))) (extent_disk extent disk)) =
-    ap (extent_disk extent) fails ∙ ap failed (all_zeroed extent disk d (payload_of (readable_of m buffers)) segments n z size all) in
-    record {
-      found = [];
-      ends = inr (inr (rw seen refl));
-      len_is = refl;
-      memory = sym (scattered-nil m (writable_of buffers));
-    }
+  -- the image fails in the next one
+  pub zeroes_stopped : (segment : WriteZeroesSegment) → segment ≡ segment_at payload n → n < length payload / 16
+      → IsStopped (sectors_of segment) (extent_disk extent d) (extent_disk extent disk') → KeepsOutside extent d disk' → IsEnd IoError true
+  zeroes_stopped segment is below stops outside =
+      let s = segment_stops extent disk d disk' payload n segment z is below stops in (
+        nothing_found (WriteZeroes segments) buffers m (extent_disk extent disk) (extent_disk extent disk') IoError (inr (inl (record { left = extent_disk extent disk'; stopped = s; is = refl }))),
+        record {
+          counted = stopped-failures (all_sectors (segments_in payload)) (extent_disk extent disk) (extent_disk extent disk') s;
+          outside = outside_trans extent disk d disk' z.outside outside;
+        },
+      )
 
--- the failures so far
-pub zeroing-failures : (extent : Extent) (old new : Disk) (sectors : List ℕ) → IsZeroing extent old new sectors → new.failures ≡ old.failures
-zeroing-failures extent old new sectors z = ap (λ (d : Disk). d.failures) z.seen ∙ zeroed-failures sectors (extent_disk extent old)
+  -- all of them are zeroed
+  all_zeroed : length payload ≡ 16 * segments → n ≡ segments → extent_disk extent d ≡ zeroed_sectors (all_sectors (segments_in payload)) (extent_disk extent disk)
+  all_zeroed size all =
+      let whole : n ≡ length payload / 16 = omega (arith, size, all) in
+      z.seen ∙ ap (λ k. zeroed_sectors (all_sectors (first_segments payload k)) (extent_disk extent disk)) whole
+
+  flush_outside : disk'.told ≡ d.told → disk'.sector_count ≡ d.sector_count → KeepsOutside extent disk disk'
+  flush_outside told sectors = outside_trans extent disk d disk' z.outside (KeepsOutside-same extent d disk' told sectors)
+
+  -- and flushed
+  pub zeroes_done : length payload ≡ 16 * segments → n ≡ segments → disk' ≡ flushed d → IsEnd Success false
+  zeroes_done size all flushes =
+      let seen : extent_disk extent disk' ≡ flushed (zeroed_sectors (all_sectors (segments_in payload)) (extent_disk extent disk)) =
+      ap (extent_disk extent) flushes ∙ ap flushed (all_zeroed size all) in (
+        nothing_found (WriteZeroes segments) buffers m (extent_disk extent disk) (extent_disk extent disk') Success (inl (record { found = []; finds = refl; is = rw seen refl })),
+        record {
+          counted = ap (λ (d : Disk). d.failures) flushes ∙ no_failure ∙ omega arith;
+          outside = flush_outside (ap (λ (d : Disk). d.told) flushes) (ap (λ (d : Disk). d.sector_count) flushes);
+        },
+      )
+
+  -- or the flush fails
+  pub zeroes_unflushed : length payload ≡ 16 * segments → n ≡ segments → disk' ≡ failed d → IsEnd IoError true
+  zeroes_unflushed size all fails =
+      let seen : extent_disk extent disk' ≡ failed (zeroed_sectors (all_sectors (segments_in payload)) (extent_disk extent disk)) =
+      ap (extent_disk extent) fails ∙ ap failed (all_zeroed size all) in (
+        nothing_found (WriteZeroes segments) buffers m (extent_disk extent disk) (extent_disk extent disk') IoError (inr (inr (rw seen refl))),
+        record {
+          counted = ap (λ (d : Disk). d.failures) fails ∙ ap (λ n. n + 1) no_failure;
+          outside = flush_outside (ap (λ (d : Disk). d.told) fails) (ap (λ (d : Disk). d.sector_count) fails);
+        },
+      )

@@ -1,5 +1,5 @@
 -- The sectors that one device shows of a disk, and all that is outside of them.
-use Rattle.std.specs.Prelude.{◌≡◌, ℕ, ◌+◌, ◌*◌, ◌≤◌, List, length, take, drop, Option, Some, None}
+use Rattle.std.specs.Prelude.{◌≡◌, ℕ, ◌+◌, ◌*◌, ◌≤◌, Bool, if◌then◌else◌, List, length, take, drop, Option, Some, None}
 use Rattle.std.specs.Option.{option_map}
 use Rattle.sector_cache.specs.Sector.{extent_of}
 use Rattle.sector_cache.specs.Disk.{Disk}
@@ -38,6 +38,16 @@ ToldOutside extent (Some old) (Some new) = SameOutside extent old new
 pub record KeepsOutside (extent : Extent) (old new : Disk) : Type 0 where
   pub sectors : new.sector_count ≡ old.sector_count
   pub told : ToldOutside extent old.told new.told
+
+-- Calls of the image are made for one extent: the failures never fall, and the image stays outside of it.
+pub record StaysInExtent (extent : Extent) (old new : Disk) : Type 0 where
+  pub rises : old.failures ≤ new.failures
+  pub outside : KeepsOutside extent old new
+
+-- the same for one request, of which at most one call fails
+pub record CallsWithin (extent : Extent) (failed : Bool) (old new : Disk) : Type 0 where
+  pub counted : new.failures ≡ old.failures + (if failed then 1 else 0)
+  pub outside : KeepsOutside extent old new
 
 -- the same sectors, whatever failed and whatever is to be flushed: their driver can't tell the two
 pub record SameSectors (s t : Disk) : Type 0 where

@@ -3,10 +3,12 @@ use Rattle.guest_memory.specs.Memory.{Memory}
 use Rattle.chain.specs.declared.budget.Budget.{Budget}
 use Rattle.chain.specs.declared.budget.Progress.{Progress}
 use Rattle.chain.specs.declared.budget.Progress.TheVariants.{More, Done}
-use Rattle.chain.specs.Pieces.{BeginsWithin, EndsWithin, IsServiceWithin, Pauses, RunsWithin}
+use Rattle.chain.specs.Pieces.{Pauses, RunsWithin}
 use Rattle.chain.specs.Service.{Site}
 use Rattle.sector_cache.specs.Disk.{Disk}
 use Rattle.mmio_window.specs.declared.queue.Queue.{Queue}
+use Rattle.mmio_window.specs.declared.stage.Stage.{Stage}
+use Rattle.mmio_window.specs.Pieces.{EndsAt, PausesAt}
 use Rattle.mmio_window.specs.Queue.{queue_kind}
 use Rattle.mmio_window.specs.Serving.{after_service, ending_of}
 use Rattle.mmio_window.specs.Window.{WindowState}
@@ -27,15 +29,10 @@ abbrev pub Stops : BlockDevice → Budget → Site Queue Disk → Site Queue Dis
 Stops device budget start now Pause = Pauses queue_kind (block_device device) budget start now
 Stops device budget start now (End fault) = RunsWithin queue_kind (block_device device) budget start (ending_of fault) now
 
--- a piece that goes on from an open queue
-abbrev pub GoesOnQueue : BlockDevice → Budget → Site Queue Disk → Site Queue Disk → Left → Type 0
-GoesOnQueue device budget old new Open = Pauses queue_kind (block_device device) budget old new
-GoesOnQueue device budget old new (Closed fault wanted) = EndsWithin queue_kind (block_device device) budget old new (ending_of fault) wanted
-
--- the first piece of a service
-abbrev pub BeginsQueue : BlockDevice → Budget → Site Queue Disk → Site Queue Disk → Left → Type 0
-BeginsQueue device budget old new Open = BeginsWithin queue_kind (block_device device) budget old new
-BeginsQueue device budget old new (Closed fault wanted) = IsServiceWithin queue_kind (block_device device) budget old new (ending_of fault) wanted
+-- a piece, by how it leaves the queue
+abbrev pub LeavesQueue : BlockDevice → Stage → Budget → Site Queue Disk → Site Queue Disk → Left → Type 0
+LeavesQueue device stage budget old new Open = PausesAt stage (block_device device) budget old new
+LeavesQueue device stage budget old new (Closed fault wanted) = EndsAt stage (block_device device) budget old new (ending_of fault) wanted
 
 -- what a window shows of a queue that is left so
 abbrev pub shown : Left → WindowState → WindowState

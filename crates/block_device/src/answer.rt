@@ -1,12 +1,12 @@
 //! One chain, from its header to its status byte.
 
-ghost use Rattle.std.specs.Prelude.{◌≡◌, ◌+◌, ◌^◌, ◌<◌, ◌≤◌, if◌then◌else◌, length};
+ghost use Rattle.std.specs.Prelude.{◌≡◌, ◌+◌, ◌^◌, ◌<◌, ◌≤◌, length};
 ghost use Rattle.guest_memory.specs.Memory.{SameRange};
 ghost use Rattle.chain.specs.Buffers.{Good};
 ghost use Rattle.chain.specs.Bytes.{readable_of, writable_of};
 ghost use Rattle.chain.specs.Service.{Does};
 ghost use Rattle.block_device.specs.Device.{block_device};
-ghost use Rattle.block_device.specs.Extent.{IsWithin, KeepsOutside, extent_disk};
+ghost use Rattle.block_device.specs.Extent.{CallsWithin, IsWithin, extent_disk};
 ghost use Rattle.block_device.specs.Request.{code_of, payload_of};
 ghost use Rattle.block_device.specs.Progress.{IsServable, IsDone};
 
@@ -55,9 +55,7 @@ impl BlockDevice {
         ensures does { Does (block_device self.now) mem.old mem.new chain.now
             (extent_disk self.now.extent (I.disk cache.old))
             (extent_disk self.now.extent (I.disk cache.new)) result.len result.wrote }
-        ensures counted { (I.disk cache.new).failures ≡
-            (I.disk cache.old).failures + (if result.failed then 1 else 0) }
-        ensures outside { KeepsOutside self.now.extent (I.disk cache.old) (I.disk cache.new) }
+        ensures calls { CallsWithin self.now.extent result.failed (I.disk cache.old) (I.disk cache.new) }
         ensures range { SameRange mem.old mem.new }
     {
         let writable = chain.writable_len();
@@ -98,9 +96,7 @@ impl BlockDevice {
             (extent_disk self.now.extent (I.disk cache.old))
             (extent_disk self.now.extent (I.disk cache.new)) result.len result.status }
         ensures room { result.len ≤ room }
-        ensures counted { (I.disk cache.new).failures ≡
-            (I.disk cache.old).failures + (if result.failed then 1 else 0) }
-        ensures outside { KeepsOutside self.now.extent (I.disk cache.old) (I.disk cache.new) }
+        ensures calls { CallsWithin self.now.extent result.failed (I.disk cache.old) (I.disk cache.new) }
         ensures range { SameRange mem.old mem.new }
     {
         match request {

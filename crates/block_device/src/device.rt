@@ -14,6 +14,9 @@ const SEG_MAX: u32 = 126;
 /// The size of a block, in bytes: a sector is one.
 const BLK_SIZE: u32 = SECTOR_LEN as u32;
 
+/// Its queue (5.2.2).
+pub const REQUESTQ: u16 = 0;
+
 /// A block device over an extent of an image.
 #[derive(Clone, Copy, Debug, PartialEq, Eq)]
 pub struct BlockDevice {

@@ -18,7 +18,7 @@ mod tests;
 mod transfer;
 mod zeroes;
 
-pub use device::BlockDevice;
+pub use device::{BlockDevice, REQUESTQ};
 pub use extent::Extent;
 pub use laws::{
     a_service_without_failure_is_exact, at_most_one_exact_service, no_service_is_refused,

@@ -1,15 +1,15 @@
 //! A piece of a service of the device's queue: opening, chains one after another, and closing.
 
-ghost use Rattle.std.specs.Prelude.{◌≡◌, ◌≤◌, Option, nat_lt};
+ghost use Rattle.std.specs.Prelude.{◌≡◌, Option, nat_lt};
 ghost use Rattle.guest_memory.specs.Memory.{SameRange};
 ghost use Rattle.mmio_window.specs.Queue.{LiesIn, made_as};
-ghost use Rattle.block_device.specs.Extent.{IsWithin, KeepsOutside};
-ghost use Rattle.block_device.specs.Serving.{BeginsQueue, GoesOnQueue, Stops, site_of};
+ghost use Rattle.block_device.specs.Extent.{IsWithin, StaysInExtent};
+ghost use Rattle.block_device.specs.Serving.{LeavesQueue, Stops, site_of};
 
 use crate::device::BlockDevice;
-use chain::{Budget, Chain, Fault};
+use chain::{Budget, Chain, Fault, Virtqueue};
 use guest_memory::GuestMemory;
-use mmio_window::Queue;
+use mmio_window::{Queue, Stage};
 use sector_cache::{Image, SectorCache};
 use std::alloc::Allocator;
 
@@ -53,56 +53,34 @@ pub(crate) struct Service {
 }
 
 impl BlockDevice {
-    /// Opens a service and serves its first piece; after a fault of the opening it is closed at once.
+    /// Serves a piece of a service: its first one opens the queue, and its end closes it.
     pub(crate) fn serve_queue<I: Image, M: Allocator, C: Allocator + Copy>(
         &self,
         mem: &mut GuestMemory<M>,
         queue: &mut Queue,
         cache: &mut SectorCache<I, C>,
+        stage: Stage,
         budget: Budget,
         chain: &mut Chain,
     ) -> Service
         requires queue { LiesIn mem.old queue.old }
         requires lies { IsWithin (I.disk cache.old).sector_count self.now.extent }
-        ensures service { BeginsQueue self.now budget (site_of self.now mem.old queue.old (I.disk cache.old))
+        ensures service { LeavesQueue self.now stage budget (site_of self.now mem.old queue.old (I.disk cache.old))
             (site_of self.now mem.new queue.new (I.disk cache.new)) result.left }
         ensures failed { result.failed ≡ nat_lt (I.disk cache.old).failures (I.disk cache.new).failures }
-        ensures rises { (I.disk cache.old).failures ≤ (I.disk cache.new).failures }
-        ensures outside { KeepsOutside self.now.extent (I.disk cache.old) (I.disk cache.new) }
+        ensures stays { StaysInExtent self.now.extent (I.disk cache.old) (I.disk cache.new) }
         ensures range { SameRange mem.old mem.new }
         ensures made { made_as queue.new ≡ made_as queue.old }
     {
-        match queue.open(mem) {
-            Ok(()) => self.serve_open(mem, queue, cache, budget, chain),
-            Err(fault) => Service {
+        if let Err(fault) = stage.open(queue, mem) {
+            return Service {
                 left: Left::Closed {
                     fault: Some(fault),
                     wanted: queue.close(mem),
                 },
                 failed: false,
-            },
+            };
         }
-    }
-
-    /// Serves a piece of a service whose queue stands open, and closes it at its end.
-    pub(crate) fn serve_open<I: Image, M: Allocator, C: Allocator + Copy>(
-        &self,
-        mem: &mut GuestMemory<M>,
-        queue: &mut Queue,
-        cache: &mut SectorCache<I, C>,
-        budget: Budget,
-        chain: &mut Chain,
-    ) -> Service
-        requires queue { LiesIn mem.old queue.old }
-        requires lies { IsWithin (I.disk cache.old).sector_count self.now.extent }
-        ensures service { GoesOnQueue self.now budget (site_of self.now mem.old queue.old (I.disk cache.old))
-            (site_of self.now mem.new queue.new (I.disk cache.new)) result.left }
-        ensures failed { result.failed ≡ nat_lt (I.disk cache.old).failures (I.disk cache.new).failures }
-        ensures rises { (I.disk cache.old).failures ≤ (I.disk cache.new).failures }
-        ensures outside { KeepsOutside self.now.extent (I.disk cache.old) (I.disk cache.new) }
-        ensures range { SameRange mem.old mem.new }
-        ensures made { made_as queue.new ≡ made_as queue.old }
-    {
         let work = self.serve_chains(mem, queue, cache, budget, chain);
         let left = match work.stop {
             Stop::Pause => Left::Open,
@@ -131,8 +109,7 @@ impl BlockDevice {
         ensures stops { Stops self.now budget (site_of self.now mem.old queue.old (I.disk cache.old))
             (site_of self.now mem.new queue.new (I.disk cache.new)) result.stop }
         ensures failed { result.failed ≡ nat_lt (I.disk cache.old).failures (I.disk cache.new).failures }
-        ensures rises { (I.disk cache.old).failures ≤ (I.disk cache.new).failures }
-        ensures outside { KeepsOutside self.now.extent (I.disk cache.old) (I.disk cache.new) }
+        ensures stays { StaysInExtent self.now.extent (I.disk cache.old) (I.disk cache.new) }
         ensures range { SameRange mem.old mem.new }
         ensures queue { LiesIn mem.new queue.new }
         ensures made { made_as queue.new ≡ made_as queue.old }

@@ -1,20 +1,20 @@
 //! A service of the device's queue, whole or in pieces, and what its window shows of it.
 
-ghost use Rattle.std.specs.Prelude.{◌≡◌, ◌<◌, ◌≤◌, ◌↔◌, Option, IsTrue};
+ghost use Rattle.std.specs.Prelude.{◌≡◌, ◌<◌, ◌↔◌, Option, IsTrue};
 ghost use Rattle.guest_memory.specs.Memory.{Memory, SameRange};
-ghost use Rattle.mmio_window.specs.Pieces.{BeginsTo, GoesOnTo};
+ghost use Rattle.mmio_window.specs.Pieces.{ServesTo};
 ghost use Rattle.mmio_window.specs.Serving.{IsNotified};
 ghost use Rattle.mmio_window.specs.Soundness.{IsSound};
 ghost use Rattle.mmio_window.specs.Window.{queue_at};
 ghost use Rattle.block_device.specs.Device.{block_device, exact_device};
-ghost use Rattle.block_device.specs.Extent.{IsWithin, KeepsOutside, extent_disk};
+ghost use Rattle.block_device.specs.Extent.{IsWithin, StaysInExtent, extent_disk};
 ghost use Rattle.block_device.specs.Serving.{progress_of, shown};
 
-use crate::device::BlockDevice;
+use crate::device::{BlockDevice, REQUESTQ};
 use crate::queue::Left;
 use chain::{Budget, Chain, Progress};
 use guest_memory::GuestMemory;
-use mmio_window::Window;
+use mmio_window::{Stage, Window};
 use sector_cache::{Image, SectorCache};
 use std::alloc::Allocator;
 
@@ -50,7 +50,6 @@ impl BlockDevice {
             window.old window.new (extent_disk self.now.extent (I.disk cache.old))
             (extent_disk self.now.extent (I.disk cache.new)) }
         ensures failed { IsTrue result ↔ ((I.disk cache.old).failures < (I.disk cache.new).failures) }
-        ensures rises { (I.disk cache.old).failures ≤ (I.disk cache.new).failures }
 
         // Where no image call failed the requests are determined.
         ensures exact { (I.disk cache.new).failures ≡ (I.disk cache.old).failures →
@@ -58,69 +57,39 @@ impl BlockDevice {
             window.old window.new (extent_disk self.now.extent (I.disk cache.old))
             (extent_disk self.now.extent (I.disk cache.new)) }
 
-        ensures outside { KeepsOutside self.now.extent (I.disk cache.old) (I.disk cache.new) }
+        ensures stays { StaysInExtent self.now.extent (I.disk cache.old) (I.disk cache.new) }
         ensures range { SameRange mem.old mem.new }
         ensures sound { IsSound mem.new window.new }
     {
-        self.serve_some(mem, window, cache, Budget::UNLIMITED, room)
+        self.serve_piece(mem, window, cache, Stage::First, Budget::UNLIMITED, room)
             .failed
     }
 
-    /// The same within a budget: where that is spent and one more chain is on offer, the service pauses. Its queue
-    /// then stands open, and until `go_on` has answered `Done` no other call may be made with the window.
-    pub fn serve_some<I: Image, M: Allocator, C: Allocator + Copy>(
+    /// The same within a budget: where that is spent and one more chain is on offer, the service pauses, and goes on
+    /// with its next piece. In a pause its queue stands open, and no other call may be made with the window.
+    pub fn serve_piece<I: Image, M: Allocator, C: Allocator + Copy>(
         &self,
         mem: &mut GuestMemory<M>,
         window: &mut Window,
         cache: &mut SectorCache<I, C>,
+        stage: Stage,
         budget: Budget,
         room: &mut Chain,
     ) -> Piece
         requires sound { IsSound mem.old window.old }
         requires lies { IsWithin (I.disk cache.old).sector_count self.now.extent }
-        ensures served { BeginsTo (block_device self.now) budget 0 (queue_at 0 window.old) result.progress
+        ensures served { ServesTo stage (block_device self.now) budget 0 (queue_at 0 window.old) result.progress
             mem.old mem.new window.old window.new (extent_disk self.now.extent (I.disk cache.old))
             (extent_disk self.now.extent (I.disk cache.new)) }
         ensures failed { IsTrue result.failed ↔ ((I.disk cache.old).failures < (I.disk cache.new).failures) }
-        ensures rises { (I.disk cache.old).failures ≤ (I.disk cache.new).failures }
-        ensures outside { KeepsOutside self.now.extent (I.disk cache.old) (I.disk cache.new) }
+        ensures stays { StaysInExtent self.now.extent (I.disk cache.old) (I.disk cache.new) }
         ensures range { SameRange mem.old mem.new }
         ensures sound { IsSound mem.new window.new }
     {
-        let Some(queue) = window.queue(0) else {
+        let Some(queue) = window.queue(REQUESTQ) else {
             return NOTHING;
         };
-        let service = self.serve_queue(mem, queue, cache, budget, room);
-        Piece {
-            progress: show(window, service.left),
-            failed: service.failed,
-        }
-    }
-
-    /// Goes on with a service that paused.
-    pub fn go_on<I: Image, M: Allocator, C: Allocator + Copy>(
-        &self,
-        mem: &mut GuestMemory<M>,
-        window: &mut Window,
-        cache: &mut SectorCache<I, C>,
-        budget: Budget,
-        room: &mut Chain,
-    ) -> Piece
-        requires sound { IsSound mem.old window.old }
-        requires lies { IsWithin (I.disk cache.old).sector_count self.now.extent }
-        ensures served { GoesOnTo (block_device self.now) budget 0 (queue_at 0 window.old) result.progress
-            mem.old mem.new window.old window.new (extent_disk self.now.extent (I.disk cache.old))
-            (extent_disk self.now.extent (I.disk cache.new)) }
-        ensures failed { IsTrue result.failed ↔ ((I.disk cache.old).failures < (I.disk cache.new).failures) }
-        ensures rises { (I.disk cache.old).failures ≤ (I.disk cache.new).failures }
-        ensures outside { KeepsOutside self.now.extent (I.disk cache.old) (I.disk cache.new) }
-        ensures range { SameRange mem.old mem.new }
-        ensures sound { IsSound mem.new window.new }
-    {
-        let Some(queue) = window.queue(0) else {
-            return NOTHING;
-        };
-        let service = self.serve_open(mem, queue, cache, budget, room);
+        let service = self.serve_queue(mem, queue, cache, stage, budget, room);
         Piece {
             progress: show(window, service.left),
             failed: service.failed,

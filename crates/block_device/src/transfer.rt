@@ -2,12 +2,12 @@
 //! the cache straight into memory, what is written out of memory straight into the cache, and through one array where
 //! it lies in more than one segment. The first call of the image that fails is the last.
 
-ghost use Rattle.std.specs.Prelude.{◌+◌, ◌*◌, ◌^◌, ◌<◌, ◌≤◌, ◌≡◌, if◌then◌else◌, length, take, drop, All};
+ghost use Rattle.std.specs.Prelude.{◌+◌, ◌*◌, ◌^◌, ◌<◌, ◌≤◌, ◌≡◌, length, take, drop, All};
 ghost use Rattle.guest_memory.specs.Memory.{SameRange};
 ghost use Rattle.chain.specs.Buffers.{Within};
 ghost use Rattle.chain.specs.Bytes.{readable_of, writable_of};
 ghost use Rattle.block_device.specs.declared.request.Request.TheVariants.{Read, Write};
-ghost use Rattle.block_device.specs.Extent.{IsWithin, KeepsOutside, extent_disk, sector_len};
+ghost use Rattle.block_device.specs.Extent.{CallsWithin, IsWithin, extent_disk, sector_len};
 ghost use Rattle.block_device.specs.Request.{payload_of};
 ghost use Rattle.block_device.specs.Progress.{IsDone};
 
@@ -63,9 +63,7 @@ impl BlockDevice {
             (extent_disk self.now.extent (I.disk cache.old))
             (extent_disk self.now.extent (I.disk cache.new)) result.len result.status }
         ensures len { result.len ≤ sector_len * count }
-        ensures counted { (I.disk cache.new).failures ≡
-            (I.disk cache.old).failures + (if result.failed then 1 else 0) }
-        ensures outside { KeepsOutside self.now.extent (I.disk cache.old) (I.disk cache.new) }
+        ensures calls { CallsWithin self.now.extent result.failed (I.disk cache.old) (I.disk cache.new) }
         ensures range { SameRange mem.old mem.new }
     {
         for done in 0..count {
@@ -105,9 +103,7 @@ impl BlockDevice {
             (extent_disk self.now.extent (I.disk cache.old))
             (extent_disk self.now.extent (I.disk cache.new)) result.len result.status }
         ensures len { result.len ≡ 0 }
-        ensures counted { (I.disk cache.new).failures ≡
-            (I.disk cache.old).failures + (if result.failed then 1 else 0) }
-        ensures outside { KeepsOutside self.now.extent (I.disk cache.old) (I.disk cache.new) }
+        ensures calls { CallsWithin self.now.extent result.failed (I.disk cache.old) (I.disk cache.new) }
     {
         let mut gathered = [0; SECTOR_LEN as usize];
         for done in 0..count {

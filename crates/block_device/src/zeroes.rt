@@ -7,7 +7,7 @@ ghost use Rattle.chain.specs.Buffers.{Within};
 ghost use Rattle.chain.specs.Bytes.{readable_of};
 ghost use Rattle.block_device.specs.declared.request.Request.TheVariants.{Rejected, WriteZeroes};
 ghost use Rattle.block_device.specs.declared.request.RequestStatus.TheVariants.{IoError, Unsupported};
-ghost use Rattle.block_device.specs.Extent.{IsWithin, KeepsOutside, extent_disk};
+ghost use Rattle.block_device.specs.Extent.{CallsWithin, IsWithin, KeepsOutside, extent_disk};
 ghost use Rattle.block_device.specs.Progress.{IsDone, IsServable};
 ghost use Rattle.block_device.specs.Request.{payload_of, write_zeroes_request_of};
 ghost use Rattle.block_device.specs.Zeroes.{IsStopped, are_segments, has_known_flags, has_sectors_within, sectors_of, segment_at, segment_len, segment_of, segments_in, zeroed_sectors};
@@ -143,9 +143,7 @@ impl BlockDevice {
             (extent_disk self.now.extent (I.disk cache.old))
             (extent_disk self.now.extent (I.disk cache.new)) result.len result.status }
         ensures len { result.len ≡ 0 }
-        ensures counted { (I.disk cache.new).failures ≡
-            (I.disk cache.old).failures + (if result.failed then 1 else 0) }
-        ensures outside { KeepsOutside self.now.extent (I.disk cache.old) (I.disk cache.new) }
+        ensures calls { CallsWithin self.now.extent result.failed (I.disk cache.old) (I.disk cache.new) }
     {
         for index in 0..segments {
             let segment = WriteZeroesSegment::read(mem, chain, index);

@@ -13,11 +13,11 @@ use Rattle.chain.specs.Service.{Device, Ending, Refused, Site, IsReady, open_sit
 use Rattle.chain.proofs.Pieces.{CourseAlike, EndsAlikeBy, course_alike, end_alike, opened_to_end}
 use Rattle.chain.proofs.Simulating.{DoesAs, ServedAs, moved, service_as}
 use Rattle.mmio_window.specs.declared.queue.Queue.{Queue}
+use Rattle.mmio_window.specs.declared.stage.Stage.{Stage}
+use Rattle.mmio_window.specs.declared.stage.Stage.TheVariants.{First, Next}
 use Rattle.mmio_window.specs.Queue.{queue_kind}
 use Rattle.mmio_window.specs.Window.{WindowState}
-use Rattle.board.specs.declared.pause.Stage.{Stage}
-use Rattle.board.specs.declared.pause.Stage.TheVariants.{First, Next}
-use Rattle.board.specs.Pausing.{ServesTo, IsRefusedAt}
+use Rattle.mmio_window.specs.Pieces.{IsRefusedAt, ServesTo}
 
 module _ {S T : Type 0} (device : Device S) (other : Device T) (Alike : S → T → Type 0) (likewise : DoesAs device other Alike) (budget : Budget) where
   -- the other device pauses in the same way, and is left in a like state

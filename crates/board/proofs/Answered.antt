@@ -4,6 +4,7 @@ use Rattle.chain.specs.declared.budget.Budget.{Budget}
 use Rattle.chain.specs.declared.budget.Progress.TheVariants as progress
 use Rattle.chain.specs.Service.{Ending, Refused}
 use Rattle.mmio_window.specs.declared.device_kind.DeviceKind.{DeviceKind}
+use Rattle.mmio_window.specs.declared.stage.Stage.TheVariants.{First}
 use Rattle.mmio_window.specs.Serving.{Notified}
 use Rattle.mmio_window.specs.Window.{queue_at}
 use Rattle.mmio_window.proofs.Pieces.{notified_once}
@@ -14,7 +15,6 @@ use Rattle.board.specs.declared.event.Event.{Event}
 use Rattle.board.specs.declared.event.EventKind.{EventKind}
 use Rattle.board.specs.declared.event.EventKind.TheVariants.{Read, Write, MemRead, MemWrite, Input, Resize}
 use Rattle.board.specs.declared.pause.Service.TheVariants.{Transmit}
-use Rattle.board.specs.declared.pause.Stage.TheVariants.{First}
 use Rattle.board.specs.declared.pause.Turn.TheVariants.{Answered}
 use Rattle.board.specs.declared.reply.Reply.{Reply}
 use Rattle.board.specs.declared.reply.Reply.TheVariants.{Done}

@@ -6,6 +6,8 @@ use Rattle.chain.specs.declared.budget.Progress.{Progress}
 use Rattle.chain.specs.declared.budget.Progress.TheVariants.{More, Done}
 use Rattle.chain.specs.Service.{Site, open_site}
 use Rattle.mmio_window.specs.declared.queue.Queue.{Queue}
+use Rattle.mmio_window.specs.declared.stage.Stage.{Stage}
+use Rattle.mmio_window.specs.declared.stage.Stage.TheVariants.{First, Next}
 use Rattle.mmio_window.specs.Queue.{queue_kind}
 use Rattle.mmio_window.specs.Window.{WindowState}
 use Rattle.mmio_window.proofs.Pieces.{notified_once}
@@ -13,9 +15,7 @@ use Rattle.console_device.specs.Device.{receive}
 use Rattle.console_device.specs.Input.{IsLeft}
 use Rattle.console_device.proofs.Notified.{notified_left}
 use Rattle.console_device.proofs.Services.{serves_left, stop_state}
-use Rattle.board.specs.declared.pause.Stage.{Stage}
-use Rattle.board.specs.declared.pause.Stage.TheVariants.{First, Next}
-use Rattle.board.specs.Pausing.{ServesTo}
+use Rattle.mmio_window.specs.Pieces.{ServesTo}
 
 -- what a piece of the receive queue's service leaves pending is the end of what was
 piece_left : (stage : Stage) (budget : Budget) (queue : Option Queue) (progress : Progress) (m m' : Memory) (w w' : WindowState) (s s' : List ℕ)

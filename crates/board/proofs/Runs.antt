@@ -39,10 +39,6 @@ outside_at old event written new (Some s) step = step.outside
 pub step_outside : {A : Type 0} (old : World) (event : Event A) (written : Record A) (new : World) → Step old event written new → new.outside ≡ old.outside
 step_outside old event written new step = outside_at old event written new (slice_get old.slots event.slot) step
 
--- where the board handled an event
-pub handled_outside : {A : Type 0} {old : World} {event : Event A} {reply : Reply A} {block console : ℕ} {before after : List ℕ} {new : World} → Handles old event reply block console before after new → new.outside ≡ old.outside
-handled_outside {A} {old} {event} {reply} {block} {console} {before} {after} {new} h = step_outside old event _ new h.step
-
 -- and in a line
 pub line_outside : {A : Type 0} (old : World) (moves : List (Move A)) (new : World) → IsLine old moves new → new.outside ≡ old.outside
 line_outside old [] new line = ap (λ (w : World). w.outside) line

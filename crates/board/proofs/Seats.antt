@@ -23,9 +23,9 @@ use Rattle.board.specs.Machine.{block_irq, console_irq}
 use Rattle.board.specs.declared.pause.Turn.{Turn}
 use Rattle.board.specs.Image.{Health, bytes_of, health_of}
 use Rattle.board.specs.Pausing.{ServesTurn, TakesTurn, met_in}
-use Rattle.board.specs.Slot.{SlotState, BoardSlot, interrupt_words, state_of}
-use Rattle.board.specs.World.{World, SlotStep, MissingStep, Step, Serves, Handles, disturbed_of, extents_of, met_refusal, noted, seen}
-use Rattle.board.proofs.Outside.{outside_more, extent_apart}
+use Rattle.board.specs.Slot.{SlotState, BoardSlot, StaysInSlot, interrupt_words, state_of}
+use Rattle.board.specs.World.{BoardState, World, SlotStep, MissingStep, StaysInExtents, Step, Serves, Handles, disturbed_of, extents_of, met_refusal, noted, seen}
+use Rattle.board.proofs.Outside.{outside_kept, outside_more, extent_apart}
 
 -- a slot that is put back as it was changes nothing
 pub set_same : (slots : List BoardSlot) (h : ℕ) (slot new : BoardSlot) → slice_get slots h ≡ Some slot → new ≡ slot → slice_set slots h new ≡ slots
@@ -149,6 +149,36 @@ noted_set slots h slot new false here is =
 -- where the failures stay nothing is noted
 pub noted_none : (h failures : ℕ) (flags : List Bool) → flags ≡ noted h (nat_lt failures failures) flags
 noted_none h failures flags = let stays : nat_lt failures failures ≡ false = grind (arith, nat_tests) in rw stays refl
+
+-- what stays in one slot stays in the extents of all
+pub stays_in_extents : {I : Type 0} (disk : I → Disk) (slots : List BoardSlot) (old new : I) (h : ℕ) (slot after : BoardSlot)
+    → slice_get slots h ≡ Some slot → StaysInSlot slot after (disk old) (disk new)
+    → StaysInExtents disk (record { slots = slots; image = old }) (record { slots = slice_set slots h after; image = new })
+stays_in_extents disk slots old new h slot after here stays =
+    let extents = extents_of-set slots h slot after here stays.extent in
+    record {
+      told = λ tells. (outside_kept slot.extent (disk old).told (disk new).told tells stays.image.outside.told).tells;
+      outside = λ tells.
+          ap (λ es. outside_of es (bytes_of (disk new))) extents
+          ∙ sym (outside_more (extents_of slots) slot.extent (λ sector. in_some slots h slot here sector) 0 (bytes_of (disk old)) (bytes_of (disk new))
+          (outside_kept slot.extent (disk old).told (disk new).told tells stays.image.outside.told).outside);
+      extents = extents;
+      sectors = stays.image.outside.sectors;
+      rises = stays.image.rises;
+    }
+
+-- and what stays in two steps stays in both
+pub stays_still : {I : Type 0} (disk : I → Disk) (a b c : BoardState I) → StaysInExtents disk a b → StaysInExtents disk b c → StaysInExtents disk a c
+stays_still disk a b c p q = record {
+  told = λ tells. q.told (p.told tells);
+  outside = λ tells. q.outside (p.told tells) ∙ p.outside tells;
+  extents = q.extents ∙ p.extents;
+  sectors = q.sectors ∙ p.sectors;
+  rises = omega (arith, p.rises, q.rises);
+}
+
+pub stays_same : {I : Type 0} (disk : I → Disk) (board : BoardState I) → StaysInExtents disk board board
+stays_same disk board = record { told = λ tells. tells; outside = λ tells. refl; extents = refl; sectors = refl; rises = omega arith }
 
 -- A slot of the board took a turn, and left the image's bytes outside its own extent as they were: so the board
 -- took it.

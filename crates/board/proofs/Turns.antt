@@ -10,9 +10,11 @@ use Rattle.chain.specs.declared.budget.Progress.TheVariants as progress
 use Rattle.chain.specs.Service.{Given, Ending, Refused, Site}
 use Rattle.chain.proofs.Servicing.{refused_service}
 use Rattle.chain.proofs.Simulating.{DoesAs}
+use Rattle.mmio_window.specs.declared.stage.Stage.{Stage}
+use Rattle.mmio_window.specs.declared.stage.Stage.TheVariants.{First, Next}
 use Rattle.sector_cache.specs.Disk.{Disk, IsWhole}
 use Rattle.mmio_window.specs.declared.queue.Queue.{Queue}
-use Rattle.mmio_window.specs.Pieces.{FinishesWithin}
+use Rattle.mmio_window.specs.Pieces.{FinishesWithin, IsRefusedAt, ServesTo}
 use Rattle.mmio_window.specs.Queue.{queue_kind}
 use Rattle.mmio_window.specs.Window.{WindowState, queue_at}
 use Rattle.mmio_window.proofs.Pieces.{notified_once}
@@ -33,14 +35,12 @@ use Rattle.board.specs.declared.slot.window.Duty.TheVariants as duty
 use Rattle.board.specs.declared.pause.Pause.{Pause}
 use Rattle.board.specs.declared.pause.Service.{Service}
 use Rattle.board.specs.declared.pause.Service.TheVariants.{Block, Transmit}
-use Rattle.board.specs.declared.pause.Stage.{Stage}
-use Rattle.board.specs.declared.pause.Stage.TheVariants.{First, Next}
 use Rattle.board.specs.declared.pause.Turn.{Turn}
 use Rattle.board.specs.declared.pause.Turn.TheVariants.{Answered}
 use Rattle.board.specs.declared.reply.Reply.{Reply}
 use Rattle.board.specs.declared.reply.Reply.TheVariants.{Done, NoMemory}
 use Rattle.board.specs.Image.{Health, Tells, bytes_of, health_of, sectors_of, disk_with}
-use Rattle.board.specs.Pausing.{ServesTo, IsRefusedAt, IsBlockPiece, IsPiece, ComesTo, TurnsTo, Begins, ServesTurn, asked, asked_by, duty_of, readied, turn_of}
+use Rattle.board.specs.Pausing.{IsBlockPiece, IsPiece, ComesTo, TurnsTo, Begins, ServesTurn, asked, asked_by, duty_of, readied, turn_of}
 use Rattle.board.specs.Slot.{SlotState, BoardSlot, state_of}
 use Rattle.board.specs.Machine.{task_at, with_write}
 use Rattle.board.specs.Outcome.{Outcome as Came, replies, does}

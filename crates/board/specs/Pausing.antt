@@ -1,14 +1,14 @@
 -- An event whose service may pause: what each piece of the service comes to, for one slot.
 use Rattle.std.specs.Prelude.{◌≡◌, ◌≢◌, ◌⊎◌, ℕ, ◌<◌, ◌||◌, Bool, false, nat_lt, Option, Some, None, List, [], ◌++◌, slice_set}
 use Rattle.std.specs.List.{slice_get}
-use Rattle.guest_memory.specs.Memory.{Memory}
 use Rattle.chain.specs.declared.budget.Budget.{Budget}
 use Rattle.chain.specs.declared.budget.Progress.{Progress}
 use Rattle.chain.specs.declared.budget.Progress.TheVariants as progress
-use Rattle.chain.specs.Service.{Device, Refused}
-use Rattle.mmio_window.specs.declared.queue.Queue.{Queue}
-use Rattle.mmio_window.specs.Pieces.{BeginsTo, GoesOnTo, NotifiedWithin, FinishesWithin}
-use Rattle.mmio_window.specs.Window.{WindowState, queue_at}
+use Rattle.chain.specs.Service.{Device}
+use Rattle.mmio_window.specs.declared.stage.Stage.{Stage}
+use Rattle.mmio_window.specs.declared.stage.Stage.TheVariants.{First, Next}
+use Rattle.mmio_window.specs.Pieces.{IsRefusedAt, ServesTo}
+use Rattle.mmio_window.specs.Window.{queue_at}
 use Rattle.sector_cache.specs.Disk.{Disk}
 use Rattle.block_device.specs.Device.{block_device, exact_device}
 use Rattle.console_device.specs.Device.{receive, transmit, exact_transmit}
@@ -18,8 +18,6 @@ use Rattle.board.specs.declared.event.EventKind.TheVariants.{Write, Input}
 use Rattle.board.specs.declared.pause.Pause.{Pause}
 use Rattle.board.specs.declared.pause.Service.{Service}
 use Rattle.board.specs.declared.pause.Service.TheVariants.{Block, Receive, Transmit}
-use Rattle.board.specs.declared.pause.Stage.{Stage}
-use Rattle.board.specs.declared.pause.Stage.TheVariants.{First, Next}
 use Rattle.board.specs.declared.pause.Turn.{Turn}
 use Rattle.board.specs.declared.pause.Turn.TheVariants.{Answered, More}
 use Rattle.board.specs.declared.reply.Reply.{Reply}
@@ -33,20 +31,6 @@ use Rattle.board.specs.Task.{Task, Nothing, ServeBlock, ServeReceive, ServeTrans
 use Rattle.board.specs.World.{World, MayGive, lacks_memory, noted}
 
 -- ---- one piece
-
--- The first piece of a service within a budget, or one behind a pause, and whether more is to come.
-abbrev pub ServesTo : {State : Type 0} → Stage → Device State → Budget → ℕ → Option Queue → Progress → Memory → Memory → WindowState → WindowState → State → State → Type 0
-ServesTo First device budget q queue progress old new before after s s' =
-    BeginsTo device budget q queue progress old new before after s s'
-ServesTo Next device budget q queue progress old new before after s s' =
-    GoesOnTo device budget q queue progress old new before after s s'
-
--- one that ends since there is no memory for the chain on offer
-abbrev pub IsRefusedAt : {State : Type 0} → Stage → Device State → Budget → ℕ → Option Queue → Memory → Memory → WindowState → WindowState → State → State → Type 0
-IsRefusedAt First device budget q queue old new before after s s' =
-    NotifiedWithin device budget q queue Refused old new before after s s'
-IsRefusedAt Next device budget q queue old new before after s s' =
-    FinishesWithin device budget q queue Refused old new before after s s'
 
 -- A piece of the block device's service: its window, the memory and the guest's sectors may change.
 pub record IsBlockPiece (device : Device Disk) (stage : Stage) (budget : Budget) (progress : Progress) (old : SlotState) (before after : Health) (new : SlotState) (output : List ℕ) : Type 0 where

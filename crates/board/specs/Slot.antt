@@ -1,13 +1,15 @@
 -- A slot: what its guest can see, and what the board keeps of it.
-use Rattle.std.specs.Prelude.{◌≡◌, ℕ, ◌+◌, Bool, false, if◌then◌else◌, List, [], length, ◌≤◌}
+use Rattle.std.specs.Prelude.{◌≡◌, ℕ, ◌+◌, Bool, false, if◌then◌else◌, nat_lt, List, [], length, ◌≤◌}
 use Rattle.guest_memory.specs.Memory.{Memory, SameRange, zeroed}
 use Rattle.negotiation.specs.Features.{block_seg_max, block_ro, block_blk_size, block_flush, block_write_zeroes, console_size, console_emerg_write, indirect_desc, event_idx, version_1, ring_packed, notification_data}
 use Rattle.mmio_window.specs.declared.device_kind.DeviceKind.TheVariants.{Block, Console}
 use Rattle.mmio_window.specs.Interrupts.{interrupt_bits}
 use Rattle.mmio_window.specs.Soundness.{IsSound}
 use Rattle.mmio_window.specs.Window.{WindowState, fresh_window}
+use Rattle.sector_cache.specs.Disk.{Disk}
 use Rattle.sector_cache.specs.Sector.{extent_of}
 use Rattle.block_device.specs.declared.extent.Extent.{Extent}
+use Rattle.block_device.specs.Extent.{StaysInExtent}
 use Rattle.board.specs.declared.spec.SlotSpec.{SlotSpec}
 
 -- All that one guest can see: its memory, the bytes of its extent of the image, whether its block
@@ -51,6 +53,17 @@ state_of bytes slot = record {
   cols = slot.cols;
   rows = slot.rows;
 }
+
+-- An event of a slot stays in it: of the image it reaches the slot's extent, which lies where it did.
+pub record StaysInSlot (old new : BoardSlot) (before after : Disk) : Type 0 where
+  pub extent : new.extent ≡ old.extent
+  pub image : StaysInExtent old.extent before after
+
+-- the same of one whose refusal is to be noted: this is whether a call of the image failed
+pub record IsUnnoted (old new : BoardSlot) (before after : Disk) (failed : Bool) : Type 0 where
+  pub stays : StaysInSlot old new before after
+  pub disturbed : new.disturbed ≡ old.disturbed
+  pub counted : failed ≡ nat_lt before.failures after.failures
 
 -- All that a block request doesn't reach stays: the console's window, pending input and size, whether the disk may be
 -- written, its identity, where the memory lies and how large it is, and how many bytes the disk has.

@@ -4,6 +4,8 @@ use Rattle.chain.specs.declared.budget.Budget.{Budget}
 use Rattle.chain.specs.declared.budget.Progress.{Progress}
 use Rattle.chain.specs.declared.budget.Progress.TheVariants as progress
 use Rattle.chain.specs.Service.{Ending, Refused}
+use Rattle.mmio_window.specs.declared.stage.Stage.{Stage}
+use Rattle.mmio_window.specs.declared.stage.Stage.TheVariants.{First, Next}
 use Rattle.mmio_window.specs.Serving.{Notified}
 use Rattle.mmio_window.specs.Window.{queue_at}
 use Rattle.console_device.specs.Device.{transmit_fitting, transmit_within}
@@ -12,14 +14,13 @@ use Rattle.board.specs.declared.event.EventKind.TheVariants.{Write}
 use Rattle.board.specs.declared.pause.Pause.{Pause}
 use Rattle.board.specs.declared.pause.Service.{Service}
 use Rattle.board.specs.declared.pause.Service.TheVariants.{Transmit}
-use Rattle.board.specs.declared.pause.Stage.{Stage}
-use Rattle.board.specs.declared.pause.Stage.TheVariants.{First, Next}
 use Rattle.board.specs.declared.pause.Turn.{Turn}
 use Rattle.board.specs.declared.pause.Turn.TheVariants.{Answered, More}
 use Rattle.board.specs.declared.reply.Reply.{Reply}
 use Rattle.board.specs.declared.reply.Reply.TheVariants.{Done, NoMemory}
 use Rattle.board.specs.Machine.{IsNext, task_at, with_write}
-use Rattle.board.specs.Pausing.{IsRefusedAt, ServesTo, asked, readied, reply_of}
+use Rattle.mmio_window.specs.Pieces.{IsRefusedAt, ServesTo}
+use Rattle.board.specs.Pausing.{asked, readied, reply_of}
 use Rattle.board.specs.Slot.{SlotState}
 use Rattle.board.specs.Task.{Task, ServeTransmit, PutOut}
 

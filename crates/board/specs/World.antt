@@ -1,5 +1,5 @@
 -- The whole board as it can be seen from outside, and what one event may do to it.
-use Rattle.std.specs.Prelude.{◌≡◌, ◌≢◌, ◌⊎◌, ℕ, ◌<◌, ◌||◌, Bool, true, false, nat_lt, if◌then◌else◌, IsTrue, ⊤, Some, List, [], ◌++◌, map, slice_set, MatchOption}
+use Rattle.std.specs.Prelude.{◌≡◌, ◌≢◌, ◌⊎◌, ℕ, ◌<◌, ◌≤◌, ◌||◌, Bool, true, false, nat_lt, if◌then◌else◌, IsTrue, ⊤, Some, List, [], ◌++◌, map, slice_set, MatchOption}
 use Rattle.std.specs.List.{slice_get}
 use Rattle.guest_memory.specs.Memory.{Inside, Memory, is_inside}
 use Rattle.chain.specs.Service.{Site, Refused, IsRefusedService}
@@ -18,7 +18,7 @@ use Rattle.board.specs.declared.reply.Reply.{Reply}
 use Rattle.board.specs.declared.reply.Reply.TheVariants.{BadSlot, NoMemory}
 use Rattle.board.specs.declared.reply.Record.{Record}
 use Rattle.board.specs.Extent.{outside_of}
-use Rattle.board.specs.Image.{Health, bytes_of, health_of}
+use Rattle.board.specs.Image.{Health, Tells, bytes_of, health_of}
 use Rattle.board.specs.Machine.{task_at, with_write, Gives, record_of}
 use Rattle.board.specs.Outcome.{Outcome, replies, IsDetermined}
 use Rattle.board.specs.Slot.{SlotState, BoardSlot, state_of}
@@ -61,6 +61,15 @@ seen slots disk = record {
 -- what can be seen of a board
 abbrev pub world_of : {I : Type 0} → (I → Disk) → BoardState I → World
 world_of disk board = seen board.slots (disk board.image)
+
+-- What events do to a board stays in its slots' extents: an image that tells its bytes goes on telling them, and those
+-- outside all extents stay; the extents lie where they did, in an image of the same size, and its failures never fall.
+pub record StaysInExtents {I : Type 0} (disk : I → Disk) (old new : BoardState I) : Type 0 where
+  pub told : Tells (disk old.image) → Tells (disk new.image)
+  pub outside : Tells (disk old.image) → (world_of disk new).outside ≡ (world_of disk old).outside
+  pub extents : extents_of new.slots ≡ extents_of old.slots
+  pub sectors : (disk new.image).sector_count ≡ (disk old.image).sector_count
+  pub rises : (disk old.image).failures ≤ (disk new.image).failures
 
 -- ---- one slot
 

@@ -7,7 +7,7 @@ ghost use Rattle.board.specs.Fault.{IsAccepted, Refuses, cache_refusal};
 ghost use Rattle.board.specs.Line.{IsRun, HasInterruptWords, KeepsIdle, events_done};
 ghost use Rattle.board.specs.Slot.{BoardSlot, opened, state_of};
 ghost use Rattle.board.specs.Image.{Tells, bytes_of};
-ghost use Rattle.board.specs.World.{Handles, Answers, KeepsOthers, MayLackMemory, disturbed_of, extents_of, met_refusal, noted, world_of};
+ghost use Rattle.board.specs.World.{Handles, Answers, KeepsOthers, MayLackMemory, StaysInExtents, disturbed_of, met_refusal, noted, world_of};
 ghost use Rattle.board.specs.Within.{TakesWithin};
 
 mod access;
@@ -117,13 +117,7 @@ impl<I: Image, A: Allocator + Copy> Board<I, A> {
             (O.bytes out.old) (O.bytes out.new) result }
         ensures limit { O.limit out.new ≡ O.limit out.old }
 
-        // the image goes on telling its bytes, and those outside all extents stay
-        ensures told { Tells (I.disk self.old.image) → Tells (I.disk self.new.image) }
-        ensures outside { Tells (I.disk self.old.image) →
-            (world_of I.disk self.new).outside ≡ (world_of I.disk self.old).outside }
-        ensures extents { extents_of self.new.slots ≡ extents_of self.old.slots }
-        ensures sectors { (I.disk self.new.image).sector_count ≡ (I.disk self.old.image).sector_count }
-        ensures rises { (I.disk self.old.image).failures ≤ (I.disk self.new.image).failures }
+        ensures stays { StaysInExtents I.disk self.old self.new }
 
         // a refusal, of memory or of the image, is noted for the event's slot
         ensures noted { disturbed_of self.new.slots ≡ noted event.now.slot
@@ -157,14 +151,7 @@ impl<I: Image, A: Allocator + Copy> Board<I, A> {
         ensures others { KeepsIdle (events_done result events.now) self.old.slots self.new.slots }
         ensures words { All HasInterruptWords records.old.items →
             All HasInterruptWords records.new.items }
-
-        // the image goes on telling its bytes, and those outside all extents stay
-        ensures told { Tells (I.disk self.old.image) → Tells (I.disk self.new.image) }
-        ensures outside { Tells (I.disk self.old.image) →
-            (world_of I.disk self.new).outside ≡ (world_of I.disk self.old).outside }
-        ensures extents { extents_of self.new.slots ≡ extents_of self.old.slots }
-        ensures sectors { (I.disk self.new.image).sector_count ≡ (I.disk self.old.image).sector_count }
-        ensures rises { (I.disk self.old.image).failures ≤ (I.disk self.new.image).failures }
+        ensures stays { StaysInExtents I.disk self.old self.new }
     {
         for (done, event) in events.iter().enumerate() {
             if records.reserve(1).is_err() {
@@ -200,12 +187,7 @@ impl<I: Image, A: Allocator + Copy> Board<I, A> {
         ensures limit { O.limit out.new ≡ O.limit out.old }
         ensures block_word { result.block_irq ≤ 3 }
         ensures console_word { result.console_irq ≤ 3 }
-        ensures told { Tells (I.disk self.old.image) → Tells (I.disk self.new.image) }
-        ensures outside { Tells (I.disk self.old.image) →
-            (world_of I.disk self.new).outside ≡ (world_of I.disk self.old).outside }
-        ensures extents { extents_of self.new.slots ≡ extents_of self.old.slots }
-        ensures sectors { (I.disk self.new.image).sector_count ≡ (I.disk self.old.image).sector_count }
-        ensures rises { (I.disk self.old.image).failures ≤ (I.disk self.new.image).failures }
+        ensures stays { StaysInExtents I.disk self.old self.new }
         ensures noted { disturbed_of self.new.slots ≡ noted slot
             (met_refusal result.reply (I.disk self.old.image).failures (I.disk self.new.image).failures)
             (disturbed_of self.old.slots) }

@@ -36,8 +36,8 @@ pub use laws::{
     identities_stay, nothing_else_is_seen, one_outcome, one_outcome_within, refusals_are_noted,
     two_runs_are_one, want_of_memory_changes_nothing, want_of_memory_keeps_the_rest,
 };
-pub use mmio_window::DeviceKind;
-pub use pause::{Pause, Service, Stage, Turn};
+pub use mmio_window::{DeviceKind, Stage};
+pub use pause::{Pause, Service, Turn};
 pub use reply::{Record, Reply, RunStop};
 pub use sector_cache::{CacheFault, Image, ImageError, ImageFault, MemoryImage, Refused};
 pub use spec::SlotSpec;

@@ -57,12 +57,3 @@ pub enum Turn<A: Allocator = Global> {
     /// Its service pauses, and goes on later.
     More(Pause),
 }
-
-/// Which piece of a service is served.
-#[derive(Clone, Copy, Debug, PartialEq, Eq)]
-pub enum Stage {
-    /// The first one, which opens the queue.
-    First,
-    /// One behind a pause.
-    Next,
-}

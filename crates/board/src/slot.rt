@@ -5,13 +5,13 @@
 //! those of its devices' windows, `service` serves their queues, and `console` is what is done to the console
 //! from outside.
 
-ghost use Rattle.std.specs.Prelude.{◌≡◌, ◌≢◌, ◌<◌, ◌≤◌, ◌||◌, ℕ, List, All, map, nat_lt, Some, IfOk};
-ghost use Rattle.block_device.specs.Extent.{IsWithin, KeepsOutside};
+ghost use Rattle.std.specs.Prelude.{◌≡◌, ◌≢◌, ◌<◌, ◌≤◌, ◌||◌, ℕ, List, All, map, Some, IfOk};
+ghost use Rattle.block_device.specs.Extent.{IsWithin};
 ghost use Rattle.board.specs.Fault.{IsMemory};
 ghost use Rattle.board.specs.Image.{Tells, bytes_of, health_of};
 ghost use Rattle.board.specs.Lending.{LendsBytes};
 ghost use Rattle.board.specs.Pausing.{Begins, GoesOn, HasLimit, ServesTurn, lacks_memory_in, met_in};
-ghost use Rattle.board.specs.Slot.{interrupt_words, opened, state_of};
+ghost use Rattle.board.specs.Slot.{IsUnnoted, StaysInSlot, interrupt_words, opened, state_of};
 ghost use Rattle.board.specs.World.{MayLackMemory};
 ghost use Rattle.board.specs.Within.{BeginsWithin, GoesOnWithin};
 ghost use Rattle.board.specs.declared.pause.Pause.{Pause};
@@ -27,14 +27,14 @@ mod window;
 
 use crate::event::EventKind;
 use crate::features;
-use crate::pause::{Pause, Stage, Turn};
+use crate::pause::{Pause, Turn};
 use crate::reply::Reply;
 use crate::spec::SlotSpec;
 use block_device::BlockDevice;
 use chain::{Budget, Chain};
 use console_device::{ConsoleDevice, Outlet};
 use guest_memory::GuestMemory;
-use mmio_window::{DeviceKind, Window};
+use mmio_window::{DeviceKind, Stage, Window};
 use sector_cache::{Image, SectorCache};
 use std::alloc::{AllocError, Allocator, Global};
 use std::marker::Model;
@@ -127,11 +127,7 @@ impl<A: Allocator + Copy> Slot<A> {
         ensures limit { O.limit out.new ≡ O.limit out.old }
         ensures noted { self.new.disturbed ≡ (self.old.disturbed ||
             met_in result (I.disk cache.old).failures (I.disk cache.new).failures) }
-
-        // the failures never fall, and the image stays outside the slot's extent
-        ensures rises { (I.disk cache.old).failures ≤ (I.disk cache.new).failures }
-        ensures outside { KeepsOutside self.old.extent (I.disk cache.old) (I.disk cache.new) }
-        ensures extent { self.new.extent ≡ self.old.extent }
+        ensures stays { StaysInSlot self.old self.new (I.disk cache.old) (I.disk cache.new) }
 
         // a slot that is there is never said to be missing, and what is refused changes nothing
         ensures limited { (next : Pause) → result ≡ Turn.More next → HasLimit budget }
@@ -165,9 +161,7 @@ impl<A: Allocator + Copy> Slot<A> {
         ensures limit { O.limit out.new ≡ O.limit out.old }
         ensures noted { self.new.disturbed ≡ (self.old.disturbed ||
             met_in result (I.disk cache.old).failures (I.disk cache.new).failures) }
-        ensures rises { (I.disk cache.old).failures ≤ (I.disk cache.new).failures }
-        ensures outside { KeepsOutside self.old.extent (I.disk cache.old) (I.disk cache.new) }
-        ensures extent { self.new.extent ≡ self.old.extent }
+        ensures stays { StaysInSlot self.old self.new (I.disk cache.old) (I.disk cache.new) }
     {
         let answer = self.serve_piece(pause, Stage::Next, budget, cache, out);
         self.note(answer)
@@ -207,12 +201,7 @@ impl<A: Allocator + Copy> Slot<A> {
             (state_of (bytes_of (I.disk cache.new)) self.new)
             (O.bytes out.old) (O.bytes out.new) result.turn }
         ensures limit { O.limit out.new ≡ O.limit out.old }
-        ensures failed { result.failed ≡
-            nat_lt (I.disk cache.old).failures (I.disk cache.new).failures }
-        ensures rises { (I.disk cache.old).failures ≤ (I.disk cache.new).failures }
-        ensures outside { KeepsOutside self.old.extent (I.disk cache.old) (I.disk cache.new) }
-        ensures extent { self.new.extent ≡ self.old.extent }
-        ensures disturbed { self.new.disturbed ≡ self.old.disturbed }
+        ensures unnoted { IsUnnoted self.old self.new (I.disk cache.old) (I.disk cache.new) result.failed }
         ensures limited { (next : Pause) → result.turn ≡ Turn.More next → HasLimit budget }
         ensures there { result.turn ≢ Turn.Answered Reply.BadSlot }
         ensures bad_range { result.turn ≡ Turn.Answered Reply.BadRange → self.new ≡ self.old }

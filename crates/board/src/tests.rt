@@ -4,7 +4,7 @@
 ghost use Rattle.std.specs.Prelude.{◌<◌, length, IfErr};
 
 mod disturbed;
-mod driver;
+mod guest;
 mod identities;
 mod long_read;
 mod made;

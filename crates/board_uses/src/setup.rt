@@ -45,7 +45,7 @@ pub fn two_guests<A: Allocator + Copy>(
     Board::new(alloc, &guests, disk, CACHED_SECTORS)
 }
 
-/// What whoever starts a machine can do about a refusal.
+/// What a user who starts a machine can do about a refusal.
 pub fn advice(why: BoardFault) -> &'static str {
     match why {
         BoardFault::NoSlots | BoardFault::TooManySlots => "a board has 1 to 64 guests",

@@ -14,7 +14,7 @@ const LAST: i32 = 2;
 /// Takes the numbers of the standard streams that were closed at start, so that no file that is opened later gets one,
 /// and with it what is meant for the stream. A stream that was closed stays as one: a folder that is open to be read
 /// gives and takes no bytes. The answer is open under the lowest number that was free behind them.
-pub fn hold(rt: &HostRuntime) -> io::Result<File>
+pub(crate) fn hold(rt: &HostRuntime) -> io::Result<File>
     ensures behind { IfOk result (λ file. pos 2 <ℤ file_raw_fd file) }
 {
     for _stream in 0..=LAST + 1 {

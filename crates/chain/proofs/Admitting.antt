@@ -1,5 +1,5 @@
 -- Which buffers may stand behind others: one by one, and all at once.
-use Rattle.std.proofs.Common.{◌≡◌, ◌+◌, ◌^◌, List, [], ◌∷◌, ◌++◌, length, refl, inl, inr, ◌⊎◌, arith, append_assoc, length-append}
+use Rattle.std.proofs.Common.{◌≡◌, ◌+◌, ◌^◌, List, [], ◌∷◌, ◌++◌, length, refl, sym, ◌∙◌, ◌<◌, ◌≤◌, inl, inr, ◌⊎◌, arith, append_assoc, length-append}
 use Rattle.std.specs.Prelude.{All}
 use Rattle.std.proofs.lemmas.Bool.{cases_lt}
 use Rattle.std.proofs.lemmas.List.{length_push, append-nil}
@@ -70,45 +70,35 @@ module _ (m : Memory) where
   Admits-Refuses buffers b Joined a r = r
   Admits-Refuses buffers b NoIndirect a r = r
 
-  -- a buffer is refused for one cause
+  -- a buffer is refused for one cause: which one hangs on these two tests
+  abbrev cause : (b : Buffer) (buffers : List Buffer) → Within m b ⊎ (¬ Within m b) → (length buffers < 256) ⊎ (256 ≤ length buffers) → Fault
+  cause b buffers (inr outside) room = Range
+  cause b buffers (inl inside) (inr full) = TooMany
+  cause b buffers (inl inside) (inl room) = TooLong
+
+  is_cause : (buffers : List Buffer) (b : Buffer) (f : Fault) (inside : Within m b ⊎ (¬ Within m b)) (room : (length buffers < 256) ⊎ (256 ≤ length buffers))
+      → Refuses m buffers b f → f ≡ cause b buffers inside room
+  is_cause buffers b Range (inr outside) room r = refl
+  is_cause buffers b Range (inl inside) room r = absurd (r inside)
+  is_cause buffers b TooMany (inr outside) room r = absurd (outside r.0)
+  is_cause buffers b TooMany (inl inside) (inr full) r = refl
+  is_cause buffers b TooMany (inl inside) (inl room) r = absurd (omega (arith, r.1, room))
+  is_cause buffers b TooLong (inr outside) room r = absurd (outside r.0)
+  is_cause buffers b TooLong (inl inside) (inr full) r = absurd (omega (arith, r.1, full))
+  is_cause buffers b TooLong (inl inside) (inl room) r = refl
+  is_cause buffers b Jump inside room r = absurd r
+  is_cause buffers b Index inside room r = absurd r
+  is_cause buffers b Loop inside room r = absurd r
+  is_cause buffers b Table inside room r = absurd r
+  is_cause buffers b Nested inside room r = absurd r
+  is_cause buffers b Joined inside room r = absurd r
+  is_cause buffers b NoIndirect inside room r = absurd r
+
   pub Refuses-unique : (buffers : List Buffer) (b : Buffer) (f g : Fault) → Refuses m buffers b f → Refuses m buffers b g → f ≡ g
-  Refuses-unique buffers b Jump g r s = absurd r
-  Refuses-unique buffers b Index g r s = absurd r
-  Refuses-unique buffers b Loop g r s = absurd r
-  Refuses-unique buffers b TooMany Jump r s = absurd s
-  Refuses-unique buffers b TooMany Index r s = absurd s
-  Refuses-unique buffers b TooMany Loop r s = absurd s
-  Refuses-unique buffers b TooMany TooMany r s = refl
-  Refuses-unique buffers b TooMany Table r s = absurd s
-  Refuses-unique buffers b TooMany Nested r s = absurd s
-  Refuses-unique buffers b TooMany Joined r s = absurd s
-  Refuses-unique buffers b TooMany NoIndirect r s = absurd s
-  Refuses-unique buffers b TooMany Range r s = absurd (s r.0)
-  Refuses-unique buffers b TooMany TooLong r s = absurd (omega (arith, r.1, s.1))
-  Refuses-unique buffers b Table g r s = absurd r
-  Refuses-unique buffers b Nested g r s = absurd r
-  Refuses-unique buffers b Joined g r s = absurd r
-  Refuses-unique buffers b NoIndirect g r s = absurd r
-  Refuses-unique buffers b Range Jump r s = absurd s
-  Refuses-unique buffers b Range Index r s = absurd s
-  Refuses-unique buffers b Range Loop r s = absurd s
-  Refuses-unique buffers b Range TooMany r s = absurd (r s.0)
-  Refuses-unique buffers b Range Table r s = absurd s
-  Refuses-unique buffers b Range Nested r s = absurd s
-  Refuses-unique buffers b Range Joined r s = absurd s
-  Refuses-unique buffers b Range NoIndirect r s = absurd s
-  Refuses-unique buffers b Range Range r s = refl
-  Refuses-unique buffers b Range TooLong r s = absurd (r s.0)
-  Refuses-unique buffers b TooLong Jump r s = absurd s
-  Refuses-unique buffers b TooLong Index r s = absurd s
-  Refuses-unique buffers b TooLong Loop r s = absurd s
-  Refuses-unique buffers b TooLong TooMany r s = absurd (omega (arith, r.1, s.1))
-  Refuses-unique buffers b TooLong Table r s = absurd s
-  Refuses-unique buffers b TooLong Nested r s = absurd s
-  Refuses-unique buffers b TooLong Joined r s = absurd s
-  Refuses-unique buffers b TooLong NoIndirect r s = absurd s
-  Refuses-unique buffers b TooLong Range r s = absurd (s r.0)
-  Refuses-unique buffers b TooLong TooLong r s = refl
+  Refuses-unique buffers b f g r s =
+      let inside = inside_cases m b.segment.addr b.segment.len in
+      let room = cases_lt (length buffers) 256 in
+      is_cause buffers b f inside room r ∙ sym (is_cause buffers b g inside room s)
 
   -- the same buffer under another name
   pub Refuses-at : (buffers : List Buffer) (b c : Buffer) (f : Fault) → b ≡ c → Refuses m buffers b f → Refuses m buffers c f

@@ -31,41 +31,35 @@ starts_push old starts b s many is before i d h =
 start_behind : (old : List Buffer) (r w : ℕ) → r ≡ len_of false old → w ≡ len_of true old → record { readable = r; writable = w } ≡ start_at old (length old)
 start_behind old r w f t = rw (f, t, take_all (length old) old (omega arith)) refl
 
--- one more buffer of either direction
-pub held_writable : (old same new : List Buffer) (starts kept more : List Start) (r w addr len : ℕ) (flag : Bool) → IsHeld old starts r w → same ≡ old → kept ≡ starts → flag ≡ true
+-- one more buffer, of either direction
+held_pushed : (old same new : List Buffer) (starts kept more : List Start) (r w r' w' addr len : ℕ) (flag : Bool) → IsHeld old starts r w → same ≡ old → kept ≡ starts
     → new ≡ same ++ buffer_of addr len flag ∷ [] → more ≡ kept ++ record { readable = r; writable = w } ∷ []
-    → r + w + len < 2 ^ 32 → addr + len ≤ 2 ^ 64 → IsHeld new more r (w + len)
-held_writable old same new starts kept more r w addr len flag held s k f n o fits below =
-    let e : new ≡ old ++ buffer_of addr len true ∷ [] = rw (← s, ← f) n in
-    let b : Buffer = buffer_of addr len true in
+    → r' ≡ r + len_of false (buffer_of addr len flag ∷ []) → w' ≡ w + len_of true (buffer_of addr len flag ∷ []) → r' + w' ≡ r + w + len
+    → r + w + len < 2 ^ 32 → addr + len ≤ 2 ^ 64 → IsHeld new more r' w'
+held_pushed old same new starts kept more r w r' w' addr len flag held s k n o readable writable all fits below =
+    let b : Buffer = buffer_of addr len flag in
+    let e : new ≡ old ++ b ∷ [] = rw (← s) n in
     let t = sum_by_push (λ (b : Buffer). b.segment.len) old b in
     let x = len_of-append false old (b ∷ []) in
     let y = len_of-append true old (b ∷ []) in
     rw (e, o, k) (record {
-      readable_is = omega (arith, x);
-      writable_is = omega (arith, y);
+      readable_is = omega (arith, x, readable, held.readable_is);
+      writable_is = omega (arith, y, writable, held.writable_is);
       as_many = omega (arith, length_push starts (record { readable = r; writable = w }), length_push old b, held.as_many);
       starts_are = starts_push old starts b (record { readable = r; writable = w }) held.as_many (start_behind old r w held.readable_is held.writable_is) held.starts_are;
-      total_is = omega (arith, t);
-      fits = omega arith;
+      total_is = omega (arith, t, all, held.total_is);
+      fits = omega (arith, all, fits);
       addressable = All-push (λ (b : Buffer). b.segment.addr + b.segment.len ≤ 2 ^ 64) old b held.addressable below;
     })
+
+pub held_writable : (old same new : List Buffer) (starts kept more : List Start) (r w addr len : ℕ) (flag : Bool) → IsHeld old starts r w → same ≡ old → kept ≡ starts → flag ≡ true
+    → new ≡ same ++ buffer_of addr len flag ∷ [] → more ≡ kept ++ record { readable = r; writable = w } ∷ []
+    → r + w + len < 2 ^ 32 → addr + len ≤ 2 ^ 64 → IsHeld new more r (w + len)
+held_writable old same new starts kept more r w addr len flag held s k f n o fits below =
+    held_pushed old same new starts kept more r w r (w + len) addr len true held s k (rw (← f) n) o (omega arith) (omega arith) (omega arith) fits below
 
 pub held_readable : (old same new : List Buffer) (starts kept more : List Start) (r w addr len : ℕ) (flag : Bool) → IsHeld old starts r w → same ≡ old → kept ≡ starts → flag ≡ false
     → new ≡ same ++ buffer_of addr len flag ∷ [] → more ≡ kept ++ record { readable = r; writable = w } ∷ []
     → r + w + len < 2 ^ 32 → addr + len ≤ 2 ^ 64 → IsHeld new more (r + len) w
 held_readable old same new starts kept more r w addr len flag held s k f n o fits below =
-    let e : new ≡ old ++ buffer_of addr len false ∷ [] = rw (← s, ← f) n in
-    let b : Buffer = buffer_of addr len false in
-    let t = sum_by_push (λ (b : Buffer). b.segment.len) old b in
-    let x = len_of-append false old (b ∷ []) in
-    let y = len_of-append true old (b ∷ []) in
-    rw (e, o, k) (record {
-      readable_is = omega (arith, x);
-      writable_is = omega (arith, y);
-      as_many = omega (arith, length_push starts (record { readable = r; writable = w }), length_push old b, held.as_many);
-      starts_are = starts_push old starts b (record { readable = r; writable = w }) held.as_many (start_behind old r w held.readable_is held.writable_is) held.starts_are;
-      total_is = omega (arith, t);
-      fits = omega arith;
-      addressable = All-push (λ (b : Buffer). b.segment.addr + b.segment.len ≤ 2 ^ 64) old b held.addressable below;
-    })
+    held_pushed old same new starts kept more r w (r + len) w addr len false held s k (rw (← f) n) o (omega arith) (omega arith) (omega arith) fits below

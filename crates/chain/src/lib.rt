@@ -15,9 +15,11 @@ mod laws;
 mod segment;
 #[cfg(test)]
 mod tests;
+mod virtqueue;
 
 pub use budget::{Budget, Progress};
 pub use buffers::Chain;
 pub use fault::Fault;
 pub use laws::{a_budget_is_kept, later_byte_stands, one_by_one, one_refusal};
 pub use segment::{Buffer, Segment};
+pub use virtqueue::Virtqueue;

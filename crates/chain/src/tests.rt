@@ -1,11 +1,8 @@
 //! Values from outside: the limits of a chain, counted by hand, and which byte stands at which place.
 
-ghost use Rattle.std.specs.Prelude.{◌≡◌, ◌<◌, ℕ, All, IfOk, List, drop, length, min, replicate};
-ghost use Rattle.std.specs.Borrow.{sem};
-ghost use Rattle.guest_memory.specs.Memory.{part_of, put};
-ghost use Rattle.guest_memory.specs.Lending.{LendsPart};
+ghost use Rattle.std.specs.Prelude.{◌≡◌, ◌<◌, All, IfOk, drop, length, replicate};
 ghost use Rattle.chain.specs.Buffers.{Good, Within};
-ghost use Rattle.chain.specs.Bytes.{scatter, writable_of, writable_rest};
+ghost use Rattle.chain.specs.Bytes.{scatter, writable_of};
 
 use crate::{Buffer, Chain, Fault, Segment};
 use guest_memory::GuestMemory;
@@ -189,32 +186,8 @@ fn empty_segments_are_passed_over(rt: HostRuntime) -> Result<(), Fail> {
     Ok(())
 }
 
-/// `write_part` with memory in front, where a proof looks for what is lent. Proved by hand, from the contract of
-/// `write_part` alone.
-fn lent_part<'m, A: Allocator>(
-    mem: &'m mut GuestMemory<A>,
-    chain: &Chain,
-    place: u64,
-    most: u64,
-) -> &'m mut [u8]
-    requires inside { All (Within mem.old) chain.now }
-    requires in_list { place < length (writable_of chain.now) }
-    requires some { 0 < most }
-    ensures* writes_back { sem 𝓛 (LendsPart A.row A.Allocator mem.entry
-        (writable_rest chain.now place).addr result) }
-    ensures value { result.now ≡
-        part_of mem.old (writable_rest chain.now place).addr (length result.now) }
-    ensures len { length result.now ≡ min most (writable_rest chain.now place).len }
-    ensures some { 0 < length result.now }
-    ensures listed { (bytes : List ℕ) → length bytes ≡ length result.now →
-        put mem.old (writable_rest chain.now place).addr bytes ≡
-        scatter mem.old (drop place (writable_of chain.now)) bytes }
-{
-    chain.write_part(mem, place, most)
-}
-
 /// Fills the part that is lent from a place on, and answers how long it is. That memory then has the byte at
-/// these places of the list, and nothing else changed, is proved from the contract of `write_part` alone.
+/// these places of the list, and nothing else changed, is proved from what `lend` and `write_part` ensure alone.
 fn fill_part<A: Allocator>(
     mem: &mut GuestMemory<A>,
     chain: &Chain,
@@ -228,7 +201,7 @@ fn fill_part<A: Allocator>(
     ensures { mem.new ≡
         scatter mem.old (drop place (writable_of chain.now)) (replicate result byte) }
 {
-    let part = lent_part(mem, chain, place, most);
+    let part = Chain::lend(mem, chain, place, most);
     part.fill(byte);
     part.len()
 }

@@ -10,18 +10,19 @@ use Rattle.chain.specs.declared.budget.Progress.TheVariants.{Done}
 use Rattle.chain.proofs.Simulating.{DoesAs}
 use Rattle.chain.specs.Service.{Device, Refused, IsExactUnless}
 use Rattle.mmio_window.specs.declared.queue.Queue.{Queue}
-use Rattle.mmio_window.specs.Pieces.{BeginsTo, FinishesWithin, GoesOnTo, NotifiedWithin}
+use Rattle.mmio_window.specs.declared.stage.Stage.{Stage}
+use Rattle.mmio_window.specs.Pieces.{BeginsTo, IsRefusedAt, ServesTo}
 use Rattle.mmio_window.specs.Serving.{IsNotified, Notified, ending_of, ending_of_result}
 use Rattle.mmio_window.specs.Window.{WindowState, with_ring}
 use Rattle.mmio_window.proofs.Pieces.{never_pauses, notified_once}
 use Rattle.mmio_window.proofs.Services.{notified_as, notified_not_refused}
-use Rattle.mmio_window.proofs.PiecesExact.{finishes_within_exact, goes_on_in_exact, notified_within_exact, pauses_in_exact}
+use Rattle.mmio_window.proofs.Stages.{ends_exactly, ends_to, pauses_exactly, pauses_to, refused_to}
 use Rattle.console_device.specs.declared.no_memory.NoMemory.{NoMemory}
 use Rattle.console_device.specs.declared.queue.Left.{Left}
 use Rattle.console_device.specs.declared.queue.Left.TheVariants.{Open, Closed}
 use Rattle.console_device.specs.Device.{receive, transmit_fitting, transmit_within}
 use Rattle.console_device.specs.Output.{IsUnrefused}
-use Rattle.console_device.specs.Serving.{BeginsQueue, GoesOnQueue, answer_of, progress_of, shown, site_of}
+use Rattle.console_device.specs.Serving.{LeavesQueue, answer_of, progress_of, shown, site_of}
 
 -- whoever waits for no memory is told that it has ended
 pub told : (left : Left) (answer : Result Progress NoMemory) → answer ≡ answer_of left → result_unwrap_or answer Done ≡ progress_of left
@@ -29,35 +30,18 @@ told Open answer e = rw e refl
 told (Closed (Ok fault) wanted) answer e = rw e refl
 told (Closed (Err why) wanted) answer e = rw e refl
 
-module _ (device : Device (List ℕ)) (budget : Budget) (q : ℕ) (queue last : Queue) (m m' : Memory) (w : WindowState) (s s' : List ℕ) where
-  begins_at : (left : Left) → BeginsQueue device budget (site_of m queue s) (site_of m' last s') left
-      → BeginsTo device budget q (Some queue) (progress_of left) m m' w (shown left (with_ring q w last)) s s'
-  begins_at Open h = record { last = last; begins = h; window = refl }
-  begins_at (Closed ending wanted) h = record {
-    ending = ending_of_result ending;
-    notified = record { last = last; wanted = wanted; service = h; window = refl };
-  }
-
-  goes_on_at : (left : Left) → GoesOnQueue device budget (site_of m queue s) (site_of m' last s') left
-      → GoesOnTo device budget q (Some queue) (progress_of left) m m' w (shown left (with_ring q w last)) s s'
-  goes_on_at Open h = record { last = last; pauses = h; window = refl }
-  goes_on_at (Closed ending wanted) h = record {
-    ending = ending_of_result ending;
-    finished = record { last = last; wanted = wanted; ends = h; window = refl };
-  }
+module _ (device : Device (List ℕ)) (stage : Stage) (budget : Budget) (q : ℕ) (queue last : Queue) (m m' : Memory) (w : WindowState) (s s' : List ℕ) where
+  serves_at : (left : Left) → LeavesQueue device stage budget (site_of m queue s) (site_of m' last s') left
+      → ServesTo stage device budget q (Some queue) (progress_of left) m m' w (shown left (with_ring q w last)) s s'
+  serves_at Open h = pauses_to device budget q queue last m m' w s s' stage h
+  serves_at (Closed ending wanted) h = ends_to device budget q queue last m m' w s s' stage (ending_of_result ending) wanted h
 
   -- of a device that never lacks memory
-  pub begins_to : (found : Option Queue) (left : Left) (progress : Progress) (w' : WindowState) → Some queue ≡ found → progress ≡ progress_of left → w' ≡ shown left (with_ring q w last)
-      → BeginsQueue device budget (site_of m queue s) (site_of m' last s') left
-      → BeginsTo device budget q found progress m m' w w' s s'
-  begins_to found left progress w' is says shows h =
-      subst (λ (f : Option Queue). BeginsTo device budget q f progress m m' w w' s s') is (rw (says, shows) (begins_at left h))
-
-  pub goes_on_to : (found : Option Queue) (left : Left) (progress : Progress) (w' : WindowState) → Some queue ≡ found → progress ≡ progress_of left → w' ≡ shown left (with_ring q w last)
-      → GoesOnQueue device budget (site_of m queue s) (site_of m' last s') left
-      → GoesOnTo device budget q found progress m m' w w' s s'
-  goes_on_to found left progress w' is says shows h =
-      subst (λ (f : Option Queue). GoesOnTo device budget q f progress m m' w w' s s') is (rw (says, shows) (goes_on_at left h))
+  pub serves_to : (found : Option Queue) (left : Left) (progress : Progress) (w' : WindowState) → Some queue ≡ found → progress ≡ progress_of left → w' ≡ shown left (with_ring q w last)
+      → LeavesQueue device stage budget (site_of m queue s) (site_of m' last s') left
+      → ServesTo stage device budget q found progress m m' w w' s s'
+  serves_to found left progress w' is says shows h =
+      subst (λ (f : Option Queue). ServesTo stage device budget q f progress m m' w w' s s') is (rw (says, shows) (serves_at left h))
 
 -- where none is refused, each chain fits
 exact_fitting : (limit : Option ℕ) → IsExactUnless (transmit_within limit) (transmit_fitting limit) (λ out. 0)
@@ -71,62 +55,30 @@ no_refusal : (fault : Option Fault) → ending_of fault ≢ Refused
 no_refusal None e = cc
 no_refusal (Some fault) e = cc
 
-module _ (limit : Option ℕ) (budget : Budget) (q : ℕ) (queue last : Queue) (m m' : Memory) (w : WindowState) (s s' : List ℕ) where
+module _ (limit : Option ℕ) (stage : Stage) (budget : Budget) (q : ℕ) (queue last : Queue) (m m' : Memory) (w : WindowState) (s s' : List ℕ) where
   -- a transmit that isn't refused, and one that is
   pub record Transmits (found : Option Queue) (answer : Result Progress NoMemory) (w' : WindowState) : Type 0 where
-    pub ok : IfOk answer (λ progress. BeginsTo (transmit_fitting limit) budget q found progress m m' w w' s s')
-    pub no_memory : OnErr answer (NotifiedWithin (transmit_within limit) budget q found Refused m m' w w' s s')
+    pub ok : IfOk answer (λ progress. ServesTo stage (transmit_fitting limit) budget q found progress m m' w w' s s')
+    pub no_memory : OnErr answer (IsRefusedAt stage (transmit_within limit) budget q found m m' w w' s s')
 
-  transmits_at : (left : Left) → BeginsQueue (transmit_within limit) budget (site_of m queue s) (site_of m' last s') left
+  transmits_at : (left : Left) → LeavesQueue (transmit_within limit) stage budget (site_of m queue s) (site_of m' last s') left
       → Transmits (Some queue) (answer_of left) (shown left (with_ring q w last))
   transmits_at Open h = record {
-    ok = pauses_in_exact (transmit_within limit) (transmit_fitting limit) (λ out. 0) (exact_fitting limit) budget q queue m m' w (with_ring q w last) s s' refl
-        (record { last = last; begins = h; window = refl });
+    ok = pauses_to (transmit_fitting limit) budget q queue last m m' w s s' stage
+        (pauses_exactly (transmit_within limit) (transmit_fitting limit) (λ out. 0) (exact_fitting limit) budget (site_of m queue s) (site_of m' last s') refl stage h);
     no_memory = tt;
   }
   transmits_at (Closed (Ok fault) wanted) h = record {
-    ok = record {
-      ending = ending_of fault;
-      notified = notified_within_exact (transmit_within limit) (transmit_fitting limit) (λ out. 0) (exact_fitting limit) budget q (Some queue) (ending_of fault) m m' w
-          (shown (Closed (Ok fault) wanted) (with_ring q w last)) s s' (no_refusal fault) refl
-          (record { last = last; wanted = wanted; service = h; window = refl });
-    };
+    ok = ends_to (transmit_fitting limit) budget q queue last m m' w s s' stage (ending_of fault) wanted
+        (ends_exactly (transmit_within limit) (transmit_fitting limit) (λ out. 0) (exact_fitting limit) budget (site_of m queue s) (site_of m' last s') refl stage (ending_of fault) wanted (no_refusal fault) h);
     no_memory = tt;
   }
-  transmits_at (Closed (Err why) wanted) h = record { ok = tt; no_memory = record { last = last; wanted = wanted; service = h; window = refl } }
+  transmits_at (Closed (Err why) wanted) h = record { ok = tt; no_memory = refused_to (transmit_within limit) budget q queue last m m' w s s' stage wanted h }
 
   pub transmits : (found : Option Queue) (left : Left) (answer : Result Progress NoMemory) (w' : WindowState) → Some queue ≡ found → answer ≡ answer_of left → w' ≡ shown left (with_ring q w last)
-      → BeginsQueue (transmit_within limit) budget (site_of m queue s) (site_of m' last s') left
+      → LeavesQueue (transmit_within limit) stage budget (site_of m queue s) (site_of m' last s') left
       → Transmits found answer w'
   transmits found left answer w' is says shows h = subst (λ (f : Option Queue). Transmits f answer w') is (rw (says, shows) (transmits_at left h))
-
-  -- and one that goes on
-  pub record TransmitsOn (found : Option Queue) (answer : Result Progress NoMemory) (w' : WindowState) : Type 0 where
-    pub ok : IfOk answer (λ progress. GoesOnTo (transmit_fitting limit) budget q found progress m m' w w' s s')
-    pub no_memory : OnErr answer (FinishesWithin (transmit_within limit) budget q found Refused m m' w w' s s')
-
-  transmits_on_at : (left : Left) → GoesOnQueue (transmit_within limit) budget (site_of m queue s) (site_of m' last s') left
-      → TransmitsOn (Some queue) (answer_of left) (shown left (with_ring q w last))
-  transmits_on_at Open h = record {
-    ok = goes_on_in_exact (transmit_within limit) (transmit_fitting limit) (λ out. 0) (exact_fitting limit) budget q queue m m' w (with_ring q w last) s s' refl
-        (record { last = last; pauses = h; window = refl });
-    no_memory = tt;
-  }
-  transmits_on_at (Closed (Ok fault) wanted) h = record {
-    ok = record {
-      ending = ending_of fault;
-      finished = finishes_within_exact (transmit_within limit) (transmit_fitting limit) (λ out. 0) (exact_fitting limit) budget q (Some queue) (ending_of fault) m m' w
-          (shown (Closed (Ok fault) wanted) (with_ring q w last)) s s' (no_refusal fault) refl
-          (record { last = last; wanted = wanted; ends = h; window = refl });
-    };
-    no_memory = tt;
-  }
-  transmits_on_at (Closed (Err why) wanted) h = record { ok = tt; no_memory = record { last = last; wanted = wanted; ends = h; window = refl } }
-
-  pub transmits_on : (found : Option Queue) (left : Left) (answer : Result Progress NoMemory) (w' : WindowState) → Some queue ≡ found → answer ≡ answer_of left → w' ≡ shown left (with_ring q w last)
-      → GoesOnQueue (transmit_within limit) budget (site_of m queue s) (site_of m' last s') left
-      → TransmitsOn found answer w'
-  transmits_on found left answer w' is says shows h = subst (λ (f : Option Queue). TransmitsOn f answer w') is (rw (says, shows) (transmits_on_at left h))
 
 -- ---- without limits
 

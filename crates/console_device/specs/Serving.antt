@@ -4,9 +4,11 @@ use Rattle.guest_memory.specs.Memory.{Memory}
 use Rattle.chain.specs.declared.budget.Budget.{Budget}
 use Rattle.chain.specs.declared.budget.Progress.{Progress}
 use Rattle.chain.specs.declared.budget.Progress.TheVariants.{More, Done}
-use Rattle.chain.specs.Pieces.{BeginsWithin, EndsWithin, IsServiceWithin, Pauses, RunsWithin}
+use Rattle.chain.specs.Pieces.{Pauses, RunsWithin}
 use Rattle.chain.specs.Service.{Device, Site}
 use Rattle.mmio_window.specs.declared.queue.Queue.{Queue}
+use Rattle.mmio_window.specs.declared.stage.Stage.{Stage}
+use Rattle.mmio_window.specs.Pieces.{EndsAt, PausesAt}
 use Rattle.mmio_window.specs.Queue.{queue_kind}
 use Rattle.mmio_window.specs.Serving.{after_service, ending_of_result}
 use Rattle.mmio_window.specs.Window.{WindowState}
@@ -25,15 +27,10 @@ abbrev pub Stops : Device (List ℕ) → Budget → Site Queue (List ℕ) → Si
 Stops device budget start now Pause = Pauses queue_kind device budget start now
 Stops device budget start now (End ending) = RunsWithin queue_kind device budget start (ending_of_result ending) now
 
--- a piece that goes on from an open queue
-abbrev pub GoesOnQueue : Device (List ℕ) → Budget → Site Queue (List ℕ) → Site Queue (List ℕ) → Left → Type 0
-GoesOnQueue device budget old new Open = Pauses queue_kind device budget old new
-GoesOnQueue device budget old new (Closed ending wanted) = EndsWithin queue_kind device budget old new (ending_of_result ending) wanted
-
--- the first piece of a service
-abbrev pub BeginsQueue : Device (List ℕ) → Budget → Site Queue (List ℕ) → Site Queue (List ℕ) → Left → Type 0
-BeginsQueue device budget old new Open = BeginsWithin queue_kind device budget old new
-BeginsQueue device budget old new (Closed ending wanted) = IsServiceWithin queue_kind device budget old new (ending_of_result ending) wanted
+-- a piece, by how it leaves the queue
+abbrev pub LeavesQueue : Device (List ℕ) → Stage → Budget → Site Queue (List ℕ) → Site Queue (List ℕ) → Left → Type 0
+LeavesQueue device stage budget old new Open = PausesAt stage device budget old new
+LeavesQueue device stage budget old new (Closed ending wanted) = EndsAt stage device budget old new (ending_of_result ending) wanted
 
 -- what a window shows of a queue that is left so
 abbrev pub shown : Left → WindowState → WindowState

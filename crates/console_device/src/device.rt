@@ -13,6 +13,12 @@ use byteorder::{ByteOrder, LittleEndian};
 use std::alloc::{Allocator, Global};
 use std::marker::Model;
 
+/// The queue for input (5.3.2).
+pub const RECEIVEQ: u16 = 0;
+
+/// The queue for output (5.3.2).
+pub const TRANSMITQ: u16 = 1;
+
 /// A console of one port.
 #[derive(Drop)]
 pub struct ConsoleDevice<A: Allocator = Global> {

@@ -3,13 +3,13 @@
 ghost use Rattle.std.specs.Prelude.{◌≡◌, Option};
 ghost use Rattle.guest_memory.specs.Memory.{SameRange};
 ghost use Rattle.mmio_window.specs.Queue.{LiesIn, made_as};
-ghost use Rattle.console_device.specs.Serving.{BeginsQueue, GoesOnQueue, Stops, site_of};
+ghost use Rattle.console_device.specs.Serving.{LeavesQueue, Stops, site_of};
 
 use crate::no_memory::NoMemory;
 use crate::stream::Stream;
-use chain::{Budget, Chain, Fault};
+use chain::{Budget, Chain, Fault, Virtqueue};
 use guest_memory::GuestMemory;
-use mmio_window::Queue;
+use mmio_window::{Queue, Stage};
 use std::alloc::Allocator;
 
 /// Why no more chains are served.
@@ -35,45 +35,28 @@ pub(crate) enum Left {
     },
 }
 
-/// Opens a service and serves its first piece; after a fault of the opening it is closed at once.
+/// Serves a piece of a service: its first one opens the queue, and its end closes it.
 pub(crate) fn serve_queue<S: Stream, M: Allocator>(
     stream: &mut S,
     mem: &mut GuestMemory<M>,
     queue: &mut Queue,
+    stage: Stage,
     budget: Budget,
     chain: &mut Chain,
 ) -> Left
     requires { LiesIn mem.old queue.old }
-    ensures service { BeginsQueue (S.device (S.limit stream.old)) budget (site_of mem.old queue.old (S.bytes stream.old))
+    ensures service { LeavesQueue (S.device (S.limit stream.old)) stage budget (site_of mem.old queue.old (S.bytes stream.old))
         (site_of mem.new queue.new (S.bytes stream.new)) result }
     ensures range { SameRange mem.old mem.new }
     ensures limit { S.limit stream.new ≡ S.limit stream.old }
     ensures made { made_as queue.new ≡ made_as queue.old }
 {
-    match queue.open(mem) {
-        Ok(()) => serve_open(stream, mem, queue, budget, chain),
-        Err(fault) => Left::Closed {
+    if let Err(fault) = stage.open(queue, mem) {
+        return Left::Closed {
             ending: Ok(Some(fault)),
             wanted: queue.close(mem),
-        },
+        };
     }
-}
-
-/// Serves a piece of a service whose queue stands open, and closes it at its end.
-pub(crate) fn serve_open<S: Stream, M: Allocator>(
-    stream: &mut S,
-    mem: &mut GuestMemory<M>,
-    queue: &mut Queue,
-    budget: Budget,
-    chain: &mut Chain,
-) -> Left
-    requires { LiesIn mem.old queue.old }
-    ensures service { GoesOnQueue (S.device (S.limit stream.old)) budget (site_of mem.old queue.old (S.bytes stream.old))
-        (site_of mem.new queue.new (S.bytes stream.new)) result }
-    ensures range { SameRange mem.old mem.new }
-    ensures limit { S.limit stream.new ≡ S.limit stream.old }
-    ensures made { made_as queue.new ≡ made_as queue.old }
-{
     match serve_chains(stream, mem, queue, budget, chain) {
         Stop::Pause => Left::Open,
         Stop::End(ending) => Left::Closed {

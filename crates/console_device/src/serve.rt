@@ -3,7 +3,7 @@
 ghost use Rattle.std.specs.Prelude.{◌≡◌, IfOk, OnOk, OnErr};
 ghost use Rattle.guest_memory.specs.Memory.{Memory, SameRange};
 ghost use Rattle.chain.specs.Service.{Refused};
-ghost use Rattle.mmio_window.specs.Pieces.{BeginsTo, FinishesWithin, GoesOnTo, NotifiedWithin};
+ghost use Rattle.mmio_window.specs.Pieces.{IsRefusedAt, ServesTo};
 ghost use Rattle.mmio_window.specs.Serving.{IsNotified, Notified};
 ghost use Rattle.mmio_window.specs.Soundness.{IsSound};
 ghost use Rattle.mmio_window.specs.Window.{queue_at};
@@ -11,13 +11,13 @@ ghost use Rattle.console_device.specs.Device.{exact_transmit, receive, transmit,
 ghost use Rattle.console_device.specs.Output.{IsUnrefused};
 ghost use Rattle.console_device.specs.Serving.{answer_of, shown};
 
-use crate::device::ConsoleDevice;
+use crate::device::{ConsoleDevice, RECEIVEQ, TRANSMITQ};
 use crate::no_memory::NoMemory;
 use crate::outlet::Outlet;
-use crate::queue::{Left, serve_open, serve_queue};
+use crate::queue::{Left, serve_queue};
 use chain::{Budget, Chain, Progress};
 use guest_memory::GuestMemory;
-use mmio_window::Window;
+use mmio_window::{Stage, Window};
 use std::alloc::Allocator;
 
 impl<A: Allocator> ConsoleDevice<A> {
@@ -37,52 +37,31 @@ impl<A: Allocator> ConsoleDevice<A> {
         ensures range { SameRange mem.old mem.new }
         ensures sound { IsSound mem.new window.new }
     {
-        let _ = self.serve_receive_some(mem, window, Budget::UNLIMITED, room);
+        let _ = self.serve_receive_piece(mem, window, Stage::First, Budget::UNLIMITED, room);
     }
 
     /// The same within a budget: where that is spent, input is still pending and one more chain is on offer, the
-    /// service pauses. Its queue then stands open, and until `go_on_receive` has answered `Done` no other call may
-    /// be made with the window.
-    pub fn serve_receive_some<M: Allocator>(
+    /// service pauses, and goes on with its next piece. In a pause its queue stands open, and no other call may be
+    /// made with the window.
+    pub fn serve_receive_piece<M: Allocator>(
         &mut self,
         mem: &mut GuestMemory<M>,
         window: &mut Window,
+        stage: Stage,
         budget: Budget,
         room: &mut Chain,
     ) -> Progress
         requires sound { IsSound mem.old window.old }
-        ensures served { BeginsTo receive budget 0 (queue_at 0 window.old) result mem.old mem.new
+        ensures served { ServesTo stage receive budget 0 (queue_at 0 window.old) result mem.old mem.new
             window.old window.new self.old.pending self.new.pending }
         ensures size { self.new ≡ record self.old { pending = self.new.pending } }
         ensures range { SameRange mem.old mem.new }
         ensures sound { IsSound mem.new window.new }
     {
-        let Some(queue) = window.queue(0) else {
+        let Some(queue) = window.queue(RECEIVEQ) else {
             return Progress::Done;
         };
-        let left = serve_queue(&mut self.pending, mem, queue, budget, room);
-        show(window, left).unwrap_or(Progress::Done)
-    }
-
-    /// Goes on with a service of the receive queue that paused.
-    pub fn go_on_receive<M: Allocator>(
-        &mut self,
-        mem: &mut GuestMemory<M>,
-        window: &mut Window,
-        budget: Budget,
-        room: &mut Chain,
-    ) -> Progress
-        requires sound { IsSound mem.old window.old }
-        ensures served { GoesOnTo receive budget 0 (queue_at 0 window.old) result mem.old mem.new
-            window.old window.new self.old.pending self.new.pending }
-        ensures size { self.new ≡ record self.old { pending = self.new.pending } }
-        ensures range { SameRange mem.old mem.new }
-        ensures sound { IsSound mem.new window.new }
-    {
-        let Some(queue) = window.queue(0) else {
-            return Progress::Done;
-        };
-        let left = serve_open(&mut self.pending, mem, queue, budget, room);
+        let left = serve_queue(&mut self.pending, mem, queue, stage, budget, room);
         show(window, left).unwrap_or(Progress::Done)
     }
 
@@ -112,61 +91,35 @@ impl<A: Allocator> ConsoleDevice<A> {
         ensures range { SameRange mem.old mem.new }
         ensures sound { IsSound mem.new window.new }
     {
-        self.serve_transmit_some(mem, window, out, Budget::UNLIMITED, room)?;
+        self.serve_transmit_piece(mem, window, out, Stage::First, Budget::UNLIMITED, room)?;
         Ok(())
     }
 
-    /// The same within a budget: where that is spent and one more chain is on offer, the service pauses. Its queue
-    /// then stands open, and until `go_on_transmit` has answered anything but `More` no other call may be made with
-    /// the window.
-    pub fn serve_transmit_some<M: Allocator, O: Outlet>(
+    /// The same within a budget: where that is spent and one more chain is on offer, the service pauses, and goes on
+    /// with its next piece. In a pause its queue stands open, and no other call may be made with the window.
+    pub fn serve_transmit_piece<M: Allocator, O: Outlet>(
         &mut self,
         mem: &mut GuestMemory<M>,
         window: &mut Window,
         out: &mut O,
+        stage: Stage,
         budget: Budget,
         room: &mut Chain,
     ) -> Result<Progress, NoMemory>
         requires sound { IsSound mem.old window.old }
-        ensures ok { IfOk result (λ progress. BeginsTo (transmit_fitting (O.limit out.old)) budget 1
+        ensures ok { IfOk result (λ progress. ServesTo stage (transmit_fitting (O.limit out.old)) budget 1
             (queue_at 1 window.old) progress mem.old mem.new window.old window.new (O.bytes out.old) (O.bytes out.new)) }
-        ensures no_memory { OnErr result (NotifiedWithin (transmit_within (O.limit out.old)) budget 1
-            (queue_at 1 window.old) Refused mem.old mem.new window.old window.new (O.bytes out.old) (O.bytes out.new)) }
+        ensures no_memory { OnErr result (IsRefusedAt stage (transmit_within (O.limit out.old)) budget 1
+            (queue_at 1 window.old) mem.old mem.new window.old window.new (O.bytes out.old) (O.bytes out.new)) }
         ensures limit { O.limit out.new ≡ O.limit out.old }
         ensures same { self.new ≡ self.old }
         ensures range { SameRange mem.old mem.new }
         ensures sound { IsSound mem.new window.new }
     {
-        let Some(queue) = window.queue(1) else {
+        let Some(queue) = window.queue(TRANSMITQ) else {
             return Ok(Progress::Done);
         };
-        let left = serve_queue(out, mem, queue, budget, room);
-        show(window, left)
-    }
-
-    /// Goes on with a service of the transmit queue that paused.
-    pub fn go_on_transmit<M: Allocator, O: Outlet>(
-        &mut self,
-        mem: &mut GuestMemory<M>,
-        window: &mut Window,
-        out: &mut O,
-        budget: Budget,
-        room: &mut Chain,
-    ) -> Result<Progress, NoMemory>
-        requires sound { IsSound mem.old window.old }
-        ensures ok { IfOk result (λ progress. GoesOnTo (transmit_fitting (O.limit out.old)) budget 1
-            (queue_at 1 window.old) progress mem.old mem.new window.old window.new (O.bytes out.old) (O.bytes out.new)) }
-        ensures no_memory { OnErr result (FinishesWithin (transmit_within (O.limit out.old)) budget 1
-            (queue_at 1 window.old) Refused mem.old mem.new window.old window.new (O.bytes out.old) (O.bytes out.new)) }
-        ensures limit { O.limit out.new ≡ O.limit out.old }
-        ensures same { self.new ≡ self.old }
-        ensures range { SameRange mem.old mem.new }
-        ensures sound { IsSound mem.new window.new }
-    {
-        let Some(queue) = window.queue(1) else {
-            return Ok(Progress::Done);
-        };
-        let left = serve_open(out, mem, queue, budget, room);
+        let left = serve_queue(out, mem, queue, stage, budget, room);
         show(window, left)
     }
 }

@@ -11,6 +11,7 @@ use Rattle.board.specs.declared.pause.Turn.TheVariants as turn
 use Rattle.board.specs.declared.reply.Reply.{Reply}
 use Rattle.board.specs.declared.reply.Reply.TheVariants.{NoMemory}
 use Rattle.board.specs.declared.reply.Record.{Record}
+use Rattle.board.specs.Image.{Health}
 use Rattle.board.specs.Slot.{SlotState}
 use Rattle.paced.specs.declared.response.Response.{Response}
 use Rattle.paced.specs.declared.response.Response.TheVariants.{Answered, More, Busy, Idle}
@@ -21,7 +22,7 @@ use Rattle.board.proofs.Alone.{get_set}
 use Rattle.paced.proofs.Alone.{alone, others_at}
 use Rattle.embed.specs.Course.{IsTaken, put_out}
 use Rattle.embed.specs.PacedCourse.{PacedDeed, Called, Took, AlwaysHadRoom, IsPacedCourse, RunsAlonePaced, ended_by, events_begun, output_taken, paced_world_of, replies_ended}
-use Rattle.embed.specs.Pausing.{ComesTo, IsCall}
+use Rattle.embed.specs.Pausing.{ComesTo, IsCall, IsTurn}
 use Rattle.embed.specs.Session.{KeepsOtherOutputs, SessionState, output_of, world_of}
 use Rattle.embed.proofs.Courses.{output_kept, same_slot, taken_first, taken_output}
 
@@ -49,32 +50,29 @@ unchanged p old call response after same comes = record {
   budget = ap (λ (s : SessionState). s.budget) same;
 }
 
-stepped : {A : Type 0} (p : Option (Option Pause)) (old : SessionState) (call : Call A) (response : Response A) (after : SessionState) → ComesTo call p old response after → Stepped p old call response after
-stepped None old call response after h = unchanged None old call response after h.1 (h.0, record { same = ap paced_world_of h.1; silent = refl })
-stepped (Some None) old (Handle event) response after h =
-    let t = h.turn in
-    record {
-      output = t.output;
-      block = t.block;
-      console = t.console;
-      comes = record { turn = t.turn; taken = t.taken; told = t.told; paused = t.paused };
-      behind = t.behind;
-      outputs = t.outputs;
-      budget = t.budget;
-    }
-stepped (Some (Some pause)) old (Handle event) response after h =
-    unchanged (Some (Some pause)) old (Handle event) response after h.1 (h.0, record { same = ap paced_world_of h.1; silent = refl })
-stepped (Some None) old (GoOn slot) response after h =
-    unchanged (Some None) old (GoOn slot) response after h.1 (h.0, record { same = ap paced_world_of h.1; silent = refl })
-stepped (Some (Some pause)) old (GoOn slot) response after t = record {
+-- what a turn of its slot comes to is the move of the board
+turned : {A : Type 0} {Comes : SlotState → Health → Health → SlotState → List ℕ → Turn A → Type 0} {Within : ℕ → SlotState → SlotState → List ℕ → List ℕ → Turn A → Type 0}
+    (p : Option (Option Pause)) (old : SessionState) (call : Call A) (response : Response A) (after : SessionState) (t : IsTurn Comes Within old (slot_in call) response after)
+    → (pacing.IsTurn Comes (paced_world_of old) (slot_in call) response t.output t.block t.console (paced_world_of after) → pacing.ComesTo old.budget call p (paced_world_of old) response t.output t.block t.console (paced_world_of after))
+    → Stepped p old call response after
+turned p old call response after t comes = record {
   output = t.output;
   block = t.block;
   console = t.console;
-  comes = record { turn = t.turn; taken = t.taken; told = t.told; paused = t.paused };
+  comes = comes (record { turn = t.turn; taken = t.taken; told = t.told; paused = t.paused });
   behind = t.behind;
   outputs = t.outputs;
   budget = t.budget;
 }
+
+stepped : {A : Type 0} (p : Option (Option Pause)) (old : SessionState) (call : Call A) (response : Response A) (after : SessionState) → ComesTo call p old response after → Stepped p old call response after
+stepped None old call response after h = unchanged None old call response after h.1 (h.0, record { same = ap paced_world_of h.1; silent = refl })
+stepped (Some None) old (Handle event) response after h = turned (Some None) old (Handle event) response after h.turn (λ move. move)
+stepped (Some (Some pause)) old (Handle event) response after h =
+    unchanged (Some (Some pause)) old (Handle event) response after h.1 (h.0, record { same = ap paced_world_of h.1; silent = refl })
+stepped (Some None) old (GoOn slot) response after h =
+    unchanged (Some None) old (GoOn slot) response after h.1 (h.0, record { same = ap paced_world_of h.1; silent = refl })
+stepped (Some (Some pause)) old (GoOn slot) response after h = turned (Some (Some pause)) old (GoOn slot) response after h (λ move. move)
 
 step_of : {A : Type 0} (old : SessionState) (call : Call A) (response : Response A) (after : SessionState) → IsCall old call response after → Stepped (slice_get old.paused (slot_in call)) old call response after
 step_of old call response after h = stepped (slice_get old.paused (slot_in call)) old call response after h

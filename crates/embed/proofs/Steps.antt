@@ -158,9 +158,14 @@ missing_answers s event output past = record {
   appended = sym (append-nil output);
 }
 
-pub missing : {A : Type 0} (s : SessionState) (event : Event A) → length s.slots ≤ event.slot → IsStep s event BadSlot s
-missing {A} s event past = record {
-  answers = missing_answers s event _ past;
+-- an event after which the session is as before
+as_before : {A : Type 0} (s : SessionState) (event : Event A) (reply : Reply A) → reply ≢ NoMemory → ((reply ≡ BadSlot) ↔ (length s.slots ≤ event.slot)) →
+    Answers (world_of s) event reply (output_of event.slot s) (output_of event.slot s) (world_of s) →
+    ((found after : SlotState) → slice_get (world_of s).slots event.slot ≡ Some found → slice_get (world_of s).slots event.slot ≡ Some after →
+    TakesWithin (limit_of event.slot s) found event.what after (output_of event.slot s) (output_of event.slot s) reply) →
+    IsStep s event reply s
+as_before s event reply found there answers within = record {
+  answers = answers;
   others = λ other differ. refl;
   outputs = λ other differ. refl;
   extents = refl;
@@ -168,13 +173,18 @@ missing {A} s event past = record {
   limits = λ slot. refl;
   paused = refl;
   budget = refl;
-  within = λ found after here there. let none = none_shown s.slots s.image event.slot past in absurd (cc);
-  refused = λ is. absurd (cc);
-  bad_slot = (λ is. past, λ is. refl);
+  within = within;
+  refused = λ is. absurd (found is);
+  bad_slot = there;
   bad_slot_keeps = λ is. refl;
   bad_range_keeps = λ is. refl;
-  no_memory = λ is. absurd (cc);
+  no_memory = λ is. absurd (found is);
 }
+
+pub missing : {A : Type 0} (s : SessionState) (event : Event A) → length s.slots ≤ event.slot → IsStep s event BadSlot s
+missing {A} s event past =
+    as_before s event BadSlot (λ is. absurd (cc)) (λ is. past, λ is. refl) (missing_answers s event _ past)
+    (λ found after here there. let none = none_shown s.slots s.image event.slot past in absurd (cc))
 
 unchanged_answers : {A : Type 0} (s : SessionState) (event : Event A) (reply : Reply A) (output : List ℕ) (slot : BoardSlot) →
     slice_get s.slots event.slot ≡ Some slot → lacks_memory reply ≡ false →
@@ -204,22 +214,10 @@ pub unchanged : {A : Type 0} (s : SessionState) (event : Event A) (reply : Reply
     MayGive (state_of s.image slot) event.what (world_of s).health (world_of s).health (replies (state_of s.image slot) reply) →
     QuietEvent event.what →
     IsStep s event reply s
-unchanged {A} s event reply slot here lacks there found given quiet = record {
-  answers = unchanged_answers s event reply _ slot here lacks given;
-  others = λ other differ. refl;
-  outputs = λ other differ. refl;
-  extents = refl;
-  size = refl;
-  limits = λ slot. refl;
-  paused = refl;
-  budget = refl;
-  within = λ found after here there. quiet _ found after _ _ reply;
-  refused = λ is. absurd (found is);
-  bad_slot = (λ is. absurd (there is), λ past. let fits = slice_get_within s.slots event.slot slot here in absurd (omega arith));
-  bad_slot_keeps = λ is. refl;
-  bad_range_keeps = λ is. refl;
-  no_memory = λ is. absurd (found is);
-}
+unchanged {A} s event reply slot here lacks there found given quiet =
+    as_before s event reply found (λ is. absurd (there is), λ past. let fits = slice_get_within s.slots event.slot slot here in absurd (omega arith))
+    (unchanged_answers s event reply _ slot here lacks given)
+    (λ found after here there. quiet _ found after _ _ reply)
 
 -- ---- an event that the board answered
 

@@ -1,5 +1,5 @@
-//! A board in a program that isn't written in Rattle, or that would rather call than make events: a session, which
-//! is one board over an image in memory, and what each guest's console put out until somebody takes it.
+//! A session: one board over an image in memory, by calls rather than events, with what each guest's console put out
+//! until it is taken. A program in another language stands on it.
 //!
 //! `session` is the session, a module for each kind of call: `registers`, `memory`, `console` and `image`. `guest` is
 //! what it is made of, and `output_queue` keeps what a console put out. `fault` says why there is no session, `refusal`

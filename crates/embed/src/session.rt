@@ -32,7 +32,7 @@ use std::marker::Model;
 /// How many bytes of one guest's output may wait at most.
 const MOST_WAITING: u32 = 0x100_0000;
 
-/// Up to sixty-four guests over one image in memory. All room is made when it is made: no call takes memory.
+/// Up to sixty-four guests over one image in memory. `new` makes all room: no other call takes memory.
 #[derive(Drop)]
 pub struct Session<A: Allocator = Global> {
     paced: Paced<MemoryImage<A>, A>,

@@ -11,7 +11,7 @@ const PAGE: u64 = 4096;
 /// The largest guest memory, in bytes.
 const MOST: u64 = 1 << 28;
 
-/// A memory that was refused. Where several hold, it is the first in this order.
+/// Why a memory was refused: the first of these that holds.
 #[derive(Clone, Copy, Debug, PartialEq, Eq, Error)]
 pub enum MemoryFault {
     /// The size isn't a multiple of 4096 from 4096 to 2^28 bytes.
@@ -25,8 +25,7 @@ pub enum MemoryFault {
     NoMemory,
 }
 
-/// Why there can be no memory of `len` bytes from `base` on, before any is asked for. Want of memory is
-/// not judged here.
+/// Why there can be no memory of `len` bytes from `base` on. It takes no memory, so it never answers `NoMemory`.
 pub fn fault_of(base: u64, len: u64) -> Option<MemoryFault>
     ensures bad_size { (result ≡ Some MemoryFault.BadSize) ↔ ¬ IsSize len }
     ensures bad_base { (result ≡ Some MemoryFault.BadBase) ↔ (IsSize len × ¬ IsBase base len) }

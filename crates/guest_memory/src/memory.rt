@@ -35,7 +35,7 @@ impl<A: Allocator> GuestMemory<A> {
         ensures made { IfOk result (λ m. m ≡ zeroed base len) }
         ensures ok { OnOk result (IsSize len × IsBase base len) }
 
-        // The faults in their order; want of memory comes last.
+        // the faults in their order; NoMemory comes last
         ensures bad_size { (result ≡ Err MemoryFault.BadSize) ↔ ¬ IsSize len }
         ensures bad_base { (result ≡ Err MemoryFault.BadBase) ↔ (IsSize len × ¬ IsBase base len) }
     {
@@ -80,11 +80,7 @@ impl<A: Allocator> GuestMemory<A> {
         ensures len { IfSome result (λ bytes. length bytes.now ≡ n) }
         ensures fits { IsSome result → addr + n ≤ 2 ^ 64 }
     {
-        if self.holds(addr, n) {
-            Some(self.slice(addr, n))
-        } else {
-            None
-        }
+        self.holds(addr, n).then(|| self.slice(addr, n))
     }
 
     /// The `n` bytes from `addr` on, which lie in the memory. `holds` is the test.

@@ -12,7 +12,7 @@ use Rattle.indirect.specs.Descriptors.{split_table, packed_buffers}
 use Rattle.indirect.specs.Walks.{Leads, buffers_of, Reached, ComesNext, first_of}
 use Rattle.indirect.specs.Lists.{TableKind, split_tables, packed_tables, EndsPlain, is_joined, EndsBy, TableRefused, ListResolves, ListFails}
 use Rattle.indirect.specs.Outcomes.{HasOneTable}
-use Rattle.indirect.proofs.Outcomes.{GoesOn, fronts, goes_past, same_front}
+use Rattle.indirect.proofs.Outcomes.{GoesOn, fronts, goes_no_further, same_front}
 
 module _ (kind : TableKind) (negotiated : Bool) (m : Memory) (t : ℕ → Descriptor) (n h : ℕ) where
   -- the list ends at a plain descriptor
@@ -108,18 +108,9 @@ module _ (kind : TableKind) (one : HasOneTable kind) (negotiated : Bool) (m : Me
   -- no front passes the index at which a list fails
   fails_there : (fault : Fault) (x : ListFails kind negotiated m t n h fault) (ys : List ℕ) (j : ℕ) → AdmitsAll m [] (buffers_of t ys) → length ys ≤ n
       → (g : GoesOn t n x.at j x.reached.front ys) → g.rest ≡ []
-  fails_there fault x ys j a l g = go g.rest g.joined g.leads
-    where
-      go : (rest : List ℕ) → ys ≡ x.reached.front ++ rest → Leads t n x.at rest j → rest ≡ []
-      go [] e p = refl
-      go (z ∷ rest) e p =
-          let i = x.at in
-          let here : i ≡ z = p.0 in
-          let size = ap (λ (l : List ℕ). length l) e ∙ length-append x.reached.front (z ∷ rest) in
-          let comes : ComesNext n x.count i = record { room = omega (arith, size, x.reached.counted, l); below = omega (arith, p.1.below, here) } in
-          let plain : (t i).indirect ≡ false = ap (λ k. (t k).indirect) here ∙ p.1.plain in
-          let admits = goes_past m [] t x.reached.front ys i rest (rw here e) a in
-          absurd (Admits-Refuses m x.before (t i).buffer fault (rw x.reached.named admits) (x.plain comes plain))
+  fails_there fault x ys j a l g =
+      goes_no_further m [] t n x.count x.at j x.reached.front ys x.reached.counted
+      (λ comes plain admits. Admits-Refuses m x.before (t x.at).buffer fault (rw x.reached.named admits) (x.plain comes plain)) a l g
 
   plain_end : (v : Bool) (before : List Buffer) (count : ℕ) (d : Descriptor) (after : List Buffer) → v ≡ false → EndsBy kind negotiated m v before count d after
       → EndsPlain m before d after

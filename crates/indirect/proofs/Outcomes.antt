@@ -46,6 +46,21 @@ goes_past m before t xs ys i rest e a =
     Admits-at m before (buffers_of t xs) (t i).buffer (buffers_of t rest)
     (rw (map-append (λ k. (t k).buffer) xs (i ∷ rest)) at (rw e at a))
 
+-- a front goes on by nothing past an index whose descriptor isn't plain with a buffer that is admitted
+pub goes_no_further : (m : Memory) (before : List Buffer) (t : ℕ → Descriptor) (n count i j : ℕ) (front ys : List ℕ) → length front ≡ count
+    → (ComesNext n count i → (t i).indirect ≡ false → Admits m (before ++ buffers_of t front) (t i).buffer → ⊥)
+    → AdmitsAll m before (buffers_of t ys) → length ys ≤ n → (g : GoesOn t n i j front ys) → g.rest ≡ []
+goes_no_further m before t n count i j front ys counted stops a l g = go g.rest g.joined g.leads
+  where
+    go : (rest : List ℕ) → ys ≡ front ++ rest → Leads t n i rest j → rest ≡ []
+    go [] e p = refl
+    go (x ∷ rest) e p =
+        let here : i ≡ x = p.0 in
+        let size = ap (λ (l : List ℕ). length l) e ∙ length-append front (x ∷ rest) in
+        let comes : ComesNext n count i = record { room = omega (arith, size, counted, l); below = omega (arith, p.1.below, here) } in
+        let plain : (t i).indirect ≡ false = ap (λ k. (t k).indirect) here ∙ p.1.plain in
+        absurd (stops comes plain (goes_past m before t front ys i rest (rw here e) a))
+
 -- a walk that stops at an index doesn't take its descriptor as a plain member
 stops_or_takes : (m : Memory) (buffers : List Buffer) (t : ℕ → Descriptor) (n count i : ℕ) (fault : Fault) → StopsAt m buffers t n count i fault
     → ComesNext n count i → (t i).indirect ≡ false → Admits m buffers (t i).buffer → ⊥
@@ -138,18 +153,9 @@ module _ (m : Memory) (before : List Buffer) (t : ℕ → Descriptor) (n h : ℕ
   -- a front that passes the index at which a walk stops, with buffers that are admitted, isn't there
   not_past : (fault : Fault) (after : List Buffer) (f : FaultAt m before t n h fault after) (ys : List ℕ) (j : ℕ)
       → AdmitsAll m before (buffers_of t ys) → length ys ≤ n → (g : GoesOn t n f.at j f.reached.front ys) → g.rest ≡ []
-  not_past fault after f ys j a l g = go g.rest g.joined g.leads
-    where
-      go : (rest : List ℕ) → ys ≡ f.reached.front ++ rest → Leads t n f.at rest j → rest ≡ []
-      go [] e p = refl
-      go (x ∷ rest) e p =
-          let i = f.at in
-          let here : i ≡ x = p.0 in
-          let size = ap (λ (l : List ℕ). length l) e ∙ length-append f.reached.front (x ∷ rest) in
-          let comes : ComesNext n f.count i = record { room = omega (arith, size, f.reached.counted, l); below = omega (arith, p.1.below, here) } in
-          let plain : (t i).indirect ≡ false = ap (λ k. (t k).indirect) here ∙ p.1.plain in
-          let admits = goes_past m before t f.reached.front ys i rest (rw here e) a in
-          absurd (stops_or_takes m after t n f.count i fault f.stops comes plain (rw f.reached.named admits))
+  not_past fault after f ys j a l g =
+      goes_no_further m before t n f.count f.at j f.reached.front ys f.reached.counted
+      (λ comes plain admits. stops_or_takes m after t n f.count f.at fault f.stops comes plain (rw f.reached.named admits)) a l g
 
   -- no front with buffers that are admitted is longer than the one before a fault
   pub longest : (fault : Fault) (after : List Buffer) (f : FaultAt m before t n h fault after) (ys : List ℕ) (j : ℕ)

@@ -1,17 +1,18 @@
 -- Each walk, each table and each list of a ring comes to an end: to its buffers or to its fault.
-use Rattle.std.proofs.Common.{◌≡◌, ℕ, zero, suc, ◌+◌, ◌*◌, ◌/◌, ◌<◌, Bool, true, Option, Some, None, List, [], ◌∷◌, ◌++◌, refl, sym, arith, inl, inr, ◌⊎◌}
+use Rattle.std.proofs.Common.{◌≡◌, ℕ, zero, suc, ◌+◌, ◌*◌, ◌/◌, ◌<◌, Bool, true, Option, Some, None, List, [], ◌∷◌, ◌++◌, refl, sym, ap, ◌∙◌, arith, inl, inr, ◌⊎◌}
 use Rattle.std.proofs.lemmas.Bool.{cases_lt, cases_Bool}
 use Rattle.std.proofs.lemmas.List.{append-nil}
 use Rattle.guest_memory.specs.Memory.{Memory}
 use Rattle.chain.specs.declared.segment.Buffer.{Buffer}
 use Rattle.chain.specs.declared.fault.Fault.{Fault}
 use Rattle.chain.specs.declared.fault.Fault.TheVariants.{Index, Loop, Table, Nested, Joined, NoIndirect, Range}
+use Rattle.chain.specs.Service.{Entry}
 use Rattle.chain.proofs.Admitting.{admits_or_refuses}
 use Rattle.indirect.specs.declared.descriptor.Descriptor.{Descriptor}
 use Rattle.indirect.specs.Descriptors.{split_table, packed_buffer}
 use Rattle.indirect.specs.Walks.{Reached, WalkHasOutcome}
 use Rattle.indirect.specs.Tables.{IsTable, IsNoTable, PackedFaultAt}
-use Rattle.indirect.specs.Lists.{TableKind, split_tables, packed_tables, TableHasOutcome, is_joined, ListHasOutcome}
+use Rattle.indirect.specs.Lists.{TableKind, split_tables, packed_tables, TableHasOutcome, is_joined, ListFails, ListHasOutcome, ListOffers}
 use Rattle.indirect.specs.Outcomes.{HasOneTable, HasOneList}
 use Rattle.indirect.proofs.Entries.{Gathered, gathered_step}
 use Rattle.indirect.proofs.Walking.{reached_start, reached_step, resolves_step, refused_stops}
@@ -184,3 +185,20 @@ split_has_one_list = has_one_list split_tables split_has_one_table
 
 pub packed_has_one_list : HasOneList packed_tables
 packed_has_one_list = has_one_list packed_tables packed_has_one_table
+
+-- a list is offered with one list of buffers and one entry, or has one fault, never both, and one of the two
+module _ (kind : TableKind) (one : HasOneList kind) (negotiated : Bool) (m : Memory) (t : ℕ → Descriptor) (n h : ℕ) (entry_of : ℕ → ℕ → Entry) where
+  pub one_offer : (a b : List Buffer) (e f : Entry) → ListOffers kind negotiated m t n h entry_of a e → ListOffers kind negotiated m t n h entry_of b f → (a ≡ b) × (e ≡ f)
+  one_offer a b e f x y =
+      let same = one.list negotiated m t n h x.count y.count x.last y.last a b x.list y.list in
+      (same.buffers, x.entry_is ∙ ap (λ last. entry_of x.count last) same.last ∙ ap (λ count. entry_of count y.last) same.count ∙ sym y.entry_is)
+
+  pub never_offered : (f : Fault) (a : List Buffer) (e : Entry) → ListFails kind negotiated m t n h f → ListOffers kind negotiated m t n h entry_of a e → ⊥
+  never_offered f a e y x = one.not_both negotiated m t n h f x.count x.last a y x.list
+
+  pub offered_or_fails : ((a : List Buffer) × (e : Entry) × ListOffers kind negotiated m t n h entry_of a e) ⊎ ((f : Fault) × ListFails kind negotiated m t n h f)
+  offered_or_fails =
+      elim (one.some negotiated m t n h) [
+        | inl found ↦ inl (found.2, entry_of found.0 found.1, record { count = found.0; last = found.1; list = found.3; entry_is = refl })
+        | inr stopped ↦ inr stopped
+      ]

@@ -7,6 +7,7 @@ use Rattle.chain.specs.Buffers.{Admits, Refuses}
 use Rattle.chain.specs.declared.segment.Buffer.{Buffer}
 use Rattle.chain.specs.declared.fault.Fault.{Fault}
 use Rattle.chain.specs.declared.fault.Fault.TheVariants.{Index, Loop, Joined, NoIndirect}
+use Rattle.chain.specs.Service.{Entry}
 use Rattle.indirect.specs.declared.descriptor.Descriptor.{Descriptor}
 use Rattle.indirect.specs.Walks.{Reached, ComesNext}
 use Rattle.indirect.specs.Tables.{SplitTableResolves, SplitTableFails, PackedTableResolves, PackedTableFails}
@@ -76,6 +77,14 @@ module _ (kind : TableKind) (negotiated : Bool) (m : Memory) where
       pub reached : Reached m [] t n h count last before
       pub comes : ComesNext n count last
       pub ends : EndsBy (t last).indirect before count (t last) buffers
+
+    -- the list from h has these buffers, and is given back by this entry: the one of how many members come before
+    -- its last one, and of that one's index
+    pub record ListOffers (entry_of : ℕ → ℕ → Entry) (buffers : List Buffer) (entry : Entry) : Type 0 where
+      pub count : ℕ
+      pub last : ℕ
+      pub list : ListResolves count last buffers
+      pub entry_is : entry ≡ entry_of count last
 
     -- The fault of the list from h. A front of count plain members with good buffers leads to an index, and
     -- there it can't go on: it has n members; or the index isn't below n; or the buffer of the descriptor that

@@ -7,3 +7,4 @@ pub mod ReadyLemmas
 pub mod Services
 pub mod Pieces
 pub mod PiecesExact
+pub mod Stages

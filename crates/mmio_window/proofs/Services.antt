@@ -1,16 +1,15 @@
 -- Notifications of a queue: of a device that does as another does, of one whose failures didn't rise, and what
 -- one leaves that ends for want of memory.
-use Rattle.std.proofs.Common.{◌≡◌, ◌≢◌, ℕ, Bool, true, false, Option, Some, None, List, refl, sym, ap, subst, ◌∙◌}
-use Rattle.std.specs.Prelude.{if◌then◌else◌, is_some}
+use Rattle.std.proofs.Common.{◌≡◌, ◌≢◌, ℕ, Bool, Option, Some, None, List, refl, sym, subst}
+use Rattle.std.specs.Prelude.{if◌then◌else◌}
 use Rattle.guest_memory.specs.Memory.{Memory}
-use Rattle.chain.specs.declared.fault.Fault.{Fault}
-use Rattle.chain.specs.Service.{Device, Ending, Refused, Site, IsService, IsRefusedService, IsExactUnless}
+use Rattle.chain.specs.Service.{Device, Ending, Refused, Site, IsRefusedService, IsExactUnless}
 use Rattle.chain.proofs.Servicing.{exact_service, never_refused, refused_service}
 use Rattle.chain.proofs.Simulating.{DoesAs, ServedAs, service_as}
 use Rattle.mmio_window.specs.declared.queue.Queue.{Queue}
 use Rattle.mmio_window.specs.Queue.{queue_kind}
-use Rattle.mmio_window.specs.Serving.{Notified, ServesQueue, after_service, ending_of}
-use Rattle.mmio_window.specs.Window.{WindowState, with_reset_asked, with_ring, with_used_interrupt}
+use Rattle.mmio_window.specs.Serving.{Notified, ServesQueue}
+use Rattle.mmio_window.specs.Window.{WindowState, with_ring, with_used_interrupt}
 
 -- the other device is notified in the same way, and left in a like state
 pub record NotifiedAs {S T : Type 0} (other : Device T) (Alike : S → T → Type 0) (q : ℕ) (queue : Option Queue) (ending : Ending) (old new : Memory) (before after : WindowState) (s' : S) (t : T) : Type 0 where

@@ -1,5 +1,5 @@
 -- What a write to QueueNotify may change (4.2.2, 2.9).
-use Rattle.std.specs.Prelude.{◌≡◌, ℕ, ◌%◌, ◌^◌, Bool, true}
+use Rattle.std.specs.Prelude.{◌≡◌, ℕ, ◌%◌, ◌^◌, true}
 use Rattle.guest_memory.specs.Memory.{Memory}
 use Rattle.negotiation.specs.Features.{notification_data}
 use Rattle.negotiation.specs.Negotiation.{negotiated_of}

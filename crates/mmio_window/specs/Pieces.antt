@@ -5,9 +5,12 @@ use Rattle.guest_memory.specs.Memory.{Memory}
 use Rattle.chain.specs.declared.budget.Budget.{Budget}
 use Rattle.chain.specs.declared.budget.Progress.{Progress}
 use Rattle.chain.specs.declared.budget.Progress.TheVariants.{More, Done}
+use Rattle.chain.specs.declared.fault.Fault.{Fault}
 use Rattle.chain.specs.Pieces.{IsPart, BeginsWithin, Pauses, EndsWithin, IsServiceWithin}
-use Rattle.chain.specs.Service.{Device, Ending, Spent}
+use Rattle.chain.specs.Service.{Device, Ending, Refused, Site, Spent}
 use Rattle.mmio_window.specs.declared.queue.Queue.{Queue}
+use Rattle.mmio_window.specs.declared.stage.Stage.{Stage}
+use Rattle.mmio_window.specs.declared.stage.Stage.TheVariants.{First, Next}
 use Rattle.mmio_window.specs.Queue.{queue_kind}
 use Rattle.mmio_window.specs.Serving.{NothingHappens, after_service}
 use Rattle.mmio_window.specs.Window.{WindowState, with_ring}
@@ -75,3 +78,37 @@ abbrev pub GoesOnTo : {State : Type 0} → Device State → Budget → ℕ → O
 GoesOnTo device budget q queue Done old new before after s s' = IsFinishedWithin device budget q queue old new before after s s'
 GoesOnTo device budget q None More old new before after s s' = ⊥
 GoesOnTo device budget q (Some queue) More old new before after s s' = GoesOnIn device budget q queue old new before after s s'
+
+-- ---- a piece, whichever it is
+
+-- the fault at which its opening ends: one behind a pause finds the queue open
+abbrev pub fault_at : Stage → Memory → Queue → Option Fault
+fault_at First m queue = queue_kind.opening_fault m queue
+fault_at Next m queue = None
+
+-- the queue from which its chains are taken
+abbrev pub opened_at : Stage → Memory → Queue → Queue
+opened_at First m queue = queue_kind.opened m queue
+opened_at Next m queue = queue
+
+abbrev pub PausesAt : {State : Type 0} → Stage → Device State → Budget → Site Queue State → Site Queue State → Type 0
+PausesAt First device budget old new = BeginsWithin queue_kind device budget old new
+PausesAt Next device budget old new = Pauses queue_kind device budget old new
+
+abbrev pub EndsAt : {State : Type 0} → Stage → Device State → Budget → Site Queue State → Site Queue State → Ending → Bool → Type 0
+EndsAt First device budget old new ending wanted = IsServiceWithin queue_kind device budget old new ending wanted
+EndsAt Next device budget old new ending wanted = EndsWithin queue_kind device budget old new ending wanted
+
+-- The first piece of a service within a budget, or one behind a pause, and whether more is to come.
+abbrev pub ServesTo : {State : Type 0} → Stage → Device State → Budget → ℕ → Option Queue → Progress → Memory → Memory → WindowState → WindowState → State → State → Type 0
+ServesTo First device budget q queue progress old new before after s s' =
+    BeginsTo device budget q queue progress old new before after s s'
+ServesTo Next device budget q queue progress old new before after s s' =
+    GoesOnTo device budget q queue progress old new before after s s'
+
+-- one that ends since there is no memory for the chain on offer
+abbrev pub IsRefusedAt : {State : Type 0} → Stage → Device State → Budget → ℕ → Option Queue → Memory → Memory → WindowState → WindowState → State → State → Type 0
+IsRefusedAt First device budget q queue old new before after s s' =
+    NotifiedWithin device budget q queue Refused old new before after s s'
+IsRefusedAt Next device budget q queue old new before after s s' =
+    FinishesWithin device budget q queue Refused old new before after s s'

@@ -14,6 +14,7 @@ mod laws;
 mod queue;
 mod queue_registers;
 mod register;
+mod stage;
 mod window;
 
 pub use action::Action;
@@ -26,6 +27,7 @@ pub use laws::{
 pub use queue::{Queue, Token};
 pub use queue_registers::QueueRegisters;
 pub use register::Register;
+pub use stage::Stage;
 pub use window::Window;
 
 #[cfg(test)]

@@ -7,8 +7,17 @@ ghost use Rattle.guest_memory.specs.Memory.{SameRange};
 ghost use Rattle.mmio_window.specs.Queue.{LiesIn, made_as};
 ghost use Rattle.mmio_window.specs.Soundness.{IsSound};
 
+mod lists;
+mod notifications;
+mod packed;
+mod queues;
+mod services;
+mod split;
+
+use self::queues::{DESC, DEVICE, DRIVER};
 use crate::{Action, CONFIGURATION_LEN, DeviceKind, Queue, Window};
-use chain::Chain;
+use chain::{Chain, Virtqueue};
+use driver::{accept, begin, put_descriptors, put_heads, set_up};
 use guest_memory::GuestMemory;
 use negotiation::{Features, Flags};
 use std::alloc::Allocator;
@@ -33,23 +42,6 @@ const NOTIFICATION_DATA: u64 = 0x40_0000_0000;
 
 const NO_CONFIGURATION: [u8; CONFIGURATION_LEN] = [0; CONFIGURATION_LEN];
 
-/// What a driver writes from a reset on, before the features that it asks for.
-const BEGIN: [(u16, u32); 3] = [(0x070, 0), (0x070, 1), (0x070, 3)];
-
-/// What it writes from FEATURES_OK to DRIVER_OK: the selected queue has a size of 4 and three areas.
-const SET_UP: [(u16, u32); 10] = [
-    (0x070, 0x0b),
-    (0x038, 4),
-    (0x080, 0x8000_1000),
-    (0x084, 0),
-    (0x090, 0x8000_2000),
-    (0x094, 0),
-    (0x0a0, 0x8000_3000),
-    (0x0a4, 0),
-    (0x044, 1),
-    (0x070, 0x0f),
-];
-
 fn read(window: &Window, offset: u16) -> u32 {
     window.read(offset, 4, &NO_CONFIGURATION)
 }
@@ -68,15 +60,9 @@ fn up<A: Allocator>(kind: DeviceKind, offered: u64, asked: u64, mem: &GuestMemor
     ensures sound { IsSound mem.now result }
 {
     let mut window = Window::new(kind, Features::from_bits_retain(offered));
-    let low = (asked & 0xffff_ffff) as u32;
-    let high = (asked >> 32) as u32;
-    write_all(&mut window, mem, &BEGIN);
-    write_all(
-        &mut window,
-        mem,
-        &[(0x024, 0), (0x020, low), (0x024, 1), (0x020, high)],
-    );
-    write_all(&mut window, mem, &SET_UP);
+    write_all(&mut window, mem, &begin());
+    write_all(&mut window, mem, &accept(asked));
+    write_all(&mut window, mem, &set_up(0, 4));
     window
 }
 
@@ -153,22 +139,46 @@ fn a_notification_with_the_next_place(rt: HostRuntime) -> Result<(), Fail> {
 }
 
 /// The size of a queue and its three areas, and whether it is made ready: as a split queue, as a packed one.
-type QueueRow = (u32, u32, u32, u32, u32, u32);
+type QueueRow = (u32, u64, u64, u64, u32, u32);
 
-const QUEUES: [QueueRow; 13] = [
-    (4, 0x8000_1000, 0x8000_2000, 0x8000_3000, 1, 1),
-    (0, 0x8000_1000, 0x8000_2000, 0x8000_3000, 0, 0),
-    (1, 0x8000_1000, 0x8000_2000, 0x8000_3000, 1, 1),
-    (3, 0x8000_1000, 0x8000_2000, 0x8000_3000, 0, 1),
-    (255, 0x8000_1000, 0x8000_2000, 0x8000_3000, 0, 1),
-    (256, 0x8000_1000, 0x8000_2000, 0x8000_3000, 1, 1),
-    (257, 0x8000_1000, 0x8000_2000, 0x8000_3000, 0, 0),
-    (4, 0x8000_1008, 0x8000_2000, 0x8000_3000, 0, 0),
-    (4, 0x8000_1000, 0x8000_2002, 0x8000_3000, 1, 0),
-    (4, 0x8000_1000, 0x8000_2000, 0x8000_3002, 0, 0),
-    (4, 0x8000_ffc0, 0x8000_fffc, 0x8000_fffc, 0, 1),
-    (4, 0x8000_ffd0, 0x8000_2000, 0x8000_3000, 0, 0),
-    (4, 0x8000_1000, 0x8001_0000, 0x8000_3000, 0, 0),
+const QUEUES: [QueueRow; 34] = [
+    (4, DESC, DRIVER, DEVICE, 1, 1),
+    (0, DESC, DRIVER, DEVICE, 0, 0),
+    (1, DESC, DRIVER, DEVICE, 1, 1),
+    (2, DESC, DRIVER, DEVICE, 1, 1),
+    (3, DESC, DRIVER, DEVICE, 0, 1),
+    (255, DESC, DRIVER, DEVICE, 0, 1),
+    (256, DESC, DRIVER, DEVICE, 1, 1),
+    (257, DESC, DRIVER, DEVICE, 0, 0),
+    (512, DESC, DRIVER, DEVICE, 0, 0),
+    (0x1_0004, DESC, DRIVER, DEVICE, 0, 0),
+    // The areas are aligned.
+    (4, DESC + 8, DRIVER, DEVICE, 0, 0),
+    (4, DESC, DRIVER + 1, DEVICE, 0, 0),
+    (4, DESC, DRIVER + 2, DEVICE, 1, 0),
+    (4, DESC, DRIVER + 4, DEVICE, 1, 1),
+    (4, DESC, DRIVER, DEVICE + 2, 0, 0),
+    (4, DESC, DRIVER, DEVICE + 4, 1, 1),
+    // They lie in memory, and may lie over each other.
+    (4, BASE, BASE, BASE, 1, 1),
+    (4, BASE + 0xffc0, DRIVER, DEVICE, 1, 1),
+    (4, BASE + 0xffd0, DRIVER, DEVICE, 0, 0),
+    (4, BASE - 0x10, DRIVER, DEVICE, 0, 0),
+    (4, 0xffff_ffff_ffff_fff0, DRIVER, DEVICE, 0, 0),
+    (4, DESC, BASE + 0xfff2, DEVICE, 1, 0),
+    (4, DESC, BASE + 0xfff4, DEVICE, 0, 1),
+    (4, DESC, BASE + 0xfffc, DEVICE, 0, 1),
+    (4, DESC, BASE + 0x1_0000, DEVICE, 0, 0),
+    (4, DESC, BASE - 4, DEVICE, 0, 0),
+    (4, DESC, DRIVER, BASE + 0xffd8, 1, 1),
+    (4, DESC, DRIVER, BASE + 0xffdc, 0, 1),
+    (4, DESC, DRIVER, BASE + 0xfffc, 0, 1),
+    (4, DESC, DRIVER, BASE + 0x1_0000, 0, 0),
+    (4, DESC, DRIVER, BASE - 4, 0, 0),
+    (4, DESC, DRIVER, 0xffff_ffff_ffff_fffc, 0, 0),
+    (4, BASE + 0xffc0, BASE + 0xfffc, BASE + 0xfffc, 0, 1),
+    // And the first is made ready once more.
+    (4, DESC, DRIVER, DEVICE, 1, 1),
 ];
 
 #[test]
@@ -199,16 +209,20 @@ fn check_queue(
 
 fn made_ready(window: &mut Window, mem: &GuestMemory, queue: &QueueRow) -> u32 {
     let (size, descriptors, driver, device, _, _) = *queue;
-    let writes = [
-        (0x044, 0),
-        (0x038, size),
-        (0x080, descriptors),
-        (0x090, driver),
-        (0x0a0, device),
-        (0x044, 1),
-    ];
-    write_all(window, mem, &writes);
+    write_all(window, mem, &[(0x044, 0), (0x038, size)]);
+    write_address(window, mem, 0x080, descriptors);
+    write_address(window, mem, 0x090, driver);
+    write_address(window, mem, 0x0a0, device);
+    write_all(window, mem, &[(0x044, 1)]);
     read(window, 0x044)
+}
+
+/// Writes both halves of an area's address.
+fn write_address(window: &mut Window, mem: &GuestMemory, offset: u16, address: u64) {
+    let low = (address & 0xffff_ffff) as u32;
+    let high = (address >> 32) as u32;
+    let _ = window.write(offset, 4, low, mem);
+    let _ = window.write(offset.wrapping_add(4), 4, high, mem);
 }
 
 #[test]
@@ -340,9 +354,8 @@ fn serve<A: Allocator>(
 fn a_queue_that_is_ready_again_begins_at_place_0(rt: HostRuntime) -> Result<(), Fail> {
     let mut mem = GuestMemory::new(rt.alloc(), BASE, 0x1_0000)?;
     // One readable buffer at descriptor 0, which is the head of two chains.
-    let _ = mem.put_u64(BASE + 0x1000, BASE + 0x4000);
-    let _ = mem.put_u32(BASE + 0x1008, 0x10);
-    let _ = mem.put_u16(BASE + 0x2002, 2);
+    put_descriptors(&mut mem, DESC, &[(BASE + 0x4000, 0x10, 0, 0)]);
+    put_heads(&mut mem, DRIVER, &[0, 0], 2);
     let mut window = up(DeviceKind::Block, BLOCK, VERSION_1, &mem);
     assert_eq!(rt; serve(&mut window, &mut mem, 0), Some((2, true)));
     assert_eq!(rt; serve(&mut window, &mut mem, 0), Some((0, false)));

@@ -7,9 +7,8 @@ use bitflags::{Flag, Flags, bitflag_items};
 
 /// A set of features (2.2), named or not: a driver may write any bits.
 ///
-/// A bit that is one device type's carries the type's name, since another type gives the same bit
-/// another meaning. Contracts see the bits as `feature_bits`. They follow the methods of [`Flags`], as
-/// `union` and `contains`; the operators work and promise nothing.
+/// A bit of one device type carries the type's name: another type gives the same bit another meaning. Contracts see
+/// the bits as `feature_bits`. The methods of [`Flags`], such as `union`, have contracts; the operators have none.
 #[derive(Clone, Copy, PartialEq, Eq, Debug)]
 pub struct Features(u64);
 

@@ -1,5 +1,4 @@
-//! What holds of a negotiation whatever its driver writes. Each function here does nothing: its contract
-//! is the law.
+//! What holds of a negotiation whatever its driver writes. The bodies are empty: each contract is a theorem.
 
 ghost use Rattle.negotiation.specs.History.{OnlyOfferedFeaturesSettle, OnlyResetClears};
 

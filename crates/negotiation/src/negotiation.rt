@@ -97,9 +97,9 @@ impl Negotiation {
         }
     }
 
-    /// A write to Status, and whether it was a reset: 0 is one. Of any other value the driver's bits are
-    /// set, FEATURES_OK only where the accepted features are all offered and have VERSION_1. All other
-    /// bits of the value are ignored.
+    /// A write to Status, and whether it was a reset, which is a write of 0. Any other value sets the driver's bits that
+    /// it has, FEATURES_OK only where the accepted features are all offered and have VERSION_1. Its other bits are
+    /// ignored.
     #[tactic(auto, using(crate::proofs::StatusLemmas::settled_by_write))]
     pub fn write_status(&mut self, value: u32) -> bool
         ensures reset { result ≡ (value == 0) }

@@ -7,8 +7,8 @@ use bitflags::{Flag, Flags, bitflag_items};
 
 /// The device status (2.1), as the register Status shows it.
 ///
-/// Contracts see its bits as `status_bits`. They follow the methods of [`Flags`], as `union` and
-/// `contains`; the operators work and promise nothing.
+/// Contracts see its bits as `status_bits`. The methods of [`Flags`], such as `union`, have contracts; the operators
+/// have none.
 #[derive(Clone, Copy, PartialEq, Eq, Debug)]
 pub struct Status(u8);
 

@@ -8,7 +8,9 @@ use Rattle.chain.specs.declared.budget.Progress.TheVariants as progress
 use Rattle.chain.specs.Service.{Device, Given}
 use Rattle.chain.proofs.Simulating.{DoesAs}
 use Rattle.mmio_window.specs.declared.queue.Queue.{Queue}
-use Rattle.mmio_window.specs.Pieces.{BeginsTo, GoesOnTo, IsFinishedWithin, IsPaused}
+use Rattle.mmio_window.specs.declared.stage.Stage.{Stage}
+use Rattle.mmio_window.specs.declared.stage.Stage.TheVariants.{First, Next}
+use Rattle.mmio_window.specs.Pieces.{BeginsTo, GoesOnTo, IsFinishedWithin, IsPaused, ServesTo}
 use Rattle.mmio_window.specs.Serving.{IsNotified, Notified}
 use Rattle.mmio_window.specs.Window.{WindowState, queue_at}
 use Rattle.mmio_window.proofs.Pieces.{pauses_first, pauses_again, paused_to_end, queue_stands_open}
@@ -24,14 +26,12 @@ use Rattle.board.specs.declared.event.EventKind.TheVariants.{Read, Write, MemRea
 use Rattle.board.specs.declared.pause.Pause.{Pause}
 use Rattle.board.specs.declared.pause.Service.{Service}
 use Rattle.board.specs.declared.pause.Service.TheVariants.{Block, Receive, Transmit}
-use Rattle.board.specs.declared.pause.Stage.{Stage}
-use Rattle.board.specs.declared.pause.Stage.TheVariants.{First, Next}
 use Rattle.board.specs.declared.reply.Reply.{Reply}
 use Rattle.board.specs.declared.reply.Reply.TheVariants.{Done, Took}
 use Rattle.board.specs.Image.{Health, health_of, sectors_of, disk_with}
 use Rattle.board.specs.Machine.{IsNext, at_rest, task_at, with_input, with_write}
 use Rattle.board.specs.Outcome.{Outcome}
-use Rattle.board.specs.Pausing.{IsBlockPiece, IsPiece, IsReceivePiece, IsTransmitPiece, ServesTo, asked, asked_by, readied, reply_of}
+use Rattle.board.specs.Pausing.{IsBlockPiece, IsPiece, IsReceivePiece, IsTransmitPiece, asked, asked_by, readied, reply_of}
 use Rattle.board.specs.Slot.{SlotState}
 use Rattle.board.specs.Task.{Task, Nothing, ServeBlock, ServeReceive, ServeTransmit, PutOut, Finishes, IsBlockService, IsReceiveService, IsTransmitService, device_of}
 use Rattle.board.proofs.Alike.{PieceAs, piece_as}

@@ -1,16 +1,16 @@
 -- A turn that the board takes, as what a call comes to.
-use Rattle.std.proofs.Common.{◌≡◌, ℕ, Option, Some, None, List, refl, subst}
+use Rattle.std.proofs.Common.{◌≡◌, ℕ, Option, Some, None, List, [], refl, sym, subst, append-nil}
 use Rattle.std.specs.Prelude.{slice_set}
 use Rattle.std.specs.List.{slice_get}
 use Rattle.chain.specs.declared.budget.Budget.{Budget}
+use Rattle.mmio_window.specs.declared.stage.Stage.{Stage}
+use Rattle.mmio_window.specs.declared.stage.Stage.TheVariants.{First}
 use Rattle.sector_cache.specs.Disk.{Disk}
 use Rattle.board.specs.declared.event.Event.{Event}
 use Rattle.board.specs.declared.event.EventKind.{EventKind}
 use Rattle.board.specs.declared.pause.Pause.{Pause}
 use Rattle.board.specs.declared.pause.Service.{Service}
 use Rattle.board.specs.declared.pause.Service.TheVariants.{Block, Receive, Transmit}
-use Rattle.board.specs.declared.pause.Stage.{Stage}
-use Rattle.board.specs.declared.pause.Stage.TheVariants.{First}
 use Rattle.board.specs.declared.pause.Turn.{Turn}
 use Rattle.board.specs.declared.pause.Turn.TheVariants as turn
 use Rattle.board.specs.declared.reply.Reply.{Reply}
@@ -20,7 +20,12 @@ use Rattle.board.specs.Slot.{SlotState}
 use Rattle.board.specs.Within.{BeginsWithin, PieceBy, TurnWithin}
 use Rattle.board.specs.World.{BoardState, world_of}
 use Rattle.paced.specs.declared.response.Response.{Response}
-use Rattle.paced.specs.Pacing.{GoOn, Handle, IsTurn, PacedState, Responds, paced_world, paused_by, response_to}
+use Rattle.paced.specs.Pacing.{Call, ComesTo, GoOn, Handle, IsTurn, PacedState, PacedWorld, Responds, paced_world, paused_by, response_to, slot_in}
+
+-- a call that changes nothing puts nothing out
+pub unchanged : {A : Type 0} (budget : Budget) (world : PacedWorld) (call : Call A) (response : Response A) (out : List ℕ)
+    → ComesTo budget call (slice_get world.paused (slot_in call)) world response [] 0 0 world → Responds budget world call response out out world
+unchanged budget world call response out comes = record { output = []; block = 0; console = 0; comes = comes; appended = sym (append-nil out) }
 
 module _ {A I : Type 0} (disk : I → Disk) (old : PacedState I) (board : BoardState I) (h : ℕ) (turn : Turn A) (block console : ℕ) (out out' : List ℕ) (response : Response A) where
   -- the board with what the turn leaves paused

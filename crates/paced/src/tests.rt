@@ -1,12 +1,10 @@
 //! Worked values: how many calls a service takes, and what other calls are answered meanwhile.
 
-mod driver;
+mod guest;
 
 use crate::{Board, Budget, Event, EventKind, Paced, PacedFault, Reply, Response};
 use board::{Bytes, DeviceKind, Extent, MemoryImage, SlotSpec};
-use driver::{
-    BASE, BLOCK, CONSOLE, DATA, USED, bring_up, receive_twice, request_thrice, two_lines,
-};
+use guest::{BASE, BLOCK, CONSOLE, DATA, USED, bring_up, receive_twice, request_thrice, two_lines};
 use std::alloc::{AllocError, Allocator, Global};
 use std::fmt::Debug;
 use std::process::Abort;
@@ -151,6 +149,38 @@ fn is_told(response: &Response, told: Told) -> bool {
     }
 }
 
+/// Makes a call that is done at once.
+fn check_done(
+    rt: &impl Abort,
+    alloc: Global,
+    paced: &mut Paced<MemoryImage>,
+    act: &Act,
+    out: &mut Vec<u8>,
+) -> Result<(), AllocError> {
+    let response = made(alloc, paced, Do(0, *act), out)?;
+    same(rt, act, &is_told(&response, Told::Done), &true);
+    Ok(())
+}
+
+fn check_row(
+    rt: &impl Abort,
+    alloc: Global,
+    paced: &mut Paced<MemoryImage>,
+    row: &Row,
+    out: &mut Vec<u8>,
+) -> Result<(), AllocError> {
+    let (call, told, put_out, words) = *row;
+    let response = made(alloc, paced, call, out)?;
+    let is_put_out = out.as_slice() == put_out;
+    let found = (
+        is_told(&response, told),
+        is_put_out,
+        paced.board().interrupts(0),
+    );
+    same(rt, row, &found, &(true, true, Some(words)));
+    Ok(())
+}
+
 /// Brings a queue of slot 0 up and fills its ring, all of which is done at once, and then goes through the rows.
 fn check_rows(
     rt: &(impl Abort + AllocGlobal),
@@ -163,16 +193,11 @@ fn check_rows(
     let mut out = Vec::new(alloc);
     for acts in setup {
         for act in *acts {
-            let response = made(alloc, &mut paced, Do(0, *act), &mut out)?;
-            same(rt, act, &is_told(&response, Told::Done), &true);
+            check_done(rt, alloc, &mut paced, act, &mut out)?;
         }
     }
     for row in rows {
-        let (call, told, put_out, words) = *row;
-        let response = made(alloc, &mut paced, call, &mut out)?;
-        let found = (is_told(&response, told), out.as_slice() == put_out);
-        same(rt, row, &found, &(true, true));
-        same(rt, row, &paced.board().interrupts(0), &Some(words));
+        check_row(rt, alloc, &mut paced, row, &mut out)?;
     }
     Ok(())
 }
@@ -288,7 +313,7 @@ fn check_calls(
     let mut paced = paced(alloc, budget(chains, bytes))?;
     let mut out = Vec::new(alloc);
     for act in bring_up(BLOCK, 0).iter().chain(&request_thrice()) {
-        let _ = made(alloc, &mut paced, Do(0, *act), &mut out)?;
+        check_done(rt, alloc, &mut paced, act, &mut out)?;
     }
     let response = made(alloc, &mut paced, Do(0, Set(BLOCK, 0x050, 0)), &mut out)?;
     same(rt, row, &calls_of(&mut paced, response, &mut out), &wanted);
@@ -306,15 +331,16 @@ fn calls_of(paced: &mut Paced<MemoryImage>, mut response: Response, out: &mut Ve
     9
 }
 
+fn check_spent(rt: &impl Abort, alloc: Global, spent: Budget) -> Result<(), Fail> {
+    let refused = Paced::new(alloc, board(alloc)?, spent).err();
+    let found = refused.map(|refused| (refused.why, refused.image.slots()));
+    same(rt, &spent, &found, &Some((PacedFault::SpentBudget, 2)));
+    Ok(())
+}
+
 /// A budget of nothing is refused, and the board is handed back.
 #[test]
 fn refused(rt: HostRuntime) -> Result<(), Fail> {
-    for spent in [budget(Some(0), None), budget(None, Some(0))] {
-        let made = Paced::new(rt.alloc(), board(rt.alloc())?, spent);
-        let found = made
-            .map(|_| ())
-            .map_err(|refused| (refused.why, refused.image.slots()));
-        same(&rt, &spent, &found, &Err((PacedFault::SpentBudget, 2)));
-    }
-    Ok(())
+    check_spent(&rt, rt.alloc(), budget(Some(0), None))?;
+    check_spent(&rt, rt.alloc(), budget(None, Some(0)))
 }

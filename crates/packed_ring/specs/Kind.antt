@@ -4,7 +4,7 @@ use Rattle.guest_memory.specs.Memory.{Memory, put_num}
 use Rattle.chain.specs.declared.segment.Buffer.{Buffer}
 use Rattle.chain.specs.declared.fault.Fault.{Fault}
 use Rattle.chain.specs.Service.{Entry, Kind}
-use Rattle.indirect.specs.Lists.{packed_tables, ListResolves, ListFails}
+use Rattle.indirect.specs.Lists.{packed_tables, ListOffers, ListFails}
 use Rattle.suppression.specs.Places.{Passed, place_back}
 use Rattle.suppression.specs.Packed.{PackedWants}
 use Rattle.packed_ring.specs.Ring.{PackedRingState, descriptor_addr, id_of, table_of, head_of, is_available, place_behind, with_used}
@@ -28,12 +28,10 @@ entry_of id length = record { id = id; places = length }
 
 -- the chain on offer is the list of descriptors from the ring's place on; its id is that of the last one, and
 -- only the first has to be available
-pub record Offers (m : Memory) (ring : PackedRingState) (buffers : List Buffer) (entry : Entry) : Type 0 where
-  -- the members before the last one, and its position
-  pub count : ℕ
-  pub last : ℕ
-  pub list : ListResolves packed_tables ring.setup.indirect m (table_of m ring) ring.setup.size (head_of ring) count last buffers
-  pub entry_is : entry ≡ entry_of (id_of m (descriptor_addr ring.setup.desc last)) (count + 1)
+abbrev pub Offers : Memory → PackedRingState → List Buffer → Entry → Type 0
+Offers m ring buffers entry =
+    let entry_at : ℕ → ℕ → Entry = λ count last. entry_of (id_of m (descriptor_addr ring.setup.desc last)) (count + 1) in
+    ListOffers packed_tables ring.setup.indirect m (table_of m ring) ring.setup.size (head_of ring) entry_at buffers entry
 
 -- that list has this fault
 abbrev pub HasFault : Memory → PackedRingState → Fault → Type 0

@@ -15,6 +15,3 @@ pub use laws::{
     one_chain_or_fault_at_a_place,
 };
 pub use ring::{PackedRing, Token};
-
-#[cfg(test)]
-mod tests;

@@ -1,16 +1,14 @@
 //! The ring: its areas, its place, and the four calls of a service.
 
-ghost use Rattle.std.specs.Prelude.{◌≡◌, ◌*◌, ◌<◌, ◌↔◌, [], true, if◌then◌else◌, is_some, IsTrue, IsSome, IfSome, IfNone, IfOk, IfErr, OnOk, OnErr};
-ghost use Rattle.chain.specs.Buffers.{Good};
+ghost use Rattle.std.specs.Prelude.{◌≡◌, ◌*◌, ◌<◌, ◌↔◌, if◌then◌else◌, IsTrue, IsSome, IfSome};
 ghost use Rattle.guest_memory.specs.Memory.{SameRange};
 ghost use Rattle.packed_ring.specs.Ring.{IsAligned, IsQueueSize, IsUsable, LiesIn, can_set_up, descriptor_addr, head_of, id_of, is_available, new_ring, setup_of, used_flags, with_used, wrap_counter};
 ghost use Rattle.packed_ring.specs.Kind.{IsTaken, entry_of, first_passed, packed_kind};
-ghost use Rattle.std.specs.Result.{result_err};
 
 mod view;
 
 use crate::walk::{Table, append_list};
-use chain::{Chain, Fault};
+use chain::{Chain, Fault, Virtqueue};
 use guest_memory::GuestMemory;
 use indirect::WRITE;
 use std::alloc::Allocator;
@@ -126,67 +124,6 @@ impl PackedRing {
         mem.holds(self.desc, 16 * n) && mem.holds(self.driver, 4) && mem.holds(self.device, 4)
     }
 
-    /// Opens a service: lists may be taken in it until it has passed as many places as the queue has
-    /// descriptors, or more. It reads nothing, so it never has a fault.
-    pub fn open<A: Allocator>(&mut self, mem: &GuestMemory<A>) -> Result<(), Fault>
-        requires { LiesIn mem.now self.old.setup }
-        ensures no_fault { result_err result ≡ packed_kind.opening_fault mem.now self.old }
-        ensures opened { self.new ≡ packed_kind.opened mem.now self.old }
-        ensures lies { LiesIn mem.now self.new.setup }
-    {
-        let _ = mem;
-        self.left = self.size;
-        self.passed = 0;
-        Ok(())
-    }
-
-    /// Takes the next chain: fills `chain` with the buffers of the list at the ring's place, and names it by
-    /// a token. There is `None` where none is on offer: before the first `open`, after an error and after
-    /// `close` too. The ring's place stays, so a token that is dropped leaves its chain on offer.
-    pub fn take<A: Allocator>(
-        &mut self,
-        mem: &GuestMemory<A>,
-        chain: &mut Chain,
-    ) -> Result<Option<Token>, Fault>
-        requires { LiesIn mem.now self.old.setup }
-        ensures on_offer { IfOk result (λ taken. packed_kind.offers mem.now self.old ≡ is_some taken) }
-        ensures offered { IfOk result (λ taken. IfSome taken (λ token. packed_kind.Offers mem.now self.old chain.new (entry_of token.id token.length))) }
-        ensures taken { IfOk result (λ taken. IfSome taken (IsTaken self.old)) }
-        ensures same { OnOk result (self.new ≡ self.old) }
-
-        // A fault is that of what is on offer, and ends the service.
-        ensures met { OnErr result (packed_kind.offers mem.now self.old ≡ true) }
-        ensures fault { IfErr result (packed_kind.HasFault mem.now self.old) }
-        ensures stopped { OnErr result (self.new ≡ packed_kind.stopped self.old) }
-
-        ensures empty { IfOk result (λ taken. IfNone taken (chain.new ≡ [])) }
-        ensures emptied { OnErr result (chain.new ≡ []) }
-        ensures good { Good mem.now chain.new }
-        ensures lies { LiesIn mem.now self.new.setup }
-    {
-        chain.clear();
-        if self.left == 0 || !self.is_available(mem) {
-            return Ok(None);
-        }
-        let table = Table {
-            addr: self.desc,
-            size: self.size,
-            indirect: self.indirect,
-        };
-        match append_list(mem, table, self.head(), chain) {
-            Ok(end) => Ok(Some(Token {
-                place: self.place,
-                id: self.id(mem, end.last),
-                length: end.count + 1,
-            })),
-            Err(fault) => {
-                chain.clear();
-                self.left = 0;
-                Err(fault)
-            }
-        }
-    }
-
     /// The position of the ring's place.
     fn head(&self) -> u16
         ensures value { result ≡ head_of self.now }
@@ -224,29 +161,6 @@ impl PackedRing {
         mem.read_u16(self.desc + offset + 12)
     }
 
-    /// Gives the chain that was taken last back to the driver as used, with `len` bytes written without a gap
-    /// from its first writable one on, and any bytes written or none (2.8.3, 2.8.4).
-    pub fn give<A: Allocator>(
-        &mut self,
-        mem: &mut GuestMemory<A>,
-        token: Token,
-        len: u32,
-        wrote: bool,
-    )
-        requires lies { LiesIn mem.old self.old.setup }
-        requires taken { IsTaken self.old token }
-        ensures used { mem.new ≡ packed_kind.used mem.old self.old (entry_of token.id token.length) len wrote }
-        ensures past { self.new ≡ packed_kind.past self.old (entry_of token.id token.length) }
-        ensures fewer { self.new.left < self.old.left }
-        ensures range { SameRange mem.old mem.new }
-        ensures lies { LiesIn mem.new self.new.setup }
-    {
-        self.put_used(mem, token.id, len, wrote);
-        self.place = (self.place + token.length) % (2 * self.size);
-        self.left = self.left.saturating_sub(token.length);
-        self.passed += token.length;
-    }
-
     /// Writes len, buffer id and flags into the descriptor at the ring's place (2.8.4).
     fn put_used<A: Allocator>(&self, mem: &mut GuestMemory<A>, id: u16, len: u32, wrote: bool)
         requires { LiesIn mem.old self.now.setup }
@@ -261,17 +175,85 @@ impl PackedRing {
         mem.write_u16(descriptor + 14, flags_of_used(self.wrap_counter(), wrote));
     }
 
-    /// Closes a service: asks the driver to notify of what it offers next (2.8.10), and answers whether it
-    /// wants to be notified of the places passed since the last `open`. Where none was passed, or the ring
-    /// wasn't opened since it was closed, it doesn't.
-    pub fn close<A: Allocator>(&mut self, mem: &mut GuestMemory<A>) -> bool
-        requires { LiesIn mem.old self.old.setup }
-        ensures closed { mem.new ≡ packed_kind.closed mem.old self.old }
-        ensures wants { IsTrue result ↔ packed_kind.Wants mem.new self.old }
-        ensures shut { self.new ≡ packed_kind.shut self.old }
-        ensures range { SameRange mem.old mem.new }
-        ensures lies { LiesIn mem.new self.new.setup }
+    /// The first of the places passed since the last `open`.
+    fn first_passed(&self) -> u16
+        ensures value { result ≡ first_passed self.now }
+        ensures below { result < 2 * self.now.setup.size }
     {
+        let places = 2 * self.size;
+        (self.place + (places - self.passed)) % places
+    }
+}
+
+impl Virtqueue for PackedRing {
+    type Token = Token;
+
+    ghost kind = { packed_kind };
+
+    ghost LiesIn = { λ m ring. LiesIn m ring.setup };
+
+    ghost entry_of = { λ token. entry_of token.id token.length };
+
+    ghost IsTaken = { IsTaken };
+
+    ghost left_of = { λ ring. ring.left };
+
+    ghost made_as = { λ ring. new_ring ring.setup };
+
+    /// Lists may be taken until as many places are passed as the queue has descriptors, or more. It reads nothing,
+    /// so it never has a fault.
+    fn open<A: Allocator>(&mut self, mem: &GuestMemory<A>) -> Result<(), Fault> {
+        let _ = mem;
+        self.left = self.size;
+        self.passed = 0;
+        Ok(())
+    }
+
+    /// The next chain is the list at the ring's place, where that is available.
+    fn take<A: Allocator>(
+        &mut self,
+        mem: &GuestMemory<A>,
+        chain: &mut Chain,
+    ) -> Result<Option<Token>, Fault> {
+        chain.clear();
+        if self.left == 0 || !self.is_available(mem) {
+            return Ok(None);
+        }
+        let table = Table {
+            addr: self.desc,
+            size: self.size,
+            indirect: self.indirect,
+        };
+        match append_list(mem, table, self.head(), chain) {
+            Ok(end) => Ok(Some(Token {
+                place: self.place,
+                id: self.id(mem, end.last),
+                length: end.count + 1,
+            })),
+            Err(fault) => {
+                chain.clear();
+                self.left = 0;
+                Err(fault)
+            }
+        }
+    }
+
+    /// The used descriptor tells whether any byte was written, too (2.8.3, 2.8.4).
+    fn give<A: Allocator>(
+        &mut self,
+        mem: &mut GuestMemory<A>,
+        token: Token,
+        len: u32,
+        wrote: bool,
+    ) {
+        self.put_used(mem, token.id, len, wrote);
+        self.place = (self.place + token.length) % (2 * self.size);
+        self.left = self.left.saturating_sub(token.length);
+        self.passed += token.length;
+    }
+
+    /// The closing write comes first (2.8.10), then the test.
+    fn close<A: Allocator>(&mut self, mem: &mut GuestMemory<A>) -> bool {
         mem.write_u32(self.device, 0);
         let wanted = packed_wants(
             mem,
@@ -284,15 +266,6 @@ impl PackedRing {
         self.left = 0;
         self.passed = 0;
         wanted
-    }
-
-    /// The first of the places passed since the last `open`.
-    fn first_passed(&self) -> u16
-        ensures value { result ≡ first_passed self.now }
-        ensures below { result < 2 * self.now.setup.size }
-    {
-        let places = 2 * self.size;
-        (self.place + (places - self.passed)) % places
     }
 }
 

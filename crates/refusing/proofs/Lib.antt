@@ -1,1 +1,2 @@
 mod NextRequest
+mod Receiver

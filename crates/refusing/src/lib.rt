@@ -1,6 +1,7 @@
-// A heap for tests that refuses memory on demand. A test hands `&heap` to the code under test, sets which request is to be
-// refused, alone or with all later ones, and asks afterwards whether it came. Requests that are not refused go to an inner allocator, and so does each block
-// that is given back. A request is an `allocate`; since `grow` and `shrink` are the trait's own, each of those is one too.
+//! An allocator for tests, which refuses a chosen request for memory, alone or with all later ones.
+//!
+//! A test hands `&heap` to the code under test, chooses the request, and asks afterwards whether it came. Other requests, and
+//! blocks that are given back, go to an inner allocator. `grow` and `shrink` are the trait's own, so each is a request too.
 #![tactic(auto)]
 
 ghost use Rattle.std.specs.Prelude.{◌≡◌};
@@ -12,7 +13,7 @@ mod refusal;
 
 use refusal::Refusal;
 
-/// A heap that refuses a chosen request for memory, alone or with each later one. A `&` to it is an allocator that can be copied.
+/// A heap that refuses a chosen request for memory. A `&` to it is an allocator that is `Copy`.
 #[derive(Drop)]
 pub struct RefusingHeap<A: Allocator = Global> {
     /// The allocator that owns the memory.
@@ -52,7 +53,7 @@ impl<A: Allocator> RefusingHeap<A> {
     }
 }
 
-// Counts a request, and answers whether it is refused. It takes the cell alone, so that the proof of `allocate` lends that field.
+// Counts a request, and answers whether it is refused. It takes the cell alone: the proof of `allocate` lends that field.
 fn refuses_next(refusal: &Cell<Refusal>) -> bool {
     let now = refusal.get().with_request();
     refusal.set(now);

@@ -1,14 +1,17 @@
-// Which requests are refused, over plain values. A heap keeps one of these in a cell, and clauses do not see into cells, so each
-// rule is stated and proved here.
+//! Which requests are refused, over plain values. A heap keeps one in a cell, into which no clause sees, so each rule is stated
+//! and proved here.
+
 ghost use Rattle.std.specs.Prelude.{◌≡◌, ◌+◌, ◌-◌, ◌^◌, ◌↔◌, IsTrue, min};
 ghost use Rattle.refusing.specs.Refusal.{HasCome, IsRefused};
 
-// `first` is the first request to be refused, or 0 for none, and `last` the last one. `requests` counts those that came since
-// they were set.
+/// Which requests are refused, and how many came.
 #[derive(Clone, Copy)]
 pub struct Refusal {
+    /// The first request that is refused, or 0 for none.
     pub first: u64,
+    /// The last one.
     pub last: u64,
+    /// How many requests came since both were set.
     pub requests: u64,
 }
 
@@ -23,7 +26,7 @@ impl Refusal {
         }
     }
 
-    // One more request has come. A count that fills its 64 bits stays, and so does the refusal.
+    /// One more request has come. A count that fills its 64 bits stays, and so does the refusal.
     pub fn with_request(self) -> Refusal
         ensures counted { result ≡ record self { requests = min (self.requests + 1) (2 ^ 64 - 1) } }
         ensures stays_come { HasCome self.first self.requests → HasCome result.first result.requests }
@@ -36,14 +39,14 @@ impl Refusal {
         }
     }
 
-    // Whether a refused request has come.
+    /// Whether a refused request has come.
     pub fn has_come(self) -> bool
         ensures { IsTrue result ↔ HasCome self.first self.requests }
     {
         self.first != 0 && self.first <= self.requests
     }
 
-    // Whether the request that came last is refused.
+    /// Whether the request that came last is refused.
     pub fn refuses(self) -> bool
         ensures { IsTrue result ↔ IsRefused self.first self.last self.requests }
     {

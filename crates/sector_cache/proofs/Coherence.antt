@@ -63,21 +63,16 @@ module _ {A : Type 0} where
   }
 
   -- such a write that succeeds
-  pub coherent_written : (sector : ℕ) (new : List ℕ) (disk after : Disk) (kept : Kept A) → after ≡ written sector new disk → IsBeside sector disk kept → IsWhole disk → sector < disk.sector_count → length new ≡ 512 → IsWritten sector new after kept
+  coherent_written : (sector : ℕ) (new : List ℕ) (disk after : Disk) (kept : Kept A) → after ≡ written sector new disk → IsBeside sector disk kept → IsWhole disk → sector < disk.sector_count → length new ≡ 512 → IsWritten sector new after kept
   coherent_written sector new disk after kept is beside whole within long = rw is (record {
     others = coherent_apart sector new disk kept whole within long beside;
     told = IsAsTold-itself disk sector new whole within long;
   })
 
   -- such a write that fails
-  pub coherent_torn : (sector : ℕ) (disk after : Disk) (kept : Kept A) → IsTorn sector disk after → IsBeside sector disk kept → IsWhole disk → sector < disk.sector_count → IsCoherent after kept
+  coherent_torn : (sector : ℕ) (disk after : Disk) (kept : Kept A) → IsTorn sector disk after → IsBeside sector disk kept → IsWhole disk → sector < disk.sector_count → IsCoherent after kept
   coherent_torn sector disk after kept torn beside whole within =
       rw torn.torn (record { told = (coherent_apart sector torn.left disk kept whole within torn.whole beside).told })
-
-  -- and after which the sector is dropped once more
-  pub coherent_dropped : (sector : ℕ) (disk after : Disk) (old new : Kept A) → KeepsAllBut sector old new → IsTorn sector disk after → IsBeside sector disk old → IsWhole disk → sector < disk.sector_count → IsCoherent after new
-  coherent_dropped sector disk after old new dropped torn beside whole within =
-      coherent_less sector after old new (coherent_torn sector disk after old torn beside whole within) dropped
 
   -- such a write, whichever way it ends
   pub coherent_unkept : {X E : Type 0} (result : Result X E) (sector : ℕ) (new : List ℕ) (disk after : Disk) (kept : Kept A) → OnOk result (after ≡ written sector new disk) → OnErr result (IsTorn sector disk after)
@@ -86,7 +81,7 @@ module _ {A : Type 0} where
   coherent_unkept (Err _) sector new disk after kept ok err beside whole within long = coherent_torn sector disk after kept err beside whole within
 
   -- what is put is as told
-  pub coherent_put : (sector : ℕ) (bytes : List ℕ) (disk : Disk) (old new : Kept A) → MayKeep sector bytes old new → IsWritten sector bytes disk old → IsCoherent disk new
+  coherent_put : (sector : ℕ) (bytes : List ℕ) (disk : Disk) (old new : Kept A) → MayKeep sector bytes old new → IsWritten sector bytes disk old → IsCoherent disk new
   coherent_put sector bytes disk old new may as_written = record {
     told = λ other.
         (elim (kept_of new other) as (λ o. IfSome o (λ kept. (kept_of old other ≡ Some kept) ⊎ ((other ≡ sector) × (kept ≡ bytes))) → IfSome o (IsAsTold disk other)) [
@@ -97,3 +92,9 @@ module _ {A : Type 0} where
           ]
         ]) (may.each other);
   }
+
+  -- what was written is put
+  pub coherent_kept : (sector : ℕ) (new : List ℕ) (disk after : Disk) (old kept : Kept A) → after ≡ written sector new disk → IsWhole disk → sector < disk.sector_count → length new ≡ 512
+      → IsCoherent after old → MayKeep sector new old kept → IsCoherent after kept
+  coherent_kept sector new disk after old kept is whole within long coherent may =
+      coherent_put sector new after old kept may (record { others = coherent; told = rw is (IsAsTold-itself disk sector new whole within long) })

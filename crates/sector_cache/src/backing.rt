@@ -14,8 +14,8 @@ use std::os::unix::fs::{FileExt, FileTypeExt};
 
 /// A file that is read and written at places that the caller names.
 ///
-/// An image over a file claims nothing of its bytes, since nobody knows what a file of the system
-/// holds. Of a file that tells what it holds, as one of a test, each call says what became of that.
+/// Nobody knows what a file of the system holds, so nothing is said of its bytes. Where a file tells what it holds, as one
+/// of a test does, each call says what became of that.
 pub trait BackingFile: Drop {
     // the bytes that the file holds, where they are known
     ghost held: { Self → Option (List ℕ) };

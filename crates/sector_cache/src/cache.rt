@@ -6,7 +6,6 @@ ghost use Rattle.std.specs.Io.BufRead.{Rests};
 ghost use Rattle.sector_cache.specs.contracts.cache.SectorCache.{the_row};
 ghost use Rattle.sector_cache.specs.Disk.{IsAsTold, IsTorn, failed, written, flushed};
 ghost use Rattle.sector_cache.specs.Fault.{IsCapacity, RefusesCapacity};
-ghost use Rattle.sector_cache.specs.Kept.{IsCoherent};
 ghost use Rattle.sector_cache.specs.Lending.{IsReadThrough};
 
 use crate::fault::{CacheFault, Refused};
@@ -20,7 +19,7 @@ const MOST_SECTORS: u32 = 65536;
 
 /// An image behind a cache. Writes go through to it.
 ///
-/// What is kept is never seen: a cache is seen as its image, and reads give what that tells.
+/// Contracts see a cache as its image, and nothing of what is kept.
 #[derive(Drop)]
 pub struct SectorCache<I: Image, A: Allocator = Global> {
     image: I,
@@ -99,10 +98,11 @@ impl<I: Image, A: Allocator + Copy> SectorCache<I, A> {
         ensures ok { OnOk result (I.disk self.new ≡ written sector from.now (I.disk self.old)) }
         ensures err { OnErr result (IsTorn sector (I.disk self.old) (I.disk self.new)) }
     {
-        if self.image.lend_sector(sector).is_some() {
-            return write_unkept(&mut self.image, &mut self.kept, sector, from);
+        self.write_unkept(sector, from)?;
+        if self.image.lend_sector(sector).is_none() {
+            self.kept.keep(sector, from);
         }
-        write_through(&mut self.image, &mut self.kept, sector, from)
+        Ok(())
     }
 
     /// `write` of 512 zeros, of which none are kept: zeroing many sectors drives no other out of the cache.
@@ -112,7 +112,17 @@ impl<I: Image, A: Allocator + Copy> SectorCache<I, A> {
             (I.disk self.new ≡ written sector (replicate 512 0) (I.disk self.old)) }
         ensures err { OnErr result (IsTorn sector (I.disk self.old) (I.disk self.new)) }
     {
-        write_unkept(&mut self.image, &mut self.kept, sector, &[0; 512])
+        self.write_unkept(sector, &[0; 512])
+    }
+
+    // Writes a sector, of which nothing is kept from before the image is called.
+    fn write_unkept(&mut self, sector: u64, from: &[u8; 512]) -> Result<(), ImageError>
+        requires { sector < (I.disk self.old).sector_count }
+        ensures ok { OnOk result (I.disk self.new ≡ written sector from.now (I.disk self.old)) }
+        ensures err { OnErr result (IsTorn sector (I.disk self.old) (I.disk self.new)) }
+    {
+        self.kept.forget(sector);
+        self.image.write_sector(sector, from)
     }
 }
 
@@ -139,47 +149,6 @@ impl<I: Image, A: Allocator> SectorCache<I, A> {
         let SectorCache { image, kept: _ } = self;
         image
     }
-}
-
-/// Writes a sector of an image, of which some sectors are kept. Its old bytes are dropped before the image
-/// is called, and the new ones are kept only once it has them.
-fn write_through<I: Image, A: Allocator + Copy>(
-    image: &mut I,
-    kept: &mut Kept<A>,
-    sector: u64,
-    from: &[u8; 512],
-) -> Result<(), ImageError>
-    requires sector { sector < (I.disk image.old).sector_count }
-    requires coherent { IsCoherent (I.disk image.old) kept.old }
-    ensures ok { OnOk result (I.disk image.new ≡ written sector from.now (I.disk image.old)) }
-    ensures err { OnErr result (IsTorn sector (I.disk image.old) (I.disk image.new)) }
-    ensures coherent { IsCoherent (I.disk image.new) kept.new }
-{
-    let place = kept.empty(sector);
-    if let Err(error) = image.write_sector(sector, from) {
-        kept.forget(sector);
-        return Err(error);
-    }
-    kept.put(sector, place, from);
-    Ok(())
-}
-
-/// Writes a sector of an image, of which some sectors are kept. Nothing is kept of it from before the image is
-/// called.
-fn write_unkept<I: Image, A: Allocator + Copy>(
-    image: &mut I,
-    kept: &mut Kept<A>,
-    sector: u64,
-    from: &[u8; 512],
-) -> Result<(), ImageError>
-    requires sector { sector < (I.disk image.old).sector_count }
-    requires coherent { IsCoherent (I.disk image.old) kept.old }
-    ensures ok { OnOk result (I.disk image.new ≡ written sector from.now (I.disk image.old)) }
-    ensures err { OnErr result (IsTorn sector (I.disk image.old) (I.disk image.new)) }
-    ensures coherent { IsCoherent (I.disk image.new) kept.new }
-{
-    kept.forget(sector);
-    image.write_sector(sector, from)
 }
 
 /// Whether a cache may have this capacity.

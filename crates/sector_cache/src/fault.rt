@@ -23,7 +23,7 @@ pub enum FileImageFault {
     /// It is neither a regular file nor a block device.
     #[error("it is neither a regular file nor a block device")]
     BadKind,
-    /// Somebody else holds a lock on it.
+    /// Another program holds a lock on it.
     #[error("somebody else holds a lock on the file")]
     Locked,
 }
@@ -46,7 +46,7 @@ pub struct FileFailure {
     pub error: io::Error,
 }
 
-/// Why there is no cache. The first that fits, in this order, is the one that is answered.
+/// Why there is no cache: the first of these that holds.
 #[derive(Clone, Copy, Debug, PartialEq, Eq, Hash, Error)]
 pub enum CacheFault {
     /// The capacity is not in 1..=65536 sectors.
@@ -57,8 +57,7 @@ pub enum CacheFault {
     NoMemory,
 }
 
-/// What a constructor that was handed an image answers where it refuses: the image, as it was,
-/// and why.
+/// The answer of a constructor that refuses: the image that it was handed, as it was, and why.
 #[derive(Drop)]
 #[derive_where(Debug; I, F)]
 pub struct Refused<I, F> {

@@ -1,4 +1,4 @@
-//! An image that is a file. It tells no bytes, since nobody knows what a file holds.
+//! An image that is a file. It tells no bytes.
 
 ghost use Rattle.std.specs.Prelude.{◌≡◌, ◌≢◌, ◌↔◌, ◌+◌, ◌-◌, ◌*◌, ◌/◌, ◌%◌, ◌<◌, ◌^◌, length, Some, IfSome, IfOk, OnOk, OnErr, IsOk, IsErr, IsErrOf, IsTrue, is_err};
 ghost use Rattle.sector_cache.specs.Disk.{IsAsTold, IsTorn, failed, written, flushed};

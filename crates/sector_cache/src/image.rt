@@ -12,10 +12,9 @@ pub struct ImageError;
 
 /// A disk of `sectors()` sectors of 512 bytes, numbered from 0.
 ///
-/// Its meaning is its `disk`: the bytes that it tells, the number of its failures and its mark. An
-/// image of which nothing is known, as one over a file, tells no bytes; what is said of bytes then
-/// says nothing of it, and the rest holds as of any image. An image that tells its bytes goes on
-/// telling them, since every call says what they are then.
+/// Its meaning is its `disk`: the bytes that it tells, the number of its failures and its mark. An image over a file tells
+/// no bytes, since nobody knows what a file holds: clauses about bytes then say nothing, and all others hold. An image
+/// that tells its bytes goes on to, since each call says what they are after it.
 pub trait Image {
     ghost disk: { Self → Disk };
 

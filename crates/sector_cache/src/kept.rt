@@ -98,15 +98,6 @@ impl<A: Allocator + Copy> Kept<A> {
         }
     }
 
-    /// Drops the bytes of a sector, and answers the place that is left for those that a `put` brings.
-    pub(crate) fn empty(&mut self, sector: u64) -> Option<usize>
-        ensures { KeepsAllBut sector self.old self.new }
-    {
-        let place = *self.table.get(&sector)?;
-        self.clear(place, sector);
-        Some(place)
-    }
-
     /// Drops the bytes of a sector, whose place is the next one that is filled.
     pub(crate) fn forget(&mut self, sector: u64)
         ensures { KeepsAllBut sector self.old self.new }
@@ -120,23 +111,15 @@ impl<A: Allocator + Copy> Kept<A> {
         }
     }
 
-    /// Keeps these bytes of a sector, as the most recently used, at the place that was left for it.
-    pub(crate) fn put(&mut self, sector: u64, place: Option<usize>, bytes: &[u8; 512])
+    /// Keeps these bytes of a sector that has no place, as the most recently used.
+    pub(crate) fn keep(&mut self, sector: u64, bytes: &[u8; 512])
         ensures { MayKeep sector bytes.now self.old self.new }
     {
         *self.last = *bytes;
-        match place {
-            Some(place) => {
-                self.fill(place, Some(sector));
-                self.order.make_newest(place);
-            }
-            None => {
-                self.keep_last(sector);
-            }
-        }
+        self.keep_last(sector);
     }
 
-    /// The same of the last bytes, of a sector that has no place. Answers where they are.
+    /// The same of the last bytes. Answers where they are.
     pub(crate) fn keep_last(&mut self, sector: u64) -> usize
         ensures keeps { MayKeep sector (last_of self.old) self.old self.new }
         ensures place { bytes_of self.new result ≡ last_of self.old }

@@ -1,2 +1,1 @@
-pub mod Weaving
 pub mod Showing

@@ -1,3 +1,1 @@
-pub mod Woven
-pub mod Weaver
 pub mod Replaying

@@ -1,8 +1,24 @@
-//! Reaching a slot's window by the kind of its device.
+//! Reaching a slot's windows and queues by the kind of the device.
 
 use board::{Board, DeviceKind, Image};
-use mmio_window::{Queue, Window};
+use guest_memory::GuestMemory;
+use mmio_window::{Queue, QueueRegisters, Window};
 use std::alloc::Allocator;
+
+/// A queue of a slot.
+#[derive(Clone, Copy, Debug, PartialEq, Eq)]
+pub struct SlotQueue {
+    pub slot: u8,
+    pub kind: DeviceKind,
+    pub queue: u32,
+}
+
+impl SlotQueue {
+    /// A queue of one of a slot's devices.
+    pub fn new(slot: u8, kind: DeviceKind, queue: u32) -> SlotQueue {
+        SlotQueue { slot, kind, queue }
+    }
+}
 
 /// A window of a slot.
 pub fn window_of<I: Image, A: Allocator>(
@@ -16,14 +32,19 @@ pub fn window_of<I: Image, A: Allocator>(
     }
 }
 
-/// The ring of a queue of a slot, where it is ready.
-pub fn ring_of<I: Image, A: Allocator>(
+/// The registers of a queue, beside the memory of its slot.
+pub fn queue_of<I: Image, A: Allocator>(
     board: &Board<I, A>,
-    slot: u8,
-    kind: DeviceKind,
-    queue: u32,
-) -> Option<&Queue> {
-    let window = window_of(board, slot, kind)?;
-    let registers = window.registers(queue)?;
+    at: SlotQueue,
+) -> Option<(&GuestMemory<A>, &QueueRegisters)> {
+    let mem = board.memory(at.slot)?;
+    let window = window_of(board, at.slot, at.kind)?;
+    let registers = window.registers(at.queue)?;
+    Some((mem, registers))
+}
+
+/// The ring of a queue, where it is ready.
+pub fn ring_of<I: Image, A: Allocator>(board: &Board<I, A>, at: SlotQueue) -> Option<&Queue> {
+    let (_, registers) = queue_of(board, at)?;
     registers.ring.as_ref()
 }

@@ -3,18 +3,21 @@
 //! The records are those of a replay over the image, as they are written. A second board over a copy of the image goes
 //! along with them, event by event, to say what each was.
 
-ghost use Rattle.std.specs.Prelude.{OnOk};
+ghost use Rattle.std.specs.Prelude.{OnOk, false};
+ghost use Rattle.std.specs.Io.KnownBytes.{Keeps};
 ghost use Rattle.sector_cache.specs.MemoryImage.{disk_of};
+ghost use Rattle.weave.specs.Weaver.{weaver_records};
+ghost use Rattle.weave.specs.Woven.{records_of};
 ghost use Rattle.show.specs.Replaying.{ShowsRun};
 
 use crate::teller::Teller;
-use crate::weaver::Weaver;
 use calls::replayed;
 use replay::ReplayFault;
 use sector_cache::MemoryImage;
 use std::alloc::Allocator;
 use std::io;
-use std::io::Write;
+use std::io::{ErrorKind, Write};
+use weave::Weaver;
 
 /// Replays a trace's text over an image, and writes the records, each behind what is said of its event and before what came
 /// of that.
@@ -32,11 +35,38 @@ pub fn show<A: Allocator + Copy, W: Write + Drop>(
     let teller = Teller::new(alloc, text, before);
     let mut weaver = Weaver::new(alloc, teller, out);
     match replayed(alloc, text, &mut weaver, image) {
-        Ok(_) => weaver.end(),
+        Ok(_) => end(weaver),
         Err(fault) => {
-            let (out, fault) = weaver.give_up(fault);
+            let (out, fault) = give_up(weaver, fault);
             (out, Err(fault))
         }
+    }
+}
+
+// Ends what was woven of a replay that came to its end.
+fn end<A: Allocator + Copy, W: Write + Drop>(
+    weaver: Weaver<Teller<'_, A>, W, A>,
+) -> (W, Result<(), ReplayFault>)
+    ensures { OnOk result.1 (Keeps (weaver_records W.contents weaver.entry) (records_of false (W.contents result.0))) }
+{
+    let (out, outcome) = weaver.end();
+    match outcome {
+        Ok(()) => (out, Ok(())),
+        Err(error) if error.kind() == ErrorKind::OutOfMemory => (out, Err(ReplayFault::NoMemory)),
+        Err(_) => (out, Err(ReplayFault::Write)),
+    }
+}
+
+// The writer after a replay that didn't come to its end, and the fault: where it is that of the output, but there was no
+// memory for that, it is that.
+fn give_up<A: Allocator + Copy, W: Write + Drop>(
+    weaver: Weaver<Teller<'_, A>, W, A>,
+    fault: ReplayFault,
+) -> (W, ReplayFault) {
+    let (out, is_full) = weaver.give_up();
+    match fault {
+        ReplayFault::Write if is_full => (out, ReplayFault::NoMemory),
+        other => (out, other),
     }
 }
 

@@ -1,12 +1,11 @@
 //! What is said of the events of a trace, one after another, by a watcher that goes along with them.
 
-use crate::lines::take_line;
-use crate::text::Text;
 use crate::watch::Watcher;
 use board::Board;
 use sector_cache::MemoryImage;
 use std::alloc::Allocator;
 use trace::{event_of_line, read_trace};
+use weave::{Tell, Text, take_line};
 
 /// What was said last of the events of a trace, and those that are left.
 #[derive(Drop)]
@@ -37,19 +36,18 @@ impl<'t, A: Allocator + Copy> Teller<'t, A> {
             tail,
         }
     }
+}
 
-    /// What the last event was.
-    pub fn head(&self) -> &Text<A> {
+impl<A: Allocator + Copy> Tell<A> for Teller<'_, A> {
+    fn head(&self) -> &Text<A> {
         &self.head
     }
 
-    /// What came of it.
-    pub fn tail(&self) -> &Text<A> {
+    fn tail(&self) -> &Text<A> {
         &self.tail
     }
 
-    /// Goes on to the next event.
-    pub fn next(&mut self) {
+    fn next(&mut self) {
         self.head.clear();
         self.tail.clear();
         let Some(watcher) = &mut self.watcher else {
@@ -68,8 +66,7 @@ impl<'t, A: Allocator + Copy> Teller<'t, A> {
         self.number = self.number.wrapping_add(1);
     }
 
-    /// Says how it ended, in place of the last event.
-    pub fn end(&mut self) {
+    fn end(&mut self) {
         self.head.clear();
         self.tail.clear();
         match &self.watcher {

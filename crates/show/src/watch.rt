@@ -1,35 +1,24 @@
 //! Going along with a replay: each event is handled by a board of one's own, and said.
 
-use crate::event::{SHOWN, say_event, say_place, say_value};
-use crate::guest::{ring_of, window_of};
-use crate::mistakes::{Mistake, read_mistake, write_mistake};
-use crate::names::say_interrupts;
-use crate::service::{Served, serve};
-use crate::state::{NEW_WINDOW, WindowSeen, say_changes, window_seen};
-use crate::tables::{Change, Table, say_on_offer};
-use crate::text::Text;
+use crate::guest::{SlotQueue, ring_of, window_of};
+use crate::seen::Guest;
+use crate::service::serve;
 use board::{Board, DeviceKind, Event, EventKind, Image, Reply, SlotSpec};
 use chain::{Chain, Fault};
 use mmio_window::Queue;
 use negotiation::{Features, Flags};
 use std::alloc::{AllocError, Allocator};
 use trace::Trace;
+use weave::Text;
+use wording::{
+    Mistake, SHOWN, read_mistake, say_event, say_interrupts, say_place, say_value, write_mistake,
+};
 
 /// The offset of QueueNotify (4.2.2).
 const QUEUE_NOTIFY: u16 = 0x050;
 
 /// How many mistakes are listed.
 const MOST_LISTED: u64 = 1000;
-
-/// What was said last of a guest's windows, and of its queues' descriptors.
-#[derive(Drop)]
-struct Guest<A: Allocator> {
-    block: WindowSeen,
-    console: WindowSeen,
-    requests: Table<A>,
-    receive: Table<A>,
-    transmit: Table<A>,
-}
 
 /// A board that goes along, and what was seen of it.
 #[derive(Drop)]
@@ -51,13 +40,7 @@ impl<I: Image + Drop, A: Allocator + Copy> Watcher<I, A> {
     pub fn new(alloc: A, board: Board<I, A>) -> Result<Watcher<I, A>, AllocError> {
         let mut guests = Vec::with_capacity(alloc, board.slots())?;
         for slot in 0..board.slots().min(64) {
-            guests.push(Guest {
-                block: seen(&board, slot as u8, DeviceKind::Block),
-                console: seen(&board, slot as u8, DeviceKind::Console),
-                requests: Table::new(alloc),
-                receive: Table::new(alloc),
-                transmit: Table::new(alloc),
-            })?;
+            guests.push(Guest::new(alloc, &board, slot as u8))?;
         }
         Ok(Watcher {
             board,
@@ -193,13 +176,8 @@ impl<I: Image + Drop, A: Allocator + Copy> Watcher<I, A> {
             return;
         };
         let old = (guest.block, guest.console);
-        let new = (
-            seen(&self.board, slot, DeviceKind::Block),
-            seen(&self.board, slot, DeviceKind::Console),
-        );
-        guest.block = new.0;
-        guest.console = new.1;
-        let has_changed = guest.say_changes(&self.board, slot, &old, &new, tail);
+        let has_changed = guest.say_changes(&self.board, slot, tail);
+        let new = (guest.block, guest.console);
         if has_changed && matches!(&event.what, EventKind::MemWrite { .. }) {
             self.note(line, slot, Some(Mistake::AvailableChanged), tail);
         }
@@ -260,80 +238,6 @@ impl<I: Image + Drop, A: Allocator + Copy> Watcher<I, A> {
     }
 }
 
-impl<A: Allocator> Guest<A> {
-    // Says what of the windows and of the queues isn't as it was, and answers whether a descriptor isn't that was available
-    // in a packed ring.
-    fn say_changes<I: Image>(
-        &mut self,
-        board: &Board<I, A>,
-        slot: u8,
-        old: &(WindowSeen, WindowSeen),
-        new: &(WindowSeen, WindowSeen),
-        text: &mut Text<A>,
-    ) -> bool {
-        let (block, console) = (DeviceKind::Block, DeviceKind::Console);
-        say_changes(text, block, &old.0, &new.0);
-        say_changes(text, console, &old.1, &new.1);
-        let requests = say_queue(
-            text,
-            board,
-            slot,
-            (block, 0),
-            &mut self.requests,
-            &old.0,
-            &new.0,
-        );
-        let receive = say_queue(
-            text,
-            board,
-            slot,
-            (console, 0),
-            &mut self.receive,
-            &old.1,
-            &new.1,
-        );
-        let transmit = say_queue(
-            text,
-            board,
-            slot,
-            (console, 1),
-            &mut self.transmit,
-            &old.1,
-            &new.1,
-        );
-        requests || receive || transmit
-    }
-}
-
-// Says what is on offer in a queue, and its descriptors, where they aren't as they were. It answers whether one of these
-// was available in a packed ring.
-fn say_queue<I: Image, A: Allocator>(
-    text: &mut Text<A>,
-    board: &Board<I, A>,
-    slot: u8,
-    queue: (DeviceKind, u32),
-    table: &mut Table<A>,
-    old: &WindowSeen,
-    new: &WindowSeen,
-) -> bool {
-    let (kind, index) = queue;
-    let (Some(mem), Some(window)) = (board.memory(slot), window_of(board, slot, kind)) else {
-        return false;
-    };
-    let Some(registers) = window.registers(index) else {
-        return false;
-    };
-    let change = table.say_changes(text, mem, kind, index, registers);
-    let ([old_0, old_1], [new_0, new_1]) = (&old.queues, &new.queues);
-    let has_changed = if index == 0 {
-        old_0 != new_0
-    } else {
-        old_1 != new_1
-    };
-    say_on_offer(text, mem, kind, index, registers, has_changed, change);
-    change == Change::Available
-}
-
 // Says a slot of a trace.
 fn say_slot<A: Allocator>(text: &mut Text<A>, number: u64, slot: &SlotSpec) {
     text.count(number.wrapping_add(3));
@@ -359,17 +263,8 @@ fn say_slot<A: Allocator>(text: &mut Text<A>, number: u64, slot: &SlotSpec) {
     text.say("\n");
 }
 
-// What is seen of a slot's window.
-fn seen<I: Image, A: Allocator>(board: &Board<I, A>, slot: u8, kind: DeviceKind) -> WindowSeen {
-    let window = window_of(board, slot, kind);
-    match (board.memory(slot), window) {
-        (Some(mem), Some(window)) => window_seen(mem, window),
-        _ => NEW_WINDOW,
-    }
-}
-
 // The queue that an event serves, where it may serve one.
-fn served_of<I: Image, A: Allocator>(board: &Board<I, A>, event: &Event<A>) -> Option<Served> {
+fn served_of<I: Image, A: Allocator>(board: &Board<I, A>, event: &Event<A>) -> Option<SlotQueue> {
     let slot = event.slot;
     let (kind, queue) = match &event.what {
         EventKind::Write {
@@ -384,7 +279,7 @@ fn served_of<I: Image, A: Allocator>(board: &Board<I, A>, event: &Event<A>) -> O
     let window = window_of(board, slot, kind)?;
     let registers = window.registers(queue)?;
     if window.negotiation().live() && registers.ring.is_some() {
-        Some(Served { slot, kind, queue })
+        Some(SlotQueue { slot, kind, queue })
     } else {
         None
     }
@@ -407,11 +302,8 @@ fn queue_named<I: Image, A: Allocator>(
 }
 
 // Whether a queue's ring is packed.
-fn is_packed_queue<I: Image, A: Allocator>(board: &Board<I, A>, served: Served) -> bool {
-    matches!(
-        ring_of(board, served.slot, served.kind, served.queue),
-        Some(Queue::Packed(_))
-    )
+fn is_packed_queue<I: Image, A: Allocator>(board: &Board<I, A>, served: SlotQueue) -> bool {
+    matches!(ring_of(board, served), Some(Queue::Packed(_)))
 }
 
 // What a fault shows that the standard forbids a driver.

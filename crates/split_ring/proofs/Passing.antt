@@ -1,5 +1,5 @@
 -- The places that a service passes, chain by chain.
-use Rattle.std.proofs.Common.{◌≡◌, ℕ, ◌+◌, ◌<◌, ◌↔◌, ◌⊎◌, ◌∙◌, inl, inr, arith}
+use Rattle.std.proofs.Common.{◌≡◌, ℕ, ◌<◌, ◌↔◌, ◌⊎◌, inl, inr, arith}
 use Rattle.guest_memory.specs.Memory.{Memory}
 use Rattle.suppression.specs.Places.{Passed, idx_modulus}
 use Rattle.suppression.specs.Sets.{SplitWantsOf}

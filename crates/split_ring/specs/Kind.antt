@@ -5,7 +5,7 @@ use Rattle.chain.specs.declared.segment.Buffer.{Buffer}
 use Rattle.chain.specs.declared.fault.Fault.{Fault}
 use Rattle.chain.specs.declared.fault.Fault.TheVariants.{Jump}
 use Rattle.chain.specs.Service.{Entry, Kind}
-use Rattle.indirect.specs.Lists.{split_tables, ListResolves, ListFails}
+use Rattle.indirect.specs.Lists.{split_tables, ListOffers, ListFails}
 use Rattle.suppression.specs.Places.{idx_modulus, place_back}
 use Rattle.suppression.specs.Split.{SplitWants}
 use Rattle.split_ring.specs.Ring.{SplitRingState, table_of, on_offer, next_place, head_of, with_used}
@@ -28,11 +28,9 @@ abbrev pub entry_of : ℕ → Entry
 entry_of head = record { id = head; places = 1 }
 
 -- the chain on offer is the list of descriptors from the head at the ring's place
-pub record Offers (m : Memory) (ring : SplitRingState) (buffers : List Buffer) (entry : Entry) : Type 0 where
-  pub count : ℕ
-  pub last : ℕ
-  pub list : ListResolves split_tables ring.setup.indirect m (table_of m ring) ring.setup.size (head_of m ring) count last buffers
-  pub entry_is : entry ≡ entry_of (head_of m ring)
+abbrev pub Offers : Memory → SplitRingState → List Buffer → Entry → Type 0
+Offers m ring buffers entry =
+    ListOffers split_tables ring.setup.indirect m (table_of m ring) ring.setup.size (head_of m ring) (λ count last. entry_of (head_of m ring)) buffers entry
 
 -- that list has this fault
 abbrev pub HasFault : Memory → SplitRingState → Fault → Type 0

@@ -14,6 +14,3 @@ pub use laws::{
     one_chain_or_fault_at_a_place,
 };
 pub use ring::{SplitRing, Token};
-
-#[cfg(test)]
-mod tests;

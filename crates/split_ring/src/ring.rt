@@ -1,16 +1,14 @@
 //! The ring: its areas, its place, and the four calls of a service.
 
-ghost use Rattle.std.specs.Prelude.{◌≡◌, ◌<◌, [], ◌↔◌, true, if◌then◌else◌, is_some, IsTrue, IsSome, IfSome, IfNone, IfOk, IfErr, OnOk, OnErr};
-ghost use Rattle.chain.specs.Buffers.{Good};
+ghost use Rattle.std.specs.Prelude.{◌≡◌, ◌↔◌, if◌then◌else◌, IsTrue, IsSome, IfSome};
 ghost use Rattle.guest_memory.specs.Memory.{SameRange};
 ghost use Rattle.split_ring.specs.Ring.{IsAligned, IsQueueSize, IsUsable, LiesIn, head_of, can_set_up, new_ring, next_place, setup_of, with_used};
 ghost use Rattle.split_ring.specs.Kind.{IsTaken, entry_of, split_kind};
-ghost use Rattle.std.specs.Result.{result_err};
 
 mod view;
 
 use crate::walk::{Table, append_path};
-use chain::{Chain, Fault};
+use chain::{Chain, Fault, Virtqueue};
 use guest_memory::GuestMemory;
 use std::alloc::Allocator;
 use std::marker::Model;
@@ -113,14 +111,64 @@ impl SplitRing {
             && mem.holds(self.device, 6 + 8 * n)
     }
 
-    /// Opens a service: what may be taken in it are the heads that the driver has put into the available
-    /// ring by now (2.7.13). More than the queue has descriptors are a `Jump`, and then there is none.
-    pub fn open<A: Allocator>(&mut self, mem: &GuestMemory<A>) -> Result<(), Fault>
-        requires { LiesIn mem.now self.old.setup }
-        ensures jump { result_err result ≡ split_kind.opening_fault mem.now self.old }
-        ensures opened { self.new ≡ split_kind.opened mem.now self.old }
-        ensures lies { LiesIn mem.now self.new.setup }
+    /// The head in the available entry of the ring's place (2.7.6).
+    pub fn head<A: Allocator>(&self, mem: &GuestMemory<A>) -> u16
+        requires { LiesIn mem.now self.now.setup }
+        ensures { result ≡ head_of mem.now self.now }
     {
+        let entry = 2 * u64::from(self.place % self.size);
+        prove!(mem.holds(self.driver, 6 + 2 * u64::from(self.size)));
+        mem.read_u16(self.driver + 4 + entry)
+    }
+
+    /// Writes the used entry of the ring's place, and then the used idx (2.7.8).
+    fn put_used<A: Allocator>(&self, mem: &mut GuestMemory<A>, head: u16, len: u32, next: u16)
+        requires lies { LiesIn mem.old self.now.setup }
+        requires next { next ≡ next_place self.now }
+        ensures used { mem.new ≡ with_used mem.old self.now head len }
+        ensures range { SameRange mem.old mem.new }
+    {
+        let offset = 8 * u64::from(self.place % self.size);
+        prove!(mem.holds(self.device, 6 + 8 * u64::from(self.size)));
+        let entry = self.device + 4 + offset;
+        mem.write_u32(entry, u32::from(head));
+        mem.write_u32(entry + 4, len);
+        mem.write_u16(self.device + 2, next);
+    }
+
+    /// Writes used flags of 0 and, where VIRTIO_F_EVENT_IDX was negotiated, avail_event (2.7.10).
+    fn put_closing<A: Allocator>(&self, mem: &mut GuestMemory<A>)
+        requires { LiesIn mem.old self.now.setup }
+        ensures closed { mem.new ≡ split_kind.closed mem.old self.now }
+        ensures range { SameRange mem.old mem.new }
+    {
+        let entries = 8 * u64::from(self.size);
+        prove!(mem.holds(self.device, 6 + entries));
+        mem.write_u16(self.device, 0);
+        if self.event_idx {
+            mem.write_u16(self.device + 4 + entries, self.place);
+        }
+    }
+}
+
+impl Virtqueue for SplitRing {
+    type Token = Token;
+
+    ghost kind = { split_kind };
+
+    ghost LiesIn = { λ m ring. LiesIn m ring.setup };
+
+    ghost entry_of = { λ token. entry_of token.head };
+
+    ghost IsTaken = { IsTaken };
+
+    ghost left_of = { λ ring. ring.left };
+
+    ghost made_as = { λ ring. new_ring ring.setup };
+
+    /// On offer are the heads that the driver has put into the available ring by now (2.7.13). More than the
+    /// queue has descriptors are a `Jump`.
+    fn open<A: Allocator>(&mut self, mem: &GuestMemory<A>) -> Result<(), Fault> {
         // So no address in the area passes 2^64.
         prove!(mem.holds(self.driver, 6));
         let offered = mem.read_u16(self.driver + 2).wrapping_sub(self.place);
@@ -133,30 +181,12 @@ impl SplitRing {
         Ok(())
     }
 
-    /// Takes the next chain: fills `chain` with the buffers of the head at the ring's place, and names it by
-    /// a token. There is `None` where no more are on offer: before the first `open`, after an error and after
-    /// `close` too. The ring's place stays, so a token that is dropped leaves its chain on offer.
-    pub fn take<A: Allocator>(
+    /// The next chain is that of the head at the ring's place.
+    fn take<A: Allocator>(
         &mut self,
         mem: &GuestMemory<A>,
         chain: &mut Chain,
-    ) -> Result<Option<Token>, Fault>
-        requires { LiesIn mem.now self.old.setup }
-        ensures on_offer { IfOk result (λ taken. split_kind.offers mem.now self.old ≡ is_some taken) }
-        ensures offered { IfOk result (λ taken. IfSome taken (λ token. split_kind.Offers mem.now self.old chain.new (entry_of token.head))) }
-        ensures taken { IfOk result (λ taken. IfSome taken (IsTaken self.old)) }
-        ensures same { OnOk result (self.new ≡ self.old) }
-
-        // A fault is that of what is on offer, and ends the service.
-        ensures met { OnErr result (split_kind.offers mem.now self.old ≡ true) }
-        ensures fault { IfErr result (split_kind.HasFault mem.now self.old) }
-        ensures stopped { OnErr result (self.new ≡ split_kind.stopped self.old) }
-
-        ensures empty { IfOk result (λ taken. IfNone taken (chain.new ≡ [])) }
-        ensures emptied { OnErr result (chain.new ≡ []) }
-        ensures good { Good mem.now chain.new }
-        ensures lies { LiesIn mem.now self.new.setup }
-    {
+    ) -> Result<Option<Token>, Fault> {
         chain.clear();
         if self.left == 0 {
             return Ok(None);
@@ -180,33 +210,14 @@ impl SplitRing {
         }
     }
 
-    /// The head in the available entry of the ring's place (2.7.6).
-    pub fn head<A: Allocator>(&self, mem: &GuestMemory<A>) -> u16
-        requires { LiesIn mem.now self.now.setup }
-        ensures { result ≡ head_of mem.now self.now }
-    {
-        let entry = 2 * u64::from(self.place % self.size);
-        prove!(mem.holds(self.driver, 6 + 2 * u64::from(self.size)));
-        mem.read_u16(self.driver + 4 + entry)
-    }
-
-    /// Gives the chain that was taken last back to the driver as used, with `len` bytes written without a gap
-    /// from its first writable one on (2.7.8). Whether any byte was written is of no account here.
-    pub fn give<A: Allocator>(
+    /// Whether any byte was written is of no account here (2.7.8).
+    fn give<A: Allocator>(
         &mut self,
         mem: &mut GuestMemory<A>,
         token: Token,
         len: u32,
         wrote: bool,
-    )
-        requires lies { LiesIn mem.old self.old.setup }
-        requires taken { IsTaken self.old token }
-        ensures used { mem.new ≡ split_kind.used mem.old self.old (entry_of token.head) len wrote }
-        ensures past { self.new ≡ split_kind.past self.old (entry_of token.head) }
-        ensures fewer { self.new.left < self.old.left }
-        ensures range { SameRange mem.old mem.new }
-        ensures lies { LiesIn mem.new self.new.setup }
-    {
+    ) {
         let next = self.place.wrapping_add(1);
         self.put_used(mem, token.head, len, next);
         self.place = next;
@@ -214,32 +225,8 @@ impl SplitRing {
         self.passed += 1;
     }
 
-    /// Writes the used entry of the ring's place, and then the used idx (2.7.8).
-    fn put_used<A: Allocator>(&self, mem: &mut GuestMemory<A>, head: u16, len: u32, next: u16)
-        requires lies { LiesIn mem.old self.now.setup }
-        requires next { next ≡ next_place self.now }
-        ensures used { mem.new ≡ with_used mem.old self.now head len }
-        ensures range { SameRange mem.old mem.new }
-    {
-        let offset = 8 * u64::from(self.place % self.size);
-        prove!(mem.holds(self.device, 6 + 8 * u64::from(self.size)));
-        let entry = self.device + 4 + offset;
-        mem.write_u32(entry, u32::from(head));
-        mem.write_u32(entry + 4, len);
-        mem.write_u16(self.device + 2, next);
-    }
-
-    /// Closes a service: asks the driver to notify of what it offers next (2.7.10), and answers whether it
-    /// wants to be notified of the places passed since the last `open` (2.7.7). Where none was passed, or the
-    /// ring wasn't opened since it was closed, it doesn't.
-    pub fn close<A: Allocator>(&mut self, mem: &mut GuestMemory<A>) -> bool
-        requires { LiesIn mem.old self.old.setup }
-        ensures closed { mem.new ≡ split_kind.closed mem.old self.old }
-        ensures wants { IsTrue result ↔ split_kind.Wants mem.new self.old }
-        ensures shut { self.new ≡ split_kind.shut self.old }
-        ensures range { SameRange mem.old mem.new }
-        ensures lies { LiesIn mem.new self.new.setup }
-    {
+    /// The closing writes come first (2.7.10), then the test (2.7.7).
+    fn close<A: Allocator>(&mut self, mem: &mut GuestMemory<A>) -> bool {
         self.put_closing(mem);
         let first = self.place.wrapping_sub(self.passed);
         let wanted = split_wants(
@@ -253,20 +240,6 @@ impl SplitRing {
         self.left = 0;
         self.passed = 0;
         wanted
-    }
-
-    /// Writes used flags of 0 and, where VIRTIO_F_EVENT_IDX was negotiated, avail_event (2.7.10).
-    fn put_closing<A: Allocator>(&self, mem: &mut GuestMemory<A>)
-        requires { LiesIn mem.old self.now.setup }
-        ensures closed { mem.new ≡ split_kind.closed mem.old self.now }
-        ensures range { SameRange mem.old mem.new }
-    {
-        let entries = 8 * u64::from(self.size);
-        prove!(mem.holds(self.device, 6 + entries));
-        mem.write_u16(self.device, 0);
-        if self.event_idx {
-            mem.write_u16(self.device + 4 + entries, self.place);
-        }
     }
 }
 

@@ -21,36 +21,32 @@ use Rattle.trace.proofs.Signs.{line-fields_of}
 use Rattle.trace.proofs.Sofar.{Sofar, all_read, clean, event_read, is_cut, is_refused, length_joined, slot_read, taken}
 use Rattle.trace.proofs.Unique.{no_fault, one_trace, text_clean}
 
--- a line that says an event was judged
+-- a line that says an event was judged, and this is kept of how many bytes it spells
+counted_as : (A : Type 0) (begun : Bool) (line after : List ℕ) (longest longest_line : ℕ) (s : Said) (old new : Judgement) → fields_of line ≡ said_fields s → IsFineSaid s
+    → said_len s.what ≤ longest → old.longest ≤ longest → (1 ≤ old.longest_line → 1 ≤ longest_line) → new ≡ record old { longest = longest; longest_line = longest_line } → JudgesLine A begun line after old new
+counted_as A begun line after longest longest_line s old new is fine fits longer numbered e =
+    let it = meant {A = A} s fine in
+    let len = it.len in
+    inr (record {
+      event = it.event;
+      said = record { fields = is ∙ sym it.fields_are; fine = it.fine };
+      fits = rw e (omega arith);
+      longer = rw e longer;
+      numbered = rw e numbered;
+      is = rw e refl;
+    })
+
+-- the same, by whether it spells the most so far
 pub event_judged : (A : Type 0) (begun : Bool) (line after : List ℕ) (n : ℕ) (s : Said) (old new : Judgement) → fields_of line ≡ said_fields s → IsFineSaid s → 1 ≤ n
     → new ≡ (if nat_lt old.longest (said_len s.what) then record old { longest = said_len s.what; longest_line = n } else old) → JudgesLine A begun line after old new
 event_judged A begun line after n s old new is fine numbered counted =
-    let it = meant {A = A} s fine in
     elim (cases_Bool (nat_lt old.longest (said_len s.what))) [
       | inl more ↦
-          let now = rw more at counted in
           let lt = ltb-true old.longest (said_len s.what) more in
-          let len = it.len in
-          inr (record {
-            event = it.event;
-            said = record { fields = is ∙ sym it.fields_are; fine = it.fine };
-            fits = rw now (omega arith);
-            longer = rw now (omega arith);
-            numbered = rw now (λ _. numbered);
-            is = rw now refl;
-          })
+          counted_as A begun line after (said_len s.what) n s old new is fine (omega arith) (omega arith) (λ _. numbered) (rw more at counted)
       | inr same ↦
-          let now = rw same at counted in
           let le = ltb-false old.longest (said_len s.what) same in
-          let len = it.len in
-          inr (record {
-            event = it.event;
-            said = record { fields = is ∙ sym it.fields_are; fine = it.fine };
-            fits = rw now (omega arith);
-            longer = rw now (omega arith);
-            numbered = rw now (λ h. h);
-            is = rw now refl;
-          })
+          counted_as A begun line after old.longest old.longest_line s old new is fine le (omega arith) (λ h. h) (rw same at counted)
     ]
 
 -- the lines so far are those of a trace, of which this is kept

@@ -1,15 +1,17 @@
 -- Numbers spelled by digits: what their spelling looks like, and how it grows by one digit.
 use Rattle.std.proofs.Common.{◌≡◌, ℕ, zero, suc, ◌+◌, ◌-◌, ◌*◌, ◌/◌, ◌%◌, ◌^◌, ◌<◌, ◌≤◌, List, [], ◌∷◌, ◌++◌, length, get_or, take, drop, map, refl, sym, ap, ◌∙◌, arith, inl, inr, add-one}
-use Rattle.std.proofs.lemmas.Bool.{cases_eq}
+use Rattle.std.proofs.lemmas.Bool.{cases_eq, cases_lt}
 use Rattle.std.proofs.lemmas.List.{map-append, length-map, take_more, get_or-map, length-append, get_or-take, take_all, same_from_push}
 use Rattle.std.proofs.lemmas.Int.Digits.{digits_of_step, length-digits_of-le, all_below_base_digits_of, first_digits_of, same_from_digits_of, length-digits_of_step}
 use Rattle.std.specs.Int.Digits.{digits_of, AllBelowBase}
 use Rattle.std.specs.List.{AllByRecursion}
+use Rattle.std.specs.Prelude.{Option, Result, Ok, Err, IfNone}
+use Rattle.std.specs.Result.{OkIff, result_ok}
 use Rattle.std.proofs.Math.Nat.{pow-le-pow_right}
-use Rattle.trace.specs.Spelling.{digit, num, fixed}
-use Rattle.trace.specs.Words.{IsNum, IsDigit}
+use Rattle.trace.specs.Spelling.{digit, num, fixed, width_digit}
+use Rattle.trace.specs.Words.{IsNum, IsDigit, IsWidth}
 use Rattle.trace.proofs.Cutting.{around}
-use Rattle.trace.proofs.Digits.{same_digit}
+use Rattle.trace.proofs.Digits.{digit_low, same_digit}
 
 abbrev pub AreDigits : List ℕ → Type 0
 AreDigits = AllByRecursion IsDigit
@@ -68,6 +70,18 @@ num_digit d lt =
           let rest : d % 16 ≡ d = omega arith in
           let step = digits_of_step 16 d (omega arith) (omega arith) in
           num_above d (omega arith) ∙ ap (map digit) (rw (quotient, rest) at step)
+    ]
+
+-- a width is its digit
+pub num_width : (width : ℕ) → IsWidth width → num width ≡ width_digit width
+num_width width h =
+    elim h [
+      | inl one ↦ rw one (num_digit 1 (omega arith) ∙ ap (λ c. c ∷ []) (digit_low 1 (omega arith)))
+      | inr more ↦
+          elim more [
+            | inl two ↦ rw two (num_digit 2 (omega arith) ∙ ap (λ c. c ∷ []) (digit_low 2 (omega arith)))
+            | inr four ↦ rw four (num_digit 4 (omega arith) ∙ ap (λ c. c ∷ []) (digit_low 4 (omega arith)))
+          ]
     ]
 
 pub length_num : (k n : ℕ) → 0 < k → n < 16 ^ k → length (num n) ≤ k
@@ -250,8 +264,14 @@ number_taken line i n r pos lt space =
     ∙ ap (λ (c : ℕ). num n ++ c ∷ drop (i + 1) line) space
 
 -- a field that spells a wider number spells no narrower one
-pub no_narrower : (field : List ℕ) (bits limit n : ℕ) → 2 ^ bits ≡ limit → limit ≤ n → IsNum 64 field n → (m : ℕ) → IsNum bits field m → ⊥
+no_narrower : (field : List ℕ) (bits limit n : ℕ) → 2 ^ bits ≡ limit → limit ≤ n → IsNum 64 field n → (m : ℕ) → IsNum bits field m → ⊥
 no_narrower field bits limit n lim le h m k =
     let same = same_num m n (sym k.spelled ∙ h.spelled) in
     let small = k.fits in
     omega arith
+
+-- a number above the bits is none of so many
+pub none_narrower : {E : Type 0} (field : List ℕ) (bits limit n : ℕ) (r : Result ℕ E) (found : Option ℕ) → 2 ^ bits ≡ limit → IsNum 64 field n → OkIff r (n < limit) n → found ≡ result_ok r → IfNone found (¬ ((m : ℕ) × IsNum bits field m))
+none_narrower field bits limit n (Ok x) found lim is fits e = rw e tt
+none_narrower field bits limit n (Err x) found lim is fits e =
+    rw e (λ h. elim (cases_lt n limit) [ inl lt ↦ fits lt | inr le ↦ no_narrower field bits limit n lim le is h.0 h.1 ])

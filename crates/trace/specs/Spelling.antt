@@ -1,9 +1,11 @@
 -- How each field of a trace and of the records is spelled, as a list of ASCII bytes.
-use Rattle.std.specs.Prelude.{ℕ, zero, suc, ◌+◌, ◌/◌, ◌%◌, Bool, true, false, List, [], ◌∷◌, ◌++◌, map, slice_index, codes}
+use Rattle.std.specs.Prelude.{ℕ, zero, suc, ◌+◌, ◌*◌, ◌/◌, ◌%◌, Bool, true, false, List, [], ◌∷◌, ◌++◌, map, slice_index, codes}
 use Rattle.std.specs.Int.Digits.{digits_of}
 use Rattle.hex.specs.Hex.{lower_digits, encode_lower}
 use Rattle.mmio_window.specs.declared.device_kind.DeviceKind.{DeviceKind}
 use Rattle.mmio_window.specs.declared.device_kind.DeviceKind.TheVariants.{Block, Console}
+use Rattle.trace.specs.declared.print.line.FieldValue.{FieldValue}
+use Rattle.trace.specs.declared.print.line.FieldValue.TheVariants.{Number, Mode, Window, Offset, Width, Value, Bytes}
 
 -- the lower case hexadecimal digit of a number below 16
 unfoldable pub digit : ℕ → ℕ
@@ -37,3 +39,13 @@ mode true = codes "ro"
 -- the width of a register access, which is one digit (48 is `0`)
 abbrev pub width_digit : ℕ → List ℕ
 width_digit width = (48 + width) ∷ []
+
+-- the value of a field, by its kind
+abbrev pub value_text : FieldValue → List ℕ
+value_text (Number n) = num n
+value_text (Mode read_only) = mode read_only
+value_text (Window kind) = window kind
+value_text (Offset offset) = fixed 3 offset
+value_text (Width width) = num width
+value_text (Value width value) = fixed (2 * width) value
+value_text (Bytes bs) = bytes bs.now

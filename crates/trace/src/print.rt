@@ -1,16 +1,16 @@
 //! Writing a whole trace.
 //!
-//! `push` writes one field, and `range` says the bounds of its numbers. `records` puts records into the `buffer` before
-//! a writer, and `write` writes whole texts.
+//! `line` writes a line, `push` one field, and `range` says the bounds of its numbers. `records` puts records into the
+//! `buffer` before a writer, and `write` writes whole texts.
 
-ghost use Rattle.std.specs.Prelude.{◌≡◌, ◌*◌, ◌^◌, ◌<◌, ◌↔◌, ◌++◌, ◌∷◌, [], All, IsTrue, IfOk, OnOk, map};
-ghost use Rattle.trace.specs.Printable.{InRange, IsAccess, IsPrintable, IsPrintableKind, IsPrintableSlot, IsWriteAccess};
-ghost use Rattle.trace.specs.Spelling.{fixed, mode, num, width_digit, window as window_name};
-ghost use Rattle.trace.specs.Text.{content, text as text_of, cache_line, ended, event_line, front_text, header, input_fields, joined, line, mem_read_fields, mem_write_fields, read_fields, resize_fields, slot_line, write_fields};
+ghost use Rattle.std.specs.Prelude.{◌≡◌, ◌*◌, ◌^◌, ◌<◌, ◌↔◌, ◌++◌, All, IsTrue, IfOk, OnOk, map};
+ghost use Rattle.trace.specs.Printable.{InRange, IsAccess, IsPrintable, IsPrintableKind, IsPrintableSlot};
+ghost use Rattle.trace.specs.Text.{content, text as text_of, ended, event_line, front_text, joined, slot_line};
 ghost use Rattle.trace.specs.Version.{IsVersion};
 ghost use Rattle.trace.specs.Words.{IsWidth};
 
 mod buffer;
+mod line;
 mod push;
 mod range;
 mod records;
@@ -18,13 +18,16 @@ mod write;
 
 use crate::no_memory::NoMemory;
 pub use crate::print::buffer::Buffer;
-use crate::print::push::{push_bytes, push_fixed, push_num};
+use crate::print::line::FieldValue::{Bytes, Mode, Number, Offset, Value, Width, Window};
+use crate::print::line::push_line;
 use crate::print::range::in_range;
 pub use crate::print::records::{print_records, put_line, put_read};
 pub use crate::print::write::write_whole;
+use crate::table::fields_after;
 use crate::trace::Trace;
 use crate::version::{VERSION_1, VERSION_2, header_of, identity_in_version_1};
-use board::{DeviceKind, Event, EventKind, SlotSpec};
+use crate::word::Word;
+use board::{Event, EventKind, SlotSpec};
 use std::alloc::{AllocError, Allocator};
 
 /// Whether the trace has a text: its version is 1 or 2, in version 1 each slot has the identity of that version, the
@@ -45,28 +48,28 @@ fn is_version(version: u8) -> bool
     version == VERSION_1 || version == VERSION_2
 }
 
-// Whether there is a line for each slot in a version.
+// Whether each slot has a line in a version.
 fn slots_have_lines(version: u8, slots: &[SlotSpec]) -> bool
     ensures { IsTrue result ↔ All (IsPrintableSlot version) slots.now }
 {
     slots.iter().all(|slot| slot_has_line(version, slot))
 }
 
-// Whether there is one for the slot.
+// Whether a slot has a line in a version.
 fn slot_has_line(version: u8, slot: &SlotSpec) -> bool
     ensures { IsTrue result ↔ IsPrintableSlot version slot.now }
 {
     version != VERSION_1 || slot.identity == identity_in_version_1()
 }
 
-// Whether there is a line for each event.
+// Whether each event has a line.
 fn events_have_lines<A: Allocator>(events: &[Event<A>]) -> bool
     ensures { IsTrue result ↔ All (λ event. IsPrintableKind event.what) events.now }
 {
     events.iter().all(|event| has_line(&event.what))
 }
 
-// Whether there is one for what it is.
+// Whether what an event does has a line.
 fn has_line<A: Allocator>(what: &EventKind<A>) -> bool
     ensures { IsTrue result ↔ IsPrintableKind what.now }
 {
@@ -78,10 +81,10 @@ fn has_line<A: Allocator>(what: &EventKind<A>) -> bool
             value,
             ..
         } => is_access(*offset, *width) && is_within(*value, *width),
-        EventKind::MemRead { .. } => true,
-        EventKind::MemWrite { .. } => true,
-        EventKind::Input { .. } => true,
-        EventKind::Resize { .. } => true,
+        EventKind::MemRead { .. }
+        | EventKind::MemWrite { .. }
+        | EventKind::Input { .. }
+        | EventKind::Resize { .. } => true,
     }
 }
 
@@ -92,7 +95,7 @@ fn is_access(offset: u16, width: u8) -> bool
     offset < 0x1000 && (width == 1 || width == 2 || width == 4)
 }
 
-// Whether the value is one of so many bytes.
+// Whether a value fits a width.
 fn is_within(value: u32, width: u8) -> bool
     requires { IsWidth width }
     ensures { IsTrue result ↔ (value < 2 ^ (8 * width)) }
@@ -144,56 +147,18 @@ fn push_events<A: Allocator>(out: &mut Vec<u8, A>, events: &[Event<A>]) -> Resul
     Ok(())
 }
 
-// Appends a space and a number.
-fn push_next<A: Allocator>(out: &mut Vec<u8, A>, n: u64) -> Result<(), AllocError>
-    ensures { OnOk result (out.new.items ≡ out.old.items ++ 32 ∷ num n) }
-{
-    out.push(b' ')?;
-    push_num(out, n)
-}
-
-// Appends two numbers, each after a space.
-fn push_pair<A: Allocator>(out: &mut Vec<u8, A>, a: u64, b: u64) -> Result<(), AllocError>
-    ensures { OnOk result (out.new.items ≡ out.old.items ++ 32 ∷ (num a ++ 32 ∷ num b)) }
-{
-    push_next(out, a)?;
-    push_next(out, b)?;
-    Ok(())
-}
-
 // Appends the first two lines.
+#[tactic(auto, unfolding(crate::specs::Text::cache_line))]
 fn push_front<A: Allocator>(out: &mut Vec<u8, A>, version: u8, cache: u32) -> Result<(), AllocError>
     requires { IsVersion version }
     ensures { OnOk result (out.new.items ≡ out.old.items ++ front_text version cache) }
 {
-    push_header(out, version)?;
-    push_cache(out, cache)?;
-    Ok(())
-}
-
-// Appends the first line.
-fn push_header<A: Allocator>(out: &mut Vec<u8, A>, version: u8) -> Result<(), AllocError>
-    requires { IsVersion version }
-    ensures { OnOk result (out.new.items ≡ out.old.items ++ ended (header version)) }
-{
     out.extend_from_slice(header_of(version))?;
     out.push(b'\n')?;
-    Ok(())
+    push_line(out, Word::Cache, &[Number(u64::from(cache))])
 }
 
-// Appends the line of the cache.
-#[tactic(auto, unfolding(crate::specs::Text::cache_line))]
-fn push_cache<A: Allocator>(out: &mut Vec<u8, A>, cache: u32) -> Result<(), AllocError>
-    ensures { OnOk result (out.new.items ≡ out.old.items ++ ended (cache_line cache)) }
-{
-    out.extend_from_slice(b"cache")?;
-    push_next(out, u64::from(cache))?;
-    out.push(b'\n')?;
-    Ok(())
-}
-
-// Appends the line of a slot.
-#[tactic(auto, unfolding(crate::specs::Text::slot_line))]
+// Appends the line of a slot, with as many fields as the version has.
 fn push_slot<A: Allocator>(
     out: &mut Vec<u8, A>,
     version: u8,
@@ -201,185 +166,77 @@ fn push_slot<A: Allocator>(
 ) -> Result<(), AllocError>
     ensures { OnOk result (out.new.items ≡ out.old.items ++ ended (slot_line version slot.now)) }
 {
-    out.extend_from_slice(b"slot")?;
-    push_pair(out, slot.base, slot.len)?;
-    push_pair(out, slot.extent.start, slot.extent.count)?;
-    push_device(out, slot.read_only, slot.cols, slot.rows)?;
-    if version == VERSION_2 {
-        out.push(b' ')?;
-        push_bytes(out, &slot.identity)?;
-    }
-    out.push(b'\n')?;
-    Ok(())
-}
-
-// Appends the mode, and the size of the console, each after a space.
-fn push_device<A: Allocator>(
-    out: &mut Vec<u8, A>,
-    read_only: bool,
-    cols: u16,
-    rows: u16,
-) -> Result<(), AllocError>
-    ensures { OnOk result (out.new.items ≡ out.old.items ++ 32 ∷ (mode read_only ++ 32 ∷ (num cols ++ 32 ∷ num rows))) }
-{
-    out.extend_from_slice(if read_only { b" ro" } else { b" rw" })?;
-    push_next(out, u64::from(cols))?;
-    push_next(out, u64::from(rows))?;
+    let values = [
+        Number(slot.base),
+        Number(slot.len),
+        Number(slot.extent.start),
+        Number(slot.extent.count),
+        Mode(slot.read_only),
+        Number(u64::from(slot.cols)),
+        Number(u64::from(slot.rows)),
+        Bytes(&slot.identity),
+    ];
+    let count = fields_after(version, Word::Slot).len();
+    push_line(out, Word::Slot, &values[..count])?;
     Ok(())
 }
 
 // Appends the line of an event.
-#[tactic(auto, unfolding(crate::specs::Text::event_line))]
+#[tactic(auto, using(crate::proofs::Numbers::num_width), unfolding(crate::specs::Text::event_line))]
 fn push_event<A: Allocator>(out: &mut Vec<u8, A>, event: &Event<A>) -> Result<(), AllocError>
     requires { IsPrintableKind event.now.what }
     ensures { OnOk result (out.new.items ≡ out.old.items ++ ended (event_line event.now)) }
 {
+    let slot = u64::from(event.slot);
     match &event.what {
         EventKind::Read {
             window,
             offset,
             width,
-        } => push_read(out, event.slot, *window, *offset, *width),
+        } => {
+            let access = [
+                Number(slot),
+                Window(*window),
+                Offset(*offset),
+                Width(*width),
+            ];
+            push_line(out, Word::Read, &access)
+        }
         EventKind::Write {
             window,
             offset,
             width,
             value,
-        } => push_write(out, event.slot, *window, *offset, *width, *value),
-        EventKind::MemRead { addr, len } => push_mem_read(out, event.slot, *addr, *len),
-        EventKind::MemWrite { addr, bytes } => {
-            push_mem_write(out, event.slot, *addr, bytes.as_slice())
+        } => {
+            let access = [
+                Number(slot),
+                Window(*window),
+                Offset(*offset),
+                Width(*width),
+                Value(*width, *value),
+            ];
+            push_line(out, Word::Write, &access)
         }
-        EventKind::Input { bytes } => push_input(out, event.slot, bytes.as_slice()),
-        EventKind::Resize { cols, rows } => push_resize(out, event.slot, *cols, *rows),
+        EventKind::MemRead { addr, len } => {
+            let values = [Number(slot), Number(*addr), Number(u64::from(*len))];
+            push_line(out, Word::MemRead, &values)
+        }
+        EventKind::MemWrite { addr, bytes } => {
+            let values = [Number(slot), Number(*addr), Bytes(bytes.as_slice())];
+            push_line(out, Word::MemWrite, &values)
+        }
+        EventKind::Input { bytes } => push_line(
+            out,
+            Word::Input,
+            &[Number(slot), Bytes(bytes.as_slice())],
+        ),
+        EventKind::Resize { cols, rows } => {
+            let values = [
+                Number(slot),
+                Number(u64::from(*cols)),
+                Number(u64::from(*rows)),
+            ];
+            push_line(out, Word::Resize, &values)
+        }
     }
-}
-
-// Appends the line of a read of a register.
-fn push_read<A: Allocator>(
-    out: &mut Vec<u8, A>,
-    slot: u8,
-    window: DeviceKind,
-    offset: u16,
-    width: u8,
-) -> Result<(), AllocError>
-    requires { IsAccess offset width }
-    ensures { OnOk result (out.new.items ≡ out.old.items ++ ended (line (read_fields slot window offset width))) }
-{
-    out.push(b'r')?;
-    push_access(out, slot, window, offset, width)?;
-    out.push(b'\n')?;
-    Ok(())
-}
-
-// Appends the line of a write of a register.
-fn push_write<A: Allocator>(
-    out: &mut Vec<u8, A>,
-    slot: u8,
-    window: DeviceKind,
-    offset: u16,
-    width: u8,
-    value: u32,
-) -> Result<(), AllocError>
-    requires { IsWriteAccess offset width value }
-    ensures { OnOk result (out.new.items ≡ out.old.items ++ ended (line (write_fields slot window offset width value))) }
-{
-    out.push(b'w')?;
-    push_access(out, slot, window, offset, width)?;
-    out.push(b' ')?;
-    push_fixed(out, 2 * width, value)?;
-    out.push(b'\n')?;
-    Ok(())
-}
-
-// Appends the fields of an access to a register, each after a space.
-fn push_access<A: Allocator>(
-    out: &mut Vec<u8, A>,
-    slot: u8,
-    window: DeviceKind,
-    offset: u16,
-    width: u8,
-) -> Result<(), AllocError>
-    requires { IsAccess offset width }
-    ensures { OnOk result (out.new.items ≡ out.old.items ++ 32 ∷ (num slot ++ 32 ∷ (window_name window ++ 32 ∷ (fixed 3 offset ++ 32 ∷ width_digit width)))) }
-{
-    push_next(out, u64::from(slot))?;
-    out.extend_from_slice(window_text(window))?;
-    push_fixed(out, 3, u32::from(offset))?;
-    out.extend_from_slice(&[b' ', b'0' + width])?;
-    Ok(())
-}
-
-// A window between two spaces.
-fn window_text(window: DeviceKind) -> &'static [u8]
-    ensures { result.now ≡ 32 ∷ (window_name window ++ 32 ∷ []) }
-{
-    match window {
-        DeviceKind::Block => b" b ",
-        DeviceKind::Console => b" c ",
-    }
-}
-
-// Appends the line of a read of memory.
-fn push_mem_read<A: Allocator>(
-    out: &mut Vec<u8, A>,
-    slot: u8,
-    addr: u64,
-    len: u32,
-) -> Result<(), AllocError>
-    ensures { OnOk result (out.new.items ≡ out.old.items ++ ended (line (mem_read_fields slot addr len))) }
-{
-    out.extend_from_slice(b"mr")?;
-    push_next(out, u64::from(slot))?;
-    push_next(out, addr)?;
-    push_next(out, u64::from(len))?;
-    out.push(b'\n')?;
-    Ok(())
-}
-
-// Appends the line of a write of memory.
-fn push_mem_write<A: Allocator>(
-    out: &mut Vec<u8, A>,
-    slot: u8,
-    addr: u64,
-    bytes: &[u8],
-) -> Result<(), AllocError>
-    ensures { OnOk result (out.new.items ≡ out.old.items ++ ended (line (mem_write_fields slot addr bytes.now))) }
-{
-    out.extend_from_slice(b"mw")?;
-    push_next(out, u64::from(slot))?;
-    push_next(out, addr)?;
-    out.push(b' ')?;
-    push_bytes(out, bytes)?;
-    out.push(b'\n')?;
-    Ok(())
-}
-
-// Appends the line of console input.
-fn push_input<A: Allocator>(out: &mut Vec<u8, A>, slot: u8, bytes: &[u8]) -> Result<(), AllocError>
-    ensures { OnOk result (out.new.items ≡ out.old.items ++ ended (line (input_fields slot bytes.now))) }
-{
-    out.extend_from_slice(b"in")?;
-    push_next(out, u64::from(slot))?;
-    out.push(b' ')?;
-    push_bytes(out, bytes)?;
-    out.push(b'\n')?;
-    Ok(())
-}
-
-// Appends the line of a new size of the console.
-fn push_resize<A: Allocator>(
-    out: &mut Vec<u8, A>,
-    slot: u8,
-    cols: u16,
-    rows: u16,
-) -> Result<(), AllocError>
-    ensures { OnOk result (out.new.items ≡ out.old.items ++ ended (line (resize_fields slot cols rows))) }
-{
-    out.extend_from_slice(b"sz")?;
-    push_next(out, u64::from(slot))?;
-    push_next(out, u64::from(cols))?;
-    push_next(out, u64::from(rows))?;
-    out.push(b'\n')?;
-    Ok(())
 }

@@ -35,6 +35,22 @@ pub(crate) fn word_of(field: &[u8]) -> Option<Word>
     }
 }
 
+/// How a word is spelled.
+pub(crate) fn spelling_of(word: Word) -> &'static [u8]
+    ensures { result.now ≡ spelled word }
+{
+    match word {
+        Word::Read => b"r",
+        Word::Write => b"w",
+        Word::MemRead => b"mr",
+        Word::MemWrite => b"mw",
+        Word::Input => b"in",
+        Word::Resize => b"sz",
+        Word::Slot => b"slot",
+        Word::Cache => b"cache",
+    }
+}
+
 /// Whether a field is the word of the second line.
 pub(crate) fn is_cache(field: &[u8]) -> bool
     ensures { IsTrue result ↔ (field.now ≡ spelled Word.Cache) }

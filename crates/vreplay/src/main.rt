@@ -14,26 +14,16 @@ mod laws;
 mod program;
 mod words;
 
-use calls::{hold, refuse_streams, refuse_words, words_of};
+use calls::start;
 use program::program;
 use std::process::ExitCode;
 
 fn main(rt: HostRuntime) -> ExitCode {
-    // before any other file is opened, and up to the end
-    let held = hold(&rt);
-    let status = match &held {
-        Ok(_) => begin(&rt),
-        Err(error) => refuse_streams(&rt, *error),
+    let status = match start(&rt) {
+        Ok(call) => program(&rt, rt.alloc(), call.words.as_slice()),
+        Err(status) => status,
     };
     ExitCode::from(status)
-}
-
-/// What the words ask for.
-fn begin(rt: &HostRuntime) -> u8 {
-    match words_of(rt) {
-        Ok(words) => program(rt, rt.alloc(), words.as_slice()),
-        Err(error) => refuse_words(rt, &error),
-    }
 }
 
 #[cfg(test)]

@@ -6,7 +6,7 @@ ghost use Rattle.mmio_window.specs.Soundness.{IsSound};
 use crate::tests::{BASE, DATA, Guest, HEADER, STATUS, WHOLE, same};
 use chain::{Budget, Chain, Progress};
 use guest_memory::GuestMemory;
-use mmio_window::{DeviceKind, Window};
+use mmio_window::{DeviceKind, Stage, Window};
 use negotiation::{Features, Flags};
 use sector_cache::{Image, ScriptedImage, SectorCache};
 use std::alloc::Allocator;
@@ -176,11 +176,11 @@ fn serve_all(
     requires { IsSound mem.old window.old }
 {
     let mut used = [0; 5];
-    let mut progress = serve_piece(rt, mem, window, cache, budget, true);
+    let mut progress = serve_piece(rt, mem, window, cache, Stage::First, budget);
     used[0] = used_after(rt, mem, window, progress);
     for piece in 1..5 {
         if progress == Progress::More {
-            progress = serve_piece(rt, mem, window, cache, budget, false);
+            progress = serve_piece(rt, mem, window, cache, Stage::Next, budget);
         }
         used[piece] = used_after(rt, mem, window, progress);
     }
@@ -193,23 +193,20 @@ fn used_after(rt: &impl Abort, mem: &GuestMemory, window: &Window, progress: Pro
     mem.get_u16(USED + 2).unwrap_or(0xff)
 }
 
-/// Serves the first piece, or goes on.
+/// Serves a piece.
 fn serve_piece(
     rt: &impl Abort,
     mem: &mut GuestMemory,
     window: &mut Window,
     cache: &mut SectorCache<ScriptedImage>,
+    stage: Stage,
     budget: Budget,
-    first: bool,
 ) -> Progress
     requires { IsSound mem.old window.old }
     ensures { IsSound mem.new window.new }
 {
     assert!(rt; cache.image().sectors() >= 8);
-    let piece = if first {
-        WHOLE.serve_some(mem, window, cache, budget, &mut Chain::new())
-    } else {
-        WHOLE.go_on(mem, window, cache, budget, &mut Chain::new())
-    };
-    piece.progress
+    WHOLE
+        .serve_piece(mem, window, cache, stage, budget, &mut Chain::new())
+        .progress
 }

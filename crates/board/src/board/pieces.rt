@@ -9,7 +9,7 @@ ghost use Rattle.board.specs.declared.reply.Reply.{Reply};
 ghost use Rattle.board.specs.Image.{Tells, bytes_of};
 ghost use Rattle.board.specs.Pausing.{Begins, GoesOn, HasLimit, TakesTurn, met_in};
 ghost use Rattle.board.specs.Slot.{BoardSlot, state_of};
-ghost use Rattle.board.specs.World.{KeepsOthers, MayLackMemory, disturbed_of, extents_of, noted, world_of};
+ghost use Rattle.board.specs.World.{KeepsOthers, MayLackMemory, StaysInExtents, disturbed_of, extents_of, noted, world_of};
 ghost use Rattle.board.specs.Within.{BeginsWithin, GoesOnWithin};
 
 use crate::board::Board;
@@ -49,12 +49,7 @@ impl<I: Image, A: Allocator + Copy> Board<I, A> {
         ensures limit { O.limit out.new ≡ O.limit out.old }
         ensures block_word { result.block_irq ≤ 3 }
         ensures console_word { result.console_irq ≤ 3 }
-        ensures told { Tells (I.disk self.old.image) → Tells (I.disk self.new.image) }
-        ensures outside { Tells (I.disk self.old.image) →
-            (world_of I.disk self.new).outside ≡ (world_of I.disk self.old).outside }
-        ensures extents { extents_of self.new.slots ≡ extents_of self.old.slots }
-        ensures sectors { (I.disk self.new.image).sector_count ≡ (I.disk self.old.image).sector_count }
-        ensures rises { (I.disk self.old.image).failures ≤ (I.disk self.new.image).failures }
+        ensures stays { StaysInExtents I.disk self.old self.new }
         ensures noted { disturbed_of self.new.slots ≡ noted slot
             (met_in result.turn (I.disk self.old.image).failures (I.disk self.new.image).failures)
             (disturbed_of self.old.slots) }
@@ -131,12 +126,7 @@ impl<I: Image, A: Allocator + Copy> Board<I, A> {
             (state_of (bytes_of (I.disk self.new.image)) after)
             (O.bytes out.old) (O.bytes out.new) result.turn }
         ensures limit { O.limit out.new ≡ O.limit out.old }
-        ensures told { Tells (I.disk self.old.image) → Tells (I.disk self.new.image) }
-        ensures outside { Tells (I.disk self.old.image) →
-            (world_of I.disk self.new).outside ≡ (world_of I.disk self.old).outside }
-        ensures extents { extents_of self.new.slots ≡ extents_of self.old.slots }
-        ensures sectors { (I.disk self.new.image).sector_count ≡ (I.disk self.old.image).sector_count }
-        ensures rises { (I.disk self.old.image).failures ≤ (I.disk self.new.image).failures }
+        ensures stays { StaysInExtents I.disk self.old self.new }
         ensures noted { disturbed_of self.new.slots ≡ noted slot
             (met_in result.turn (I.disk self.old.image).failures (I.disk self.new.image).failures)
             (disturbed_of self.old.slots) }

@@ -1,11 +1,11 @@
 //! What is done to the guest's console from outside: what is typed, and its size.
 
 ghost use Rattle.std.specs.Prelude.{◌≡◌, ◌⊎◌, ℕ, List, [], Some};
+ghost use Rattle.mmio_window.specs.declared.stage.Stage.{Stage};
 ghost use Rattle.console_device.specs.Input.{fitting};
 ghost use Rattle.board.specs.declared.event.EventKind.{EventKind};
 ghost use Rattle.board.specs.declared.pause.Pause.{Pause};
 ghost use Rattle.board.specs.declared.pause.Service.{Service};
-ghost use Rattle.board.specs.declared.pause.Stage.{Stage};
 ghost use Rattle.board.specs.declared.pause.Turn.{Turn};
 ghost use Rattle.board.specs.declared.reply.Reply.{Reply};
 ghost use Rattle.board.specs.Image.{Health};
@@ -15,10 +15,11 @@ ghost use Rattle.board.specs.Pausing.{ComesTo, HasLimit};
 ghost use Rattle.board.specs.Slot.{state_of};
 ghost use Rattle.board.specs.World.{MayGive};
 
-use crate::pause::{Pause, Service, Stage, Turn};
+use crate::pause::{Pause, Service, Turn};
 use crate::reply::Reply;
 use crate::slot::Slot;
 use chain::Budget;
+use mmio_window::Stage;
 use std::alloc::Allocator;
 
 impl<A: Allocator + Copy> Slot<A> {

@@ -1,27 +1,29 @@
 //! The services of the slot's queues, piece by piece.
 
-ghost use Rattle.std.specs.Prelude.{◌≡◌, ◌≢◌, ◌≤◌, ℕ, Some, nat_lt, IfOk, OnErr};
+ghost use Rattle.std.specs.Prelude.{◌≡◌, ◌≢◌, ℕ, Some, nat_lt, IfOk, OnErr};
+ghost use Rattle.mmio_window.specs.declared.stage.Stage.{Stage};
 ghost use Rattle.mmio_window.specs.Window.{queue_at};
 ghost use Rattle.block_device.specs.Device.{block_device};
-ghost use Rattle.block_device.specs.Extent.{IsWithin, KeepsOutside, extent_disk};
+ghost use Rattle.block_device.specs.Extent.{IsWithin, StaysInExtent, extent_disk};
 ghost use Rattle.console_device.specs.Device.{receive, transmit_fitting, transmit_within};
 ghost use Rattle.board.specs.declared.pause.Pause.{Pause};
 ghost use Rattle.board.specs.declared.pause.Service.{Service};
-ghost use Rattle.board.specs.declared.pause.Stage.{Stage};
 ghost use Rattle.board.specs.declared.pause.Turn.{Turn};
 ghost use Rattle.board.specs.declared.reply.Reply.{Reply};
 ghost use Rattle.board.specs.Image.{Tells, bytes_of, health_of};
-ghost use Rattle.board.specs.Pausing.{ComesTo, HasLimit, IsRefusedAt, ServesTo, ServesTurn};
-ghost use Rattle.board.specs.Slot.{state_of};
+ghost use Rattle.mmio_window.specs.Pieces.{IsRefusedAt, ServesTo};
+ghost use Rattle.board.specs.Pausing.{ComesTo, HasLimit, ServesTurn};
+ghost use Rattle.board.specs.Slot.{IsUnnoted, state_of};
 ghost use Rattle.board.specs.Within.{PieceWithin};
 ghost use Rattle.board.specs.World.{HasBytesToPutOut};
 
-use crate::pause::{Pause, Service, Stage, Turn};
+use crate::pause::{Pause, Service, Turn};
 use crate::reply::Reply;
 use crate::slot::{Answer, Slot};
 use block_device::Piece;
 use chain::{Budget, Progress};
 use console_device::{NoMemory, Outlet};
+use mmio_window::Stage;
 use sector_cache::{Image, SectorCache};
 use std::alloc::Allocator;
 
@@ -44,11 +46,7 @@ impl<A: Allocator + Copy> Slot<A> {
             PieceWithin limit pause stage budget (state_of (bytes_of (I.disk cache.old)) self.old)
             (state_of (bytes_of (I.disk cache.new)) self.new) (O.bytes out.old) (O.bytes out.new) result.turn }
         ensures limit { O.limit out.new ≡ O.limit out.old }
-        ensures failed { result.failed ≡ nat_lt (I.disk cache.old).failures (I.disk cache.new).failures }
-        ensures rises { (I.disk cache.old).failures ≤ (I.disk cache.new).failures }
-        ensures outside { KeepsOutside self.old.extent (I.disk cache.old) (I.disk cache.new) }
-        ensures extent { self.new.extent ≡ self.old.extent }
-        ensures disturbed { self.new.disturbed ≡ self.old.disturbed }
+        ensures unnoted { IsUnnoted self.old self.new (I.disk cache.old) (I.disk cache.new) result.failed }
         ensures no_memory { result.turn ≡ Turn.Answered Reply.NoMemory → stage ≡ Stage.First →
             (pause.service ≡ Service.Transmit) × HasBytesToPutOut self.old.memory self.old.console }
         ensures limited { (next : Pause) → result.turn ≡ Turn.More next → HasLimit budget }
@@ -100,18 +98,11 @@ impl<A: Allocator + Copy> Slot<A> {
             (extent_disk self.old.extent (I.disk cache.new)) }
         ensures rest { self.new ≡ record self.old { memory = self.new.memory; block = self.new.block } }
         ensures failed { result.failed ≡ nat_lt (I.disk cache.old).failures (I.disk cache.new).failures }
-        ensures rises { (I.disk cache.old).failures ≤ (I.disk cache.new).failures }
-        ensures outside { KeepsOutside self.old.extent (I.disk cache.old) (I.disk cache.new) }
+        ensures stays { StaysInExtent self.old.extent (I.disk cache.old) (I.disk cache.new) }
     {
         let (memory, window) = (&mut self.memory, &mut self.block);
-        match stage {
-            Stage::First => self
-                .block_device
-                .serve_some(memory, window, cache, budget, &mut self.chain),
-            Stage::Next => self
-                .block_device
-                .go_on(memory, window, cache, budget, &mut self.chain),
-        }
+        self.block_device
+            .serve_piece(memory, window, cache, stage, budget, &mut self.chain)
     }
 
     // Puts pending input into the chains on offer (5.3.6).
@@ -125,14 +116,8 @@ impl<A: Allocator + Copy> Slot<A> {
         } }
     {
         let (memory, window) = (&mut self.memory, &mut self.console);
-        match stage {
-            Stage::First => self
-                .console_device
-                .serve_receive_some(memory, window, budget, &mut self.chain),
-            Stage::Next => self
-                .console_device
-                .go_on_receive(memory, window, budget, &mut self.chain),
-        }
+        self.console_device
+            .serve_receive_piece(memory, window, stage, budget, &mut self.chain)
     }
 
     // Puts out the bytes of the chains on offer (5.3.6).
@@ -152,13 +137,7 @@ impl<A: Allocator + Copy> Slot<A> {
         ensures limit { O.limit out.new ≡ O.limit out.old }
     {
         let (memory, window) = (&mut self.memory, &mut self.console);
-        match stage {
-            Stage::First => self
-                .console_device
-                .serve_transmit_some(memory, window, out, budget, &mut self.chain),
-            Stage::Next => self
-                .console_device
-                .go_on_transmit(memory, window, out, budget, &mut self.chain),
-        }
+        self.console_device
+            .serve_transmit_piece(memory, window, out, stage, budget, &mut self.chain)
     }
 }

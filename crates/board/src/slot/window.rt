@@ -1,7 +1,7 @@
 //! The accesses of a guest's drivers to the windows of its devices, and what the devices do then.
 
-ghost use Rattle.std.specs.Prelude.{◌≡◌, ◌≢◌, ◌≤◌, ℕ, List, Some, nat_lt, OnOk, OnErr};
-ghost use Rattle.block_device.specs.Extent.{IsWithin, KeepsOutside};
+ghost use Rattle.std.specs.Prelude.{◌≡◌, ◌≢◌, ℕ, List, Some, OnOk, OnErr};
+ghost use Rattle.block_device.specs.Extent.{IsWithin};
 ghost use Rattle.mmio_window.specs.declared.device_kind.DeviceKind.{DeviceKind};
 ghost use Rattle.board.specs.declared.event.EventKind.{EventKind};
 ghost use Rattle.board.specs.declared.pause.Pause.{Pause};
@@ -10,17 +10,18 @@ ghost use Rattle.board.specs.declared.reply.Reply.{Reply};
 ghost use Rattle.board.specs.Image.{Tells, bytes_of, health_of, sectors_of};
 ghost use Rattle.board.specs.Machine.{register, task_at, window_of, with_write};
 ghost use Rattle.board.specs.Pausing.{Begins, HasLimit, ServesTurn, duty_of};
-ghost use Rattle.board.specs.Slot.{state_of};
+ghost use Rattle.board.specs.Slot.{IsUnnoted, state_of};
 ghost use Rattle.board.specs.Task.{task_of};
 ghost use Rattle.board.specs.Within.{BeginsWithin};
 ghost use Rattle.board.specs.World.{MayLackMemory};
 
-use crate::pause::{Pause, Service, Stage, Turn};
+use crate::pause::{Pause, Service, Turn};
 use crate::reply::Reply;
 use crate::slot::{Answer, Slot};
+use block_device::REQUESTQ;
 use chain::Budget;
-use console_device::{NoMemory, Outlet};
-use mmio_window::{Action, CONFIGURATION_OFFSET, DeviceKind, Window};
+use console_device::{NoMemory, Outlet, RECEIVEQ, TRANSMITQ};
+use mmio_window::{Action, CONFIGURATION_OFFSET, DeviceKind, Stage, Window};
 use sector_cache::{Image, SectorCache};
 use std::alloc::Allocator;
 
@@ -78,12 +79,7 @@ impl<A: Allocator + Copy> Slot<A> {
             (state_of (bytes_of (I.disk cache.old)) self.old)
             (state_of (bytes_of (I.disk cache.new)) self.new) (O.bytes out.old) (O.bytes out.new) result.turn }
         ensures limit { O.limit out.new ≡ O.limit out.old }
-        ensures failed { result.failed ≡
-            nat_lt (I.disk cache.old).failures (I.disk cache.new).failures }
-        ensures rises { (I.disk cache.old).failures ≤ (I.disk cache.new).failures }
-        ensures outside { KeepsOutside self.old.extent (I.disk cache.old) (I.disk cache.new) }
-        ensures extent { self.new.extent ≡ self.old.extent }
-        ensures disturbed { self.new.disturbed ≡ self.old.disturbed }
+        ensures unnoted { IsUnnoted self.old self.new (I.disk cache.old) (I.disk cache.new) result.failed }
         ensures limited { (next : Pause) → result.turn ≡ Turn.More next → HasLimit budget }
         ensures there { result.turn ≢ Turn.Answered Reply.BadSlot }
         ensures in_range { result.turn ≢ Turn.Answered Reply.BadRange }
@@ -140,7 +136,7 @@ fn block_duty(action: Action) -> Duty
     ensures { result ≡ duty_of (task_of DeviceKind.Block action) }
 {
     match action {
-        Action::Notify(0) => Duty::Serve(Service::Block),
+        Action::Notify(REQUESTQ) => Duty::Serve(Service::Block),
         _ => Duty::Nothing,
     }
 }
@@ -151,8 +147,8 @@ fn console_duty(action: Action) -> Duty
     ensures { result ≡ duty_of (task_of DeviceKind.Console action) }
 {
     match action {
-        Action::Notify(0) => Duty::Serve(Service::Receive),
-        Action::Notify(1) => Duty::Serve(Service::Transmit),
+        Action::Notify(RECEIVEQ) => Duty::Serve(Service::Receive),
+        Action::Notify(TRANSMITQ) => Duty::Serve(Service::Transmit),
         Action::ConfigWrite {
             offset: EMERGENCY_WRITE,
             value,

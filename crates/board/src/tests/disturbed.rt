@@ -1,6 +1,6 @@
 //! Which slots have met a refusal.
 
-use super::driver::{BLOCK, bring_up, request};
+use super::guest::{BLOCK, bring_up, request};
 use super::{
     Act, BASE, board, board_over, eight_sectors, event, events, loads, run, same, step, two_slots,
 };

@@ -1,6 +1,6 @@
 //! Sixty-four slots, each of which is told its own identity.
 
-use super::driver::{BLOCK, DATA, STATUS, bring_up, request};
+use super::guest::{BLOCK, DATA, STATUS, bring_up, request};
 use super::{Act, BASE, board, events, loads, run, same, slot};
 use crate::{Board, SlotSpec};
 use sector_cache::MemoryImage;

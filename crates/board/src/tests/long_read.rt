@@ -1,6 +1,6 @@
 //! A read of eight sectors whose notification finds no memory.
 
-use super::driver::{BLOCK, DATA, STATUS, USED, bring_up, request};
+use super::guest::{BLOCK, DATA, STATUS, USED, bring_up, request};
 use super::{Act, BASE, board, eight_sectors, events, gives, run, slot};
 use crate::Record;
 use refusing::RefusingHeap;

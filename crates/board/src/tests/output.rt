@@ -1,6 +1,6 @@
 //! What goes to the output, behind what stands there.
 
-use super::driver::{BLOCK, CONSOLE, USED, bring_up, two_lines};
+use super::guest::{BLOCK, CONSOLE, USED, bring_up, two_lines};
 use super::{Act, BASE, board, event, events, loads, run, same, step, two_slots};
 use crate::{Board, Reply};
 use refusing::RefusingHeap;

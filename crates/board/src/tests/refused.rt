@@ -1,6 +1,6 @@
 //! Each request for memory refused in turn.
 
-use super::driver::{BLOCK, CONSOLE, DATA, STATUS, USED, bring_up, no_line, request};
+use super::guest::{BLOCK, CONSOLE, DATA, STATUS, USED, bring_up, no_line, request};
 use super::{
     Act, BASE, board, eight_sectors, event, events, image, run, same, slot, step, two_slots,
 };

@@ -8,7 +8,7 @@ use crate::tests::{
 };
 use chain::{Budget, Chain, Progress};
 use guest_memory::GuestMemory;
-use mmio_window::Window;
+use mmio_window::{Stage, Window};
 use std::process::Abort;
 use std::test::Fail;
 
@@ -35,14 +35,14 @@ fn input_goes_on_with_the_next_chain(rt: HostRuntime) -> Result<(), Fail> {
     let mut window = up(&mem, RECEIVE);
     let mut console = ConsoleDevice::new(rt.alloc(), 80, 25)?;
     let _ = console.input(b"ABCDEFG");
-    let first = receive_piece(&mut console, &mut mem, &mut window, true);
+    let first = receive_piece(&mut console, &mut mem, &mut window, Stage::First);
     same(
         &rt,
         &"first",
         &(first, has(&mem, DATA, b"ABCdefgh")),
         &(FIRST, true),
     );
-    let second = receive_piece(&mut console, &mut mem, &mut window, false);
+    let second = receive_piece(&mut console, &mut mem, &mut window, Stage::Next);
     same(
         &rt,
         &"second",
@@ -56,16 +56,12 @@ fn receive_piece(
     console: &mut ConsoleDevice,
     mem: &mut GuestMemory,
     window: &mut Window,
-    first: bool,
+    stage: Stage,
 ) -> Piece
     requires { IsSound mem.old window.old }
     ensures { IsSound mem.new window.new }
 {
-    let progress = if first {
-        console.serve_receive_some(mem, window, ONE, &mut Chain::new())
-    } else {
-        console.go_on_receive(mem, window, ONE, &mut Chain::new())
-    };
+    let progress = console.serve_receive_piece(mem, window, stage, ONE, &mut Chain::new());
     let seen = look(mem, window);
     (progress, seen.used, seen.interrupts)
 }
@@ -81,14 +77,14 @@ fn output_goes_on_with_the_next_chain(rt: HostRuntime) -> Result<(), Fail> {
     let mut window = up(&mem, TRANSMIT);
     let mut console = ConsoleDevice::new(rt.alloc(), 80, 25)?;
     let mut out = Vec::new(rt.alloc());
-    let first = transmit_piece(&mut console, &mut mem, &mut window, &mut out, true);
+    let first = transmit_piece(&mut console, &mut mem, &mut window, &mut out, Stage::First);
     same(
         &rt,
         &"first",
         &(first, out.as_slice() == b"abc".as_slice()),
         &(FIRST, true),
     );
-    let second = transmit_piece(&mut console, &mut mem, &mut window, &mut out, false);
+    let second = transmit_piece(&mut console, &mut mem, &mut window, &mut out, Stage::Next);
     same(
         &rt,
         &"second",
@@ -103,16 +99,12 @@ fn transmit_piece(
     mem: &mut GuestMemory,
     window: &mut Window,
     out: &mut Vec<u8>,
-    first: bool,
+    stage: Stage,
 ) -> Piece
     requires { IsSound mem.old window.old }
     ensures { IsSound mem.new window.new }
 {
-    let answer = if first {
-        console.serve_transmit_some(mem, window, out, ONE, &mut Chain::new())
-    } else {
-        console.go_on_transmit(mem, window, out, ONE, &mut Chain::new())
-    };
+    let answer = console.serve_transmit_piece(mem, window, out, stage, ONE, &mut Chain::new());
     let seen = look(mem, window);
     (answer.unwrap_or(Progress::More), seen.used, seen.interrupts)
 }

@@ -1,5 +1,5 @@
-//! What reaches a slot without an event, for who has the bytes in a slice. Nothing is done to a slot whose service is
-//! paused.
+//! Calls for a slot without an event, for a caller that has the bytes in a slice. A slot whose service is paused stays as
+//! it is.
 
 ghost use Rattle.std.specs.Prelude.{◌≡◌, ◌≢◌, ◌↔◌, ◌<◌, ◌≤◌, length, [], None, IsSomeAnd};
 ghost use Rattle.std.specs.Borrow.{sem, u8, Array, Lends};

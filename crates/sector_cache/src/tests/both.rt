@@ -2,7 +2,7 @@
 
 use crate::tests::plain::PlainCache;
 use crate::tests::same;
-use crate::tests::sectors::{Call, Given, Numbers, call_of};
+use crate::tests::sectors::{Call, Given, Numbers, cached, call_of};
 use crate::tests::switched::SwitchedImage;
 use crate::{MemoryImage, SectorCache};
 use std::alloc::Global;
@@ -35,7 +35,7 @@ struct Both {
 
 impl Both {
     fn new(alloc: Global) -> Result<Both, Fail> {
-        let cache = SectorCache::new(alloc, zeros(alloc)?, 7).map_err(|refused| refused.why)?;
+        let cache = cached(alloc, zeros(alloc)?, 7)?;
         let plain = PlainCache {
             image: zeros(alloc)?,
         };

@@ -39,11 +39,8 @@ const LENGTHS: [Length; 6] = [
 
 fn check_length(rt: &impl Abort, alloc: Global, row: &Length) -> Result<(), Fail> {
     let (length, trouble, sectors) = *row;
-    let found = match image_of(vec![in alloc; 7u8; length]?, trouble) {
-        Ok(image) => Ok(image.sectors()),
-        Err(fault) => Err(fault),
-    };
-    same(rt, row, &found, &sectors);
+    let image = image_of(vec![in alloc; 7u8; length]?, trouble);
+    same(rt, row, &image.map(|image| image.sectors()), &sectors);
     Ok(())
 }
 
@@ -55,100 +52,43 @@ fn files_have_whole_sectors(rt: HostRuntime) -> Result<(), Fail> {
     Ok(())
 }
 
-/// What happens to one of the file's calls, numbered with that for its length; what `four_calls` gives; how many
-/// calls failed; the halves of sector 1 that the file then holds; and whether all is synced.
-type Row = (Option<(u32, Trouble)>, Answers, u64, [u8; 2], bool);
+/// What `four_calls` gives; how many calls failed; the halves of sector 1 that the file then holds; and whether all is
+/// synced.
+type Course = (Answers, u64, [u8; 2], bool);
+
+const DONE: Course = ((ZERO, [true, true], NEW), 0, [0x55, 0x55], true);
+
+const UNREAD: Course = ((None, [true, true], NEW), 1, [0x55, 0x55], true);
+
+const UNWRITTEN: Course = ((ZERO, [false, true], OLD), 1, [0x11, 0x11], true);
+
+const HALF_WRITTEN: Course = ((ZERO, [false, true], TORN), 1, [0x55, 0x11], true);
+
+const UNSYNCED: Course = ((ZERO, [true, false], NEW), 1, [0x55, 0x55], false);
+
+const UNREAD_AGAIN: Course = ((ZERO, [true, true], None), 1, [0x55, 0x55], true);
+
+/// What happens to one of the file's calls, numbered with that for its length, and what comes of it.
+type Row = (Option<(u32, Trouble)>, Course);
 
 const ROWS: [Row; 13] = [
-    (None, (ZERO, [true, true], NEW), 0, [0x55, 0x55], true),
-    (
-        Some((1, Trouble::Fails)),
-        (None, [true, true], NEW),
-        1,
-        [0x55, 0x55],
-        true,
-    ),
-    (
-        Some((1, Trouble::Short(511))),
-        (ZERO, [true, true], NEW),
-        0,
-        [0x55, 0x55],
-        true,
-    ),
-    (
-        Some((1, Trouble::Short(0))),
-        (None, [true, true], NEW),
-        1,
-        [0x55, 0x55],
-        true,
-    ),
-    (
-        Some((1, Trouble::Interrupted)),
-        (ZERO, [true, true], NEW),
-        0,
-        [0x55, 0x55],
-        true,
-    ),
-    (
-        Some((2, Trouble::Fails)),
-        (ZERO, [false, true], OLD),
-        1,
-        [0x11, 0x11],
-        true,
-    ),
-    (
-        Some((3, Trouble::Fails)),
-        (ZERO, [false, true], OLD),
-        1,
-        [0x11, 0x11],
-        true,
-    ),
-    (
-        Some((3, Trouble::Stops(256))),
-        (ZERO, [false, true], TORN),
-        1,
-        [0x55, 0x11],
-        true,
-    ),
-    (
-        Some((3, Trouble::Short(256))),
-        (ZERO, [true, true], NEW),
-        0,
-        [0x55, 0x55],
-        true,
-    ),
-    (
-        Some((3, Trouble::Short(0))),
-        (ZERO, [false, true], OLD),
-        1,
-        [0x11, 0x11],
-        true,
-    ),
-    (
-        Some((3, Trouble::Interrupted)),
-        (ZERO, [true, true], NEW),
-        0,
-        [0x55, 0x55],
-        true,
-    ),
-    (
-        Some((4, Trouble::Fails)),
-        (ZERO, [true, false], NEW),
-        1,
-        [0x55, 0x55],
-        false,
-    ),
-    (
-        Some((5, Trouble::Stops(256))),
-        (ZERO, [true, true], None),
-        1,
-        [0x55, 0x55],
-        true,
-    ),
+    (None, DONE),
+    (Some((1, Trouble::Fails)), UNREAD),
+    (Some((1, Trouble::Short(511))), DONE),
+    (Some((1, Trouble::Short(0))), UNREAD),
+    (Some((1, Trouble::Interrupted)), DONE),
+    (Some((2, Trouble::Fails)), UNWRITTEN),
+    (Some((3, Trouble::Fails)), UNWRITTEN),
+    (Some((3, Trouble::Stops(256))), HALF_WRITTEN),
+    (Some((3, Trouble::Short(256))), DONE),
+    (Some((3, Trouble::Short(0))), UNWRITTEN),
+    (Some((3, Trouble::Interrupted)), DONE),
+    (Some((4, Trouble::Fails)), UNSYNCED),
+    (Some((5, Trouble::Stops(256))), UNREAD_AGAIN),
 ];
 
 fn check_row(rt: &impl Abort, alloc: Global, row: &Row) -> Result<(), Fail> {
-    let (trouble, answers, failures, [first, second], synced) = *row;
+    let (trouble, (answers, failures, [first, second], synced)) = *row;
     let mut image = image_of(halves(alloc, &[0x10, 0x10, 0x11, 0x11])?, trouble)?;
     let found = (four_calls(&mut image), image.failures());
     same(rt, row, &found, &(Some(answers), failures));

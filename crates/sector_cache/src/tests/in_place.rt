@@ -2,7 +2,7 @@
 
 use crate::tests::refused::requests_of;
 use crate::tests::same;
-use crate::tests::sectors::{Call, Given, call_of, eight_bytes, eight_sectors, halves_of};
+use crate::tests::sectors::{Call, Given, cached, call_of, eight_bytes, eight_sectors, halves_of};
 use crate::{Image, MemoryImage, SectorCache};
 use refusing::RefusingHeap;
 use std::alloc::Global;
@@ -53,8 +53,7 @@ fn check_step(rt: &impl Abort, cache: &mut SectorCache<MemoryImage>, step: &(Cal
 
 #[test]
 fn a_cache_lends_what_lies_in_memory(rt: HostRuntime) -> Result<(), Fail> {
-    let image = eight_in_memory(rt.alloc())?;
-    let mut cache = SectorCache::new(rt.alloc(), image, 2).map_err(|refused| refused.why)?;
+    let mut cache = cached(rt.alloc(), eight_in_memory(rt.alloc())?, 2)?;
     for step in &STEPS {
         check_step(&rt, &mut cache, step);
     }

@@ -1,7 +1,7 @@
 //! Each request of `new` refused in turn; and no other call asks for memory.
 
 use crate::tests::same;
-use crate::tests::sectors::{Call, Numbers, call_of, eight_sectors};
+use crate::tests::sectors::{Call, Numbers, cached, call_of, eight_sectors};
 use crate::{CacheFault, Image, ScriptedImage, SectorCache};
 use refusing::RefusingHeap;
 use std::alloc::Global;
@@ -10,10 +10,8 @@ use std::test::Fail;
 
 /// Why a cache of two sectors isn't made of this heap, with the bytes of the image that is handed back.
 fn refusal(heap: &RefusingHeap, image: ScriptedImage) -> Option<(CacheFault, Vec<u8>)> {
-    match SectorCache::new(heap, image, 2) {
-        Ok(_) => None,
-        Err(refused) => Some((refused.why, refused.image.into_bytes())),
-    }
+    let refused = SectorCache::new(heap, image, 2).err()?;
+    Some((refused.why, refused.image.into_bytes()))
 }
 
 /// Refuses the nth request, and answers whether it came.
@@ -50,7 +48,7 @@ pub fn requests_of<I: Image + Drop>(
     capacity: u32,
 ) -> Result<u64, Fail> {
     heap.refuse_from(0);
-    let _cache = SectorCache::new(heap, image, capacity).map_err(|refused| refused.why)?;
+    let _cache = cached(heap, image, capacity)?;
     Ok(heap.requests())
 }
 
@@ -77,7 +75,7 @@ type Cache<'a> = SectorCache<ScriptedImage, &'a RefusingHeap>;
 fn made_of<'a>(alloc: Global, heap: &'a RefusingHeap, capacity: u32) -> Result<Cache<'a>, Fail> {
     heap.refuse_from(0);
     let image = ScriptedImage::new(vec![in alloc; 0u8; 4096 * 512]?, Vec::new(alloc))?;
-    let cache = SectorCache::new(heap, image, capacity).map_err(|refused| refused.why)?;
+    let cache = cached(heap, image, capacity)?;
     heap.refuse_from(1);
     Ok(cache)
 }

@@ -1,6 +1,7 @@
 //! An image of sectors that tell their numbers, and calls of a cache over an image as plain values.
 
-use crate::{Image, ScriptedImage, SectorCache};
+use crate::tests::halves;
+use crate::{CacheFault, Image, ScriptedImage, SectorCache};
 use std::alloc::{AllocError, Allocator, Global};
 use std::test::Fail;
 
@@ -9,18 +10,28 @@ pub fn filled(byte: u8) -> [u8; 512] {
     [byte; 512]
 }
 
-/// The bytes of eight sectors, of which each byte is 10 (hexadecimal) and the sector's number.
+/// The halves of eight sectors, of which each byte is 10 (hexadecimal) and the sector's number.
+const EIGHT: [u8; 16] = [
+    0x10, 0x10, 0x11, 0x11, 0x12, 0x12, 0x13, 0x13, 0x14, 0x14, 0x15, 0x15, 0x16, 0x16, 0x17, 0x17,
+];
+
+/// Their bytes.
 pub fn eight_bytes(alloc: Global) -> Result<Vec<u8>, AllocError> {
-    let mut bytes = Vec::new(alloc);
-    for byte in 0x10..0x18 {
-        bytes.extend_from_slice(&filled(byte))?;
-    }
-    Ok(bytes)
+    halves(alloc, &EIGHT)
 }
 
 /// An image of them. The calls with these numbers fail.
 pub fn eight_sectors(alloc: Global, failing: &[u64]) -> Result<ScriptedImage, Fail> {
     Ok(ScriptedImage::new(eight_bytes(alloc)?, failing.to_vec(alloc)?)?)
+}
+
+/// A cache before an image, or why there is none.
+pub fn cached<I: Image + Drop, A: Allocator + Copy>(
+    alloc: A,
+    image: I,
+    capacity: u32,
+) -> Result<SectorCache<I, A>, CacheFault> {
+    SectorCache::new(alloc, image, capacity).map_err(|refused| refused.why)
 }
 
 /// A call of a cache; a write is of one byte over the whole sector.

@@ -26,7 +26,7 @@ pub(crate) fn push_num<A: Allocator>(out: &mut Vec<u8, A>, n: u64) -> Result<(),
 /// Appends a number by exactly `digits` digits. What is above them is left out.
 pub(crate) fn push_fixed<A: Allocator>(
     out: &mut Vec<u8, A>,
-    digits: u8,
+    digits: u16,
     n: u32,
 ) -> Result<(), AllocError>
     ensures { OnOk result (out.new.items ≡ out.old.items ++ fixed digits n) }

@@ -50,6 +50,16 @@ pub(crate) fn take_field(line: &[u8]) -> (&[u8], Option<&[u8]>)
     (line, None)
 }
 
+/// Takes off the first of the fields that are left.
+pub(crate) fn next_field<'a>(rest: &mut Option<&'a [u8]>) -> Option<&'a [u8]>
+    ensures some { IfSome result (λ field. fields_left (option_copied rest.old) ≡ field.now ∷ fields_left (option_copied rest.new)) }
+    ensures none { IfNone result (fields_left (option_copied rest.old) ≡ []) }
+{
+    let (field, left) = take_field((*rest)?);
+    *rest = left;
+    Some(field)
+}
+
 /// Whether no field is left.
 pub(crate) fn at_end(rest: Option<&[u8]>) -> Option<()>
     ensures some { OnSome result (fields_left (option_copied rest.entry) ≡ []) }

@@ -14,7 +14,7 @@ ghost use Rattle.trace.specs.Words.{AllRight, AreRight, Identity, spelled};
 
 use crate::read::bytes::{are_bytes, identity_of};
 use crate::read::choice::{mode_of, width_of, window_of};
-use crate::read::cut::{at_end, take_field};
+use crate::read::cut::{at_end, next_field};
 use crate::read::number::{fixed_number, number, number_u8, number_u16, number_u32, offset_of};
 use crate::read::said::{Said, What};
 use crate::version::{VERSION_1, identity_in_version_1};
@@ -22,12 +22,11 @@ use crate::word::Word;
 use board::{Extent, SlotSpec};
 
 /// The capacity of the cache that the fields after its word say.
-pub(crate) fn sectors_of(rest: Option<&[u8]>) -> Option<u32>
+pub(crate) fn sectors_of(mut rest: Option<&[u8]>) -> Option<u32>
     ensures fields { IfSome result (λ sectors. cache_fields sectors ≡ spelled Word.Cache ∷ fields_left (option_copied rest.entry)) }
     ensures none { IfNone result ((version : ℕ) → ¬ AreRight version Word.Cache (fields_left (option_copied rest.entry))) }
 {
-    let (field, rest) = take_field(rest?);
-    let sectors = number_u32(field)?;
+    let sectors = number_u32(next_field(&mut rest)?)?;
     at_end(rest)?;
     Some(sectors)
 }
@@ -51,19 +50,15 @@ pub(crate) fn event_of(word: Word, rest: Option<&[u8]>) -> Option<Said<'_>>
     }
 }
 
-fn read_of(rest: Option<&[u8]>) -> Option<Said<'_>>
+fn read_of(mut rest: Option<&[u8]>) -> Option<Said<'_>>
     ensures fields { IfSome result (λ e. said_fields e ≡ spelled Word.Read ∷ fields_left (option_copied rest.entry)) }
     ensures fine { IfSome result IsFineSaid }
     ensures none { IfNone result ((version : ℕ) → ¬ AreRight version Word.Read (fields_left (option_copied rest.entry))) }
 {
-    let (field, rest) = take_field(rest?);
-    let slot = number_u8(field)?;
-    let (field, rest) = take_field(rest?);
-    let window = window_of(field)?;
-    let (field, rest) = take_field(rest?);
-    let offset = offset_of(field)?;
-    let (field, rest) = take_field(rest?);
-    let width = width_of(field)?;
+    let slot = number_u8(next_field(&mut rest)?)?;
+    let window = window_of(next_field(&mut rest)?)?;
+    let offset = offset_of(next_field(&mut rest)?)?;
+    let width = width_of(next_field(&mut rest)?)?;
     at_end(rest)?;
     let what = What::Read {
         window,
@@ -73,21 +68,16 @@ fn read_of(rest: Option<&[u8]>) -> Option<Said<'_>>
     Some(Said { slot, what })
 }
 
-fn write_of(rest: Option<&[u8]>) -> Option<Said<'_>>
+fn write_of(mut rest: Option<&[u8]>) -> Option<Said<'_>>
     ensures fields { IfSome result (λ e. said_fields e ≡ spelled Word.Write ∷ fields_left (option_copied rest.entry)) }
     ensures fine { IfSome result IsFineSaid }
     ensures none { IfNone result ((version : ℕ) → ¬ AreRight version Word.Write (fields_left (option_copied rest.entry))) }
 {
-    let (field, rest) = take_field(rest?);
-    let slot = number_u8(field)?;
-    let (field, rest) = take_field(rest?);
-    let window = window_of(field)?;
-    let (field, rest) = take_field(rest?);
-    let offset = offset_of(field)?;
-    let (field, rest) = take_field(rest?);
-    let width = width_of(field)?;
-    let (field, rest) = take_field(rest?);
-    let value = fixed_number(field, 2 * width as usize)?;
+    let slot = number_u8(next_field(&mut rest)?)?;
+    let window = window_of(next_field(&mut rest)?)?;
+    let offset = offset_of(next_field(&mut rest)?)?;
+    let width = width_of(next_field(&mut rest)?)?;
+    let value = fixed_number(next_field(&mut rest)?, 2 * width as usize)?;
     at_end(rest)?;
     let what = What::Write {
         window,
@@ -98,32 +88,27 @@ fn write_of(rest: Option<&[u8]>) -> Option<Said<'_>>
     Some(Said { slot, what })
 }
 
-fn mem_read_of(rest: Option<&[u8]>) -> Option<Said<'_>>
+fn mem_read_of(mut rest: Option<&[u8]>) -> Option<Said<'_>>
     ensures fields { IfSome result (λ e. said_fields e ≡ spelled Word.MemRead ∷ fields_left (option_copied rest.entry)) }
     ensures fine { IfSome result IsFineSaid }
     ensures none { IfNone result ((version : ℕ) → ¬ AreRight version Word.MemRead (fields_left (option_copied rest.entry))) }
 {
-    let (field, rest) = take_field(rest?);
-    let slot = number_u8(field)?;
-    let (field, rest) = take_field(rest?);
-    let addr = number(field)?;
-    let (field, rest) = take_field(rest?);
-    let len = number_u32(field)?;
+    let slot = number_u8(next_field(&mut rest)?)?;
+    let addr = number(next_field(&mut rest)?)?;
+    let len = number_u32(next_field(&mut rest)?)?;
     at_end(rest)?;
     let what = What::MemRead { addr, len };
     Some(Said { slot, what })
 }
 
-fn mem_write_of(rest: Option<&[u8]>) -> Option<Said<'_>>
+fn mem_write_of(mut rest: Option<&[u8]>) -> Option<Said<'_>>
     ensures fields { IfSome result (λ e. said_fields e ≡ spelled Word.MemWrite ∷ fields_left (option_copied rest.entry)) }
     ensures fine { IfSome result IsFineSaid }
     ensures none { IfNone result ((version : ℕ) → ¬ AreRight version Word.MemWrite (fields_left (option_copied rest.entry))) }
 {
-    let (field, rest) = take_field(rest?);
-    let slot = number_u8(field)?;
-    let (field, rest) = take_field(rest?);
-    let addr = number(field)?;
-    let (bytes, rest) = take_field(rest?);
+    let slot = number_u8(next_field(&mut rest)?)?;
+    let addr = number(next_field(&mut rest)?)?;
+    let bytes = next_field(&mut rest)?;
     at_end(rest)?;
     if !are_bytes(bytes) {
         return None;
@@ -132,14 +117,13 @@ fn mem_write_of(rest: Option<&[u8]>) -> Option<Said<'_>>
     Some(Said { slot, what })
 }
 
-fn input_of(rest: Option<&[u8]>) -> Option<Said<'_>>
+fn input_of(mut rest: Option<&[u8]>) -> Option<Said<'_>>
     ensures fields { IfSome result (λ e. said_fields e ≡ spelled Word.Input ∷ fields_left (option_copied rest.entry)) }
     ensures fine { IfSome result IsFineSaid }
     ensures none { IfNone result ((version : ℕ) → ¬ AreRight version Word.Input (fields_left (option_copied rest.entry))) }
 {
-    let (field, rest) = take_field(rest?);
-    let slot = number_u8(field)?;
-    let (bytes, rest) = take_field(rest?);
+    let slot = number_u8(next_field(&mut rest)?)?;
+    let bytes = next_field(&mut rest)?;
     at_end(rest)?;
     if !are_bytes(bytes) {
         return None;
@@ -148,43 +132,33 @@ fn input_of(rest: Option<&[u8]>) -> Option<Said<'_>>
     Some(Said { slot, what })
 }
 
-fn resize_of(rest: Option<&[u8]>) -> Option<Said<'_>>
+fn resize_of(mut rest: Option<&[u8]>) -> Option<Said<'_>>
     ensures fields { IfSome result (λ e. said_fields e ≡ spelled Word.Resize ∷ fields_left (option_copied rest.entry)) }
     ensures fine { IfSome result IsFineSaid }
     ensures none { IfNone result ((version : ℕ) → ¬ AreRight version Word.Resize (fields_left (option_copied rest.entry))) }
 {
-    let (field, rest) = take_field(rest?);
-    let slot = number_u8(field)?;
-    let (field, rest) = take_field(rest?);
-    let cols = number_u16(field)?;
-    let (field, rest) = take_field(rest?);
-    let rows = number_u16(field)?;
+    let slot = number_u8(next_field(&mut rest)?)?;
+    let cols = number_u16(next_field(&mut rest)?)?;
+    let rows = number_u16(next_field(&mut rest)?)?;
     at_end(rest)?;
     let what = What::Resize { cols, rows };
     Some(Said { slot, what })
 }
 
 /// The slot that the fields after its word say in a version.
-pub(crate) fn slot_of(version: u8, rest: Option<&[u8]>) -> Option<SlotSpec>
+pub(crate) fn slot_of(version: u8, mut rest: Option<&[u8]>) -> Option<SlotSpec>
     requires { IsVersion version }
     ensures fields { IfSome result (λ s. slot_fields version s ≡ spelled Word.Slot ∷ fields_left (option_copied rest.entry)) }
     ensures fine { IfSome result (IsFineSlot version) }
     ensures none { IfNone result (¬ AreRight version Word.Slot (fields_left (option_copied rest.entry))) }
 {
-    let (field, rest) = take_field(rest?);
-    let base = number(field)?;
-    let (field, rest) = take_field(rest?);
-    let len = number(field)?;
-    let (field, rest) = take_field(rest?);
-    let start = number(field)?;
-    let (field, rest) = take_field(rest?);
-    let count = number(field)?;
-    let (field, rest) = take_field(rest?);
-    let read_only = mode_of(field)?;
-    let (field, rest) = take_field(rest?);
-    let cols = number_u16(field)?;
-    let (field, rest) = take_field(rest?);
-    let rows = number_u16(field)?;
+    let base = number(next_field(&mut rest)?)?;
+    let len = number(next_field(&mut rest)?)?;
+    let start = number(next_field(&mut rest)?)?;
+    let count = number(next_field(&mut rest)?)?;
+    let read_only = mode_of(next_field(&mut rest)?)?;
+    let cols = number_u16(next_field(&mut rest)?)?;
+    let rows = number_u16(next_field(&mut rest)?)?;
     let identity = last_identity(version, rest)?;
     let extent = Extent { start, count };
     Some(SlotSpec {
@@ -199,7 +173,7 @@ pub(crate) fn slot_of(version: u8, rest: Option<&[u8]>) -> Option<SlotSpec>
 }
 
 // The identity that the last field of a slot spells in version 2, and that of a slot whose line has ended in version 1.
-fn last_identity(version: u8, rest: Option<&[u8]>) -> Option<[u8; 20]>
+fn last_identity(version: u8, mut rest: Option<&[u8]>) -> Option<[u8; 20]>
     requires { IsVersion version }
     ensures last { IfSome result (λ bs. in_version_2 version (bytes_field bs ∷ []) ≡ fields_left (option_copied rest.entry)) }
     ensures range { IfSome result (λ bs. All (λ b. b < 2 ^ 8) bs) }
@@ -210,8 +184,7 @@ fn last_identity(version: u8, rest: Option<&[u8]>) -> Option<[u8; 20]>
         at_end(rest)?;
         return Some(identity_in_version_1());
     }
-    let (field, rest) = take_field(rest?);
-    let identity = identity_of(field)?;
+    let identity = identity_of(next_field(&mut rest)?)?;
     at_end(rest)?;
     Some(identity)
 }

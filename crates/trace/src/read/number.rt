@@ -34,11 +34,7 @@ pub(crate) fn number_u32(field: &[u8]) -> Option<u32>
     ensures said { OnSome result (Says (Num 32) field.now) }
     ensures none { IfNone result (¬ Says (Num 32) field.now) }
 {
-    let n = number(field)?;
-    if n > 0xffff_ffff {
-        return None;
-    }
-    Some(n as u32)
+    u32::try_from(number(field)?).ok()
 }
 
 /// The same of at most 16 bits.
@@ -47,11 +43,7 @@ pub(crate) fn number_u16(field: &[u8]) -> Option<u16>
     ensures said { OnSome result (Says (Num 16) field.now) }
     ensures none { IfNone result (¬ Says (Num 16) field.now) }
 {
-    let n = number(field)?;
-    if n > 0xffff {
-        return None;
-    }
-    Some(n as u16)
+    u16::try_from(number(field)?).ok()
 }
 
 /// The same of at most 8 bits.
@@ -60,11 +52,7 @@ pub(crate) fn number_u8(field: &[u8]) -> Option<u8>
     ensures said { OnSome result (Says (Num 8) field.now) }
     ensures none { IfNone result (¬ Says (Num 8) field.now) }
 {
-    let n = number(field)?;
-    if n > 0xff {
-        return None;
-    }
-    Some(n as u8)
+    u8::try_from(number(field)?).ok()
 }
 
 /// The number that a field of exactly `digits` digits spells.

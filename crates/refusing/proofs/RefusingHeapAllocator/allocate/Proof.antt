@@ -1,7 +1,7 @@
 -- It asks whether this request is refused. Where it is, it answers `Err`, and else what the inner allocator answers. Assumes `Logic`.
 use Rattle.std.proofs.Common.{◌≡◌, ℕ, ◌+◌, ◌^◌, ◌<◌, Bool, true, false, List, [], ◌∷◌, Ok, Err, refl, w64, Bor}
 use seplogic.Ra.Ura.{Ura}
-use mir.Syntax.{Ty, Args, Fn, a_type, dnil, dcons}
+use mir.Syntax.{Ty, Fn}
 use mir.Val.{Val, vbool, vint, vptr}
 use mir.MapTy.{inst_fn}
 use base.Logic.{SProp, ent, sep, emp, id⊢}
@@ -20,9 +20,8 @@ use denote.Exit.{yes}
 use denote.RattleType.{owns}
 use denote.Ref.{shr_vals}
 use denote.Opens.{unhide}
-use denote.Param.{bounded, param}
 use denote.Plain.{uint_vals, uint_Tells}
-use denote.Signature.{Slot, plain, types_at}
+use denote.Signature.{plain, types_at}
 use denote.Steps.{heard, nothing}
 use denote.Triple.Clauses.{Ended, Clauses}
 use denote.Triple.Spec.{triple_of}
@@ -32,7 +31,7 @@ use denote.Triple.Walked.{Stays, stay_dropped, walk_of, ends_at, walked, Goes-dr
 use types.Kit.{‵, raw, ◌⊛◌, some, later, given, at_ret, ◌$◌, ◌∵◌, !, qed, by, move, keep, use0, use1, use2, split, join, pick, learn, fsplit, fjoin, suffices, await, done}
 use types.ByLocal.{alloc_all, pass_all, free_all, look_at, get, through, sets, lands_as, env}
 use denote.RawPtr.{block_ptr}
-use denote.Builtin.{usize, RefOf}
+use denote.Builtin.{usize}
 use denote.Triple.Call.{calls_at}
 use Rattle.std.proofs.VecSteps.Shapes.{after}
 use Rattle.std.proofs.alloc.Calls.{Al, α, seen, token, Answer, answer_val, Answer-typed, Answer-Ok, Answer-err, takes_key, Takes, at_takes, Answered, Takes-goes, Takes-gives, answers}
@@ -40,26 +39,21 @@ use Rattle.refusing.proofs.NextRequest.{Asks, at_asks, Asks-goes, Asks-gives}
 use Rattle.refusing.proofs.refuses_next.Symbol as c_sym
 use Rattle.refusing.proofs.refuses_next.Met as c_met
 use Rattle.refusing.specs.contracts.RefusingHeap as heap
+use Rattle.refusing.proofs.Receiver.{args, self}
 use Rattle.refusing.specs.contracts.RefusingHeapAllocator.allocate as F
 use Rattle.refusing.specs.contracts.RefusingHeapAllocator.allocate.Key as key
 use Rattle.refusing.proofs.RefusingHeapAllocator.allocate.Statement as stated
 use Rattle.refusing.proofs.RefusingHeapAllocator.allocate.Code as code
 
 module _ (Z : Al) where
-  abbrev args : Args
-  args = bounded (a_type ∷ []) (Z.row, tt) (dcons Z.d (dcons Z.drops dnil))
-
   abbrev here : Fn
-  here = inst_fn args code.function
-
-  abbrev self : Slot 2
-  self = RefOf (0 ∷ []) tt (plain (λ _. heap.the_row (param 0 Z.row))) (λ _. tt)
+  here = inst_fn (args Z) code.function
 
   abbrev ended : Ended
   ended = F.ended Z.row Z.g Z.d Z.drops
 
   abbrev stayed : Stays ended.signature.params ended.kept
-  stayed = (stay_dropped self yes, (stay_dropped (plain (λ _. usize)) yes, (stay_dropped (plain (λ _. usize)) yes, tt)))
+  stayed = (stay_dropped (self Z) yes, (stay_dropped (plain (λ _. usize)) yes, (stay_dropped (plain (λ _. usize)) yes, tt)))
 
 module _ (Z : Al) {M : Type 1} {𝓤 : Ura M} (𝓛 : Logic 𝓤) (at_mem : Memory → SProp 𝓤) (run : Routine → Fun 𝓤) (𝓣 : Tables 𝓤 𝓛.H) (tk : Triple 𝓤 (𝓣.C (takes_key Z)) (Takes Z 𝓛 at_mem run)) (ask : Triple 𝓤 (𝓣.C c_sym.name) (Asks 𝓛 at_mem run)) where
   open 𝓛 use {H, A}

@@ -8,12 +8,12 @@ use Rattle.block_device.proofs.device.BlockDevice.serve.Goals as goal
 pub returns-clause-served : goal.returns-clause-served
 returns-clause-served g c =
     let s = extent_disk c.args.self.now.extent (g.I.Image.disk c.args.cache.now) in
-    let t = extent_disk c.args.self.now.extent (g.I.Image.disk c.serve_some.new.cache) in
-    whole c.args.self.now _ (queue_at 0 c.args.window.now) c.serve_some.result.progress c.args.mem.now c.serve_some.new.mem c.args.window.now c.serve_some.new.window s t
-    refl refl c.serve_some.ensures.served
+    let t = extent_disk c.args.self.now.extent (g.I.Image.disk c.serve_piece.new.cache) in
+    whole c.args.self.now _ (queue_at 0 c.args.window.now) c.serve_piece.result.progress c.args.mem.now c.serve_piece.new.mem c.args.window.now c.serve_piece.new.window s t
+    refl refl c.serve_piece.ensures.served
 
 pub returns-clause-exact : goal.returns-clause-exact
 returns-clause-exact g c =
-    λ e. notified_without_failure c.args.self.now (queue_at 0 c.args.window.now) c.args.mem.now c.serve_some.new.mem c.args.window.now c.serve_some.new.window
-    (extent_disk c.args.self.now.extent (g.I.Image.disk c.args.cache.now)) (extent_disk c.args.self.now.extent (g.I.Image.disk c.serve_some.new.cache)) e
+    λ e. notified_without_failure c.args.self.now (queue_at 0 c.args.window.now) c.args.mem.now c.serve_piece.new.mem c.args.window.now c.serve_piece.new.window
+    (extent_disk c.args.self.now.extent (g.I.Image.disk c.args.cache.now)) (extent_disk c.args.self.now.extent (g.I.Image.disk c.serve_piece.new.cache)) e
     (returns-clause-served g c)

@@ -13,7 +13,7 @@ loop-token-preserved-then-failed g c =
     c.loop-token.failed c.answer-answer.result.failed c.loop-token.failed c.take.new.chain (entry_of c.in-Ok-Some.token) c.answer-answer.result.len c.answer-answer.result.wrote
     c.loop-token.invariant (some_left c.loop-token.left c.is_spent.result c.is_spent.ensures c.if-is_spent.false) c.spend.ensures
     (rw c.in-Ok-Some.field-0-is at c.in-Ok-Some.ensures.on_offer) (rw c.in-Ok-Some.field-0-is at c.in-Ok-Some.ensures.offered) c.in-Ok-Some.ensures.same
-    c.answer-answer.ensures.does c.give.ensures.used c.give.ensures.past c.answer-answer.ensures.counted c.answer-answer.ensures.outside
+    c.answer-answer.ensures.does c.give.ensures.used c.give.ensures.past c.answer-answer.ensures.calls
     c.answer-answer.ensures.range c.give.ensures.range c.give.ensures.lies c.give.ensures.made
     (or_with_true c.loop-token.failed c.answer-answer.result.failed c.if-failed.true)
 
@@ -24,7 +24,7 @@ loop-token-preserved g c =
     c.loop-token.failed c.answer-answer.result.failed c.answer-answer.result.failed c.take.new.chain (entry_of c.in-Ok-Some.token) c.answer-answer.result.len c.answer-answer.result.wrote
     c.loop-token.invariant (some_left c.loop-token.left c.is_spent.result c.is_spent.ensures c.if-is_spent.false) c.spend.ensures
     (rw c.in-Ok-Some.field-0-is at c.in-Ok-Some.ensures.on_offer) (rw c.in-Ok-Some.field-0-is at c.in-Ok-Some.ensures.offered) c.in-Ok-Some.ensures.same
-    c.answer-answer.ensures.does c.give.ensures.used c.give.ensures.past c.answer-answer.ensures.counted c.answer-answer.ensures.outside
+    c.answer-answer.ensures.does c.give.ensures.used c.give.ensures.past c.answer-answer.ensures.calls
     c.answer-answer.ensures.range c.give.ensures.range c.give.ensures.lies c.give.ensures.made
     (or_with_false c.loop-token.failed c.answer-answer.result.failed c.if-failed.false)
 

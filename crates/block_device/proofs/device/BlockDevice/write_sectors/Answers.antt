@@ -14,30 +14,30 @@ loop-done-preserved g c =
 
 pub returns-in-Err-clause-done : goal.returns-in-Err-clause-done
 returns-in-Err-clause-done g c =
-    (writing_fails {identity = c.args.self.now.identity} c.args.self.now.extent c.args.chain.now c.args.mem.now (g.I.Image.disk c.args.cache.now) (g.I.Image.disk c.loop-done.cache) (g.I.Image.disk c.write.new.self)
+    (writing_fails c.args.self.now.identity c.args.self.now.extent c.args.chain.now c.args.mem.now (g.I.Image.disk c.args.cache.now) (g.I.Image.disk c.loop-done.cache) (g.I.Image.disk c.write.new.self)
     c.args.sector c.args.count c.loop-done.done (g.met.I.Image.whole c.args.cache.now) c.requires.lies c.loop-done.invariant c.loop-done-test.true c.requires.sectors c.requires.payload c.in-Err.ensures.err).0
 
-pub returns-in-Err-clause-outside : goal.returns-in-Err-clause-outside
-returns-in-Err-clause-outside g c =
-    (writing_fails {identity = c.args.self.now.identity} c.args.self.now.extent c.args.chain.now c.args.mem.now (g.I.Image.disk c.args.cache.now) (g.I.Image.disk c.loop-done.cache) (g.I.Image.disk c.write.new.self)
+pub returns-in-Err-clause-calls : goal.returns-in-Err-clause-calls
+returns-in-Err-clause-calls g c =
+    (writing_fails c.args.self.now.identity c.args.self.now.extent c.args.chain.now c.args.mem.now (g.I.Image.disk c.args.cache.now) (g.I.Image.disk c.loop-done.cache) (g.I.Image.disk c.write.new.self)
     c.args.sector c.args.count c.loop-done.done (g.met.I.Image.whole c.args.cache.now) c.requires.lies c.loop-done.invariant c.loop-done-test.true c.requires.sectors c.requires.payload c.in-Err.ensures.err).1
 
 pub returns-in-Ok-flush-clause-done : goal.returns-in-Ok-flush-clause-done
 returns-in-Ok-flush-clause-done g c =
-    (writing_done {identity = c.args.self.now.identity} c.args.self.now.extent c.args.chain.now c.args.mem.now (g.I.Image.disk c.args.cache.now) (g.I.Image.disk c.loop-done.cache) (g.I.Image.disk c.flush.new.self)
+    (writing_done c.args.self.now.identity c.args.self.now.extent c.args.chain.now c.args.mem.now (g.I.Image.disk c.args.cache.now) (g.I.Image.disk c.loop-done.cache) (g.I.Image.disk c.flush.new.self)
     c.args.sector c.args.count c.loop-done.done (g.met.I.Image.whole c.args.cache.now) c.requires.lies c.loop-done.invariant (omega arith) c.requires.sectors c.requires.payload c.in-Ok-flush.ensures.ok).0
 
-pub returns-in-Ok-flush-clause-outside : goal.returns-in-Ok-flush-clause-outside
-returns-in-Ok-flush-clause-outside g c =
-    (writing_done {identity = c.args.self.now.identity} c.args.self.now.extent c.args.chain.now c.args.mem.now (g.I.Image.disk c.args.cache.now) (g.I.Image.disk c.loop-done.cache) (g.I.Image.disk c.flush.new.self)
+pub returns-in-Ok-flush-clause-calls : goal.returns-in-Ok-flush-clause-calls
+returns-in-Ok-flush-clause-calls g c =
+    (writing_done c.args.self.now.identity c.args.self.now.extent c.args.chain.now c.args.mem.now (g.I.Image.disk c.args.cache.now) (g.I.Image.disk c.loop-done.cache) (g.I.Image.disk c.flush.new.self)
     c.args.sector c.args.count c.loop-done.done (g.met.I.Image.whole c.args.cache.now) c.requires.lies c.loop-done.invariant (omega arith) c.requires.sectors c.requires.payload c.in-Ok-flush.ensures.ok).1
 
 pub returns-in-Err-flush-clause-done : goal.returns-in-Err-flush-clause-done
 returns-in-Err-flush-clause-done g c =
-    (writing_unflushed {identity = c.args.self.now.identity} c.args.self.now.extent c.args.chain.now c.args.mem.now (g.I.Image.disk c.args.cache.now) (g.I.Image.disk c.loop-done.cache) (g.I.Image.disk c.flush.new.self)
+    (writing_unflushed c.args.self.now.identity c.args.self.now.extent c.args.chain.now c.args.mem.now (g.I.Image.disk c.args.cache.now) (g.I.Image.disk c.loop-done.cache) (g.I.Image.disk c.flush.new.self)
     c.args.sector c.args.count c.loop-done.done (g.met.I.Image.whole c.args.cache.now) c.requires.lies c.loop-done.invariant (omega arith) c.requires.sectors c.requires.payload c.in-Err-flush.ensures.err).0
 
-pub returns-in-Err-flush-clause-outside : goal.returns-in-Err-flush-clause-outside
-returns-in-Err-flush-clause-outside g c =
-    (writing_unflushed {identity = c.args.self.now.identity} c.args.self.now.extent c.args.chain.now c.args.mem.now (g.I.Image.disk c.args.cache.now) (g.I.Image.disk c.loop-done.cache) (g.I.Image.disk c.flush.new.self)
+pub returns-in-Err-flush-clause-calls : goal.returns-in-Err-flush-clause-calls
+returns-in-Err-flush-clause-calls g c =
+    (writing_unflushed c.args.self.now.identity c.args.self.now.extent c.args.chain.now c.args.mem.now (g.I.Image.disk c.args.cache.now) (g.I.Image.disk c.loop-done.cache) (g.I.Image.disk c.flush.new.self)
     c.args.sector c.args.count c.loop-done.done (g.met.I.Image.whole c.args.cache.now) c.requires.lies c.loop-done.invariant (omega arith) c.requires.sectors c.requires.payload c.in-Err-flush.ensures.err).1

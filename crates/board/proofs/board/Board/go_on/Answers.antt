@@ -2,15 +2,19 @@ use Rattle.std.proofs.Common.{◌≡◌, ◌≤◌, ◌<◌, Some, None, length,
 use Rattle.std.specs.List.{slice_get}
 use Rattle.std.proofs.lemmas.Option.{slice_get_past, slice_get_read, same_Some}
 use Rattle.board.specs.Image.{Tells}
-use Rattle.board.specs.World.{disturbed_of, extents_of}
+use Rattle.board.specs.World.{disturbed_of}
 use Rattle.board.proofs.Outside.{outside_kept}
-use Rattle.board.proofs.Seats.{extents_of-set, noted_none, noted_set, others_kept, slot_within, takes}
+use Rattle.board.proofs.Seats.{extents_of-set, noted_none, noted_set, others_kept, slot_within, stays_in_extents, stays_same, takes}
 use Rattle.board.proofs.Alone.{get_set}
 use Rattle.board.proofs.board.Board.go_on.Goals as goal
 
 pub returns-in_default-clause-noted : goal.returns-in_default-clause-noted
 returns-in_default-clause-noted g c =
     rw (← c.self.view_is) (noted_none c.args.slot (g.I.Image.disk c.self.inside.cache).failures (disturbed_of c.self.inside.slots.items))
+
+pub returns-in_default-clause-stays : goal.returns-in_default-clause-stays
+returns-in_default-clause-stays g c =
+    rw (← c.self.view_is) (stays_same g.I.Image.disk (record { slots = c.self.inside.slots.items; image = c.self.inside.cache }))
 
 -- the slot of that number
 there : (g : _) (c : goal.After-self-2-1 g) → slice_get c.self.inside.slots.items c.args.slot ≡ Some c.in-Some.slot.now
@@ -25,7 +29,7 @@ go_on-turn-requires g c = record {
 
 pub invariant_of-self-2 : goal.invariant_of-self-2
 invariant_of-self-2 g c =
-    rw (extents_of-set c.self.inside.slots.items c.args.slot c.in-Some.slot.now c.go_on-turn.new.self (there g c) c.go_on-turn.ensures.extent, c.go_on-turn.ensures.outside.sectors)
+    rw (extents_of-set c.self.inside.slots.items c.args.slot c.in-Some.slot.now c.go_on-turn.new.self (there g c) c.go_on-turn.ensures.stays.extent, c.go_on-turn.ensures.stays.image.outside.sectors)
     c.self.invariant
 
 pub returns-clause-takes : goal.returns-clause-takes
@@ -33,30 +37,20 @@ returns-clause-takes g c tells below =
     let old = g.I.Image.disk c.self.inside.cache in
     let new = g.I.Image.disk c.go_on-turn.new.cache in
     let telling : Tells old = subst (λ b. Tells (g.I.Image.disk b.image)) (sym c.self.view_is) tells in
-    let kept = outside_kept c.in-Some.slot.now.extent old.told new.told telling c.go_on-turn.ensures.outside.told in
+    let kept = outside_kept c.in-Some.slot.now.extent old.told new.told telling c.go_on-turn.ensures.stays.image.outside.told in
     rw (← c.self.view_is)
     (takes _ c.self.inside.slots.items old new c.args.slot c.in-Some.slot.now c.go_on-turn.new.self c.go_on-turn.result _ _ _ _
-    c.self.invariant.apart (there g c) c.go_on-turn.ensures.extent c.go_on-turn.ensures.noted kept.outside (c.go_on-turn.ensures.serves telling) c.interrupts-block_irq.ensures.value)
+    c.self.invariant.apart (there g c) c.go_on-turn.ensures.stays.extent c.go_on-turn.ensures.noted kept.outside (c.go_on-turn.ensures.serves telling) c.interrupts-block_irq.ensures.value)
 
-pub returns-clause-outside : goal.returns-clause-outside
-returns-clause-outside g c tells =
-    let fits : c.args.slot < length c.args.self.now.slots = rw (← c.self.view_is) (omega (arith, c.in-Some.ensures.variant.0 refl)) in
-    (returns-clause-takes g c tells fits).taken.outside
-
-pub returns-clause-told : goal.returns-clause-told
-returns-clause-told g c tells =
-    let old = g.I.Image.disk c.self.inside.cache in
-    let new = g.I.Image.disk c.go_on-turn.new.cache in
-    let telling : Tells old = subst (λ b. Tells (g.I.Image.disk b.image)) (sym c.self.view_is) tells in
-    (outside_kept c.in-Some.slot.now.extent old.told new.told telling c.go_on-turn.ensures.outside.told).tells
+pub returns-clause-stays : goal.returns-clause-stays
+returns-clause-stays g c =
+    rw (← c.self.view_is)
+    (stays_in_extents g.I.Image.disk c.self.inside.slots.items c.self.inside.cache c.go_on-turn.new.cache c.args.slot c.in-Some.slot.now c.go_on-turn.new.self (there g c) c.go_on-turn.ensures.stays)
 
 pub returns-clause-noted : goal.returns-clause-noted
 returns-clause-noted g c =
     rw (← c.self.view_is)
     (noted_set c.self.inside.slots.items c.args.slot c.in-Some.slot.now c.go_on-turn.new.self _ (there g c) c.go_on-turn.ensures.noted)
-
-pub returns-clause-extents : goal.returns-clause-extents
-returns-clause-extents g c = extents_of-set c.self.inside.slots.items c.args.slot c.in-Some.slot.now c.go_on-turn.new.self (there g c) c.go_on-turn.ensures.extent ∙ ap (λ b. extents_of b.slots) c.self.view_is
 
 pub returns-clause-others : goal.returns-clause-others
 returns-clause-others g c other differ =

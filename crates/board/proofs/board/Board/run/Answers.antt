@@ -1,6 +1,7 @@
 use Rattle.std.proofs.Common.{◌+◌, ◌≤◌, vec_len, vec_capacity, sym, ◌∙◌, arith}
 use Rattle.board.specs.World.{world_of}
-use Rattle.board.proofs.Runs.{idle_next, idle_whole, reached_next, run_of, run_whole, where_ok, words_more, line_outside}
+use Rattle.board.proofs.Runs.{idle_next, idle_whole, reached_next, run_of, run_whole, where_ok, words_more}
+use Rattle.board.proofs.Seats.{stays_still}
 use Rattle.board.proofs.board.Board.run.Goals as goal
 
 pub returns-then-is_err-clause-run : goal.returns-then-is_err-clause-run
@@ -8,9 +9,6 @@ returns-then-is_err-clause-run g c tells = rw c.reserve.ensures.items (run_of _ 
 
 pub returns-then-is_err-clause-words : goal.returns-then-is_err-clause-words
 returns-then-is_err-clause-words g c = λ before. rw c.reserve.ensures.items (c.loop-done.invariant.words before)
-
-pub returns-then-is_err-clause-outside : goal.returns-then-is_err-clause-outside
-returns-then-is_err-clause-outside g c = λ tells. let reached = c.loop-done.invariant.reached tells in line_outside _ reached.moves _ reached.line
 
 pub put-requires : goal.put-requires
 put-requires g c =
@@ -26,21 +24,15 @@ loop-done-preserved g c =
           reached_next (world c.args.self.now) (world c.loop-done.self) (world c.handle-handled.new.self) c.args.events.now c.loop-done.done c.index-events-done.result
           handled.reply handled.block_irq handled.console_irq c.handle-handled.new.out.items c.args.records.now.items c.loop-done.records.items c.put.new.records.items
           (omega arith) c.index-events-done.is (c.loop-done.invariant.reached tells)
-          (rw c.new-output.ensures.items at (c.handle-handled.ensures.handles (c.loop-done.invariant.told tells)))
+          (rw c.new-output.ensures.items at (c.handle-handled.ensures.handles (c.loop-done.invariant.stays.told tells)))
           (rw (c.reserve.ensures.items, c.from.ensures) at c.put.ensures);
-      told = λ tells. c.handle-handled.ensures.told (c.loop-done.invariant.told tells);
       words = λ before. words_more c.loop-done.records.items c.put.new.records.items _ (rw (c.reserve.ensures.items, c.from.ensures) at c.put.ensures) (c.loop-done.invariant.words before) c.handle-handled.ensures.block_word c.handle-handled.ensures.console_word;
       others = idle_next c.args.events.now c.loop-done.done c.index-events-done.result _ _ _ (omega arith) c.index-events-done.is c.loop-done.invariant.others c.handle-handled.ensures.others;
-      extents = c.handle-handled.ensures.extents ∙ c.loop-done.invariant.extents;
-      sectors = c.handle-handled.ensures.sectors ∙ c.loop-done.invariant.sectors;
-      rises = omega (arith, c.loop-done.invariant.rises, c.handle-handled.ensures.rises);
+      stays = stays_still g.I.Image.disk c.args.self.now c.loop-done.self c.handle-handled.new.self c.loop-done.invariant.stays c.handle-handled.ensures.stays;
     }
 
 pub returns-clause-run : goal.returns-clause-run
 returns-clause-run g c tells = run_whole _ _ c.args.events.now c.loop-done.done _ _ (omega arith) (c.loop-done.invariant.reached tells)
-
-pub returns-clause-outside : goal.returns-clause-outside
-returns-clause-outside g c = λ tells. let reached = c.loop-done.invariant.reached tells in line_outside _ reached.moves _ reached.line
 
 pub returns-clause-others : goal.returns-clause-others
 returns-clause-others g c = idle_whole c.args.events.now c.loop-done.done _ _ (omega arith) c.loop-done.invariant.others

@@ -5,5 +5,5 @@ use Rattle.console_device.proofs.device.ConsoleDevice.serve_receive.Goals as goa
 
 pub returns-clause-served : goal.returns-clause-served
 returns-clause-served g c =
-    received_whole _ (queue_at 0 c.args.window.now) c.serve_receive_some.result c.args.mem.now c.serve_receive_some.new.mem c.args.window.now c.serve_receive_some.new.window
-    c.args.self.now.pending c.serve_receive_some.new.self.pending refl refl c.serve_receive_some.ensures.served
+    received_whole _ (queue_at 0 c.args.window.now) c.serve_receive_piece.result c.args.mem.now c.serve_receive_piece.new.mem c.args.window.now c.serve_receive_piece.new.window
+    c.args.self.now.pending c.serve_receive_piece.new.self.pending refl refl c.serve_receive_piece.ensures.served

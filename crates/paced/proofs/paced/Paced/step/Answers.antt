@@ -1,29 +1,17 @@
-use Rattle.std.proofs.Common.{◌≡◌, ◌<◌, Option, Some, None, [], length, refl, sym, ap, subst, ◌∙◌, append-nil}
+use Rattle.std.proofs.Common.{◌≡◌, ◌<◌, Option, Some, None, length, refl, sym, ap, subst, ◌∙◌}
 use Rattle.std.specs.List.{slice_get}
 use Rattle.std.proofs.lemmas.Option.{slice_get_within}
 use Rattle.board.specs.declared.pause.Pause.{Pause}
 use Rattle.board.specs.Image.{Tells}
 use Rattle.paced.specs.Pacing.{Handle, PacedState, Responds, paced_world}
-use Rattle.paced.proofs.Turns.{begun, told_within}
+use Rattle.paced.proofs.Turns.{begun, told_within, unchanged}
 use Rattle.paced.proofs.paced.Paced.step.Goals as goal
 
 pub returns-in-None-clause-responds : goal.returns-in-None-clause-responds
-returns-in-None-clause-responds g c = λ tells. record {
-  output = [];
-  block = 0;
-  console = 0;
-  comes = rw (← c.waiting.ensures, c.in-None.is) (refl, record { same = refl; silent = refl });
-  appended = sym (append-nil (g.O.Outlet.bytes c.args.out.now));
-}
+returns-in-None-clause-responds g c = λ tells. unchanged _ _ _ _ _ (rw (← c.waiting.ensures, c.in-None.is) (refl, record { same = refl; silent = refl }))
 
 pub returns-in-Some-Some-clause-responds : goal.returns-in-Some-Some-clause-responds
-returns-in-Some-Some-clause-responds g c = λ tells. record {
-  output = [];
-  block = 0;
-  console = 0;
-  comes = rw (← c.waiting.ensures, c.in-Some-Some.is, c.in-Some-Some.field-0-is) (refl, record { same = refl; silent = refl });
-  appended = sym (append-nil (g.O.Outlet.bytes c.args.out.now));
-}
+returns-in-Some-Some-clause-responds g c = λ tells. unchanged _ _ _ _ _ (rw (← c.waiting.ensures, c.in-Some-Some.is, c.in-Some-Some.field-0-is) (refl, record { same = refl; silent = refl }))
 
 pub returns-in-Some-None-clause-responds : goal.returns-in-Some-None-clause-responds
 returns-in-Some-None-clause-responds g c = λ tells.

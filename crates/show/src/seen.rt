@@ -1,0 +1,88 @@
+//! What is seen of a guest's devices, and said where it changes.
+
+use crate::guest::{SlotQueue, queue_of, window_of};
+use board::{Board, DeviceKind, Image};
+use std::alloc::Allocator;
+use weave::Text;
+use wording::{Change, NEW_WINDOW, Table, WindowSeen, say_changes, say_on_offer, window_seen};
+
+/// What was said last of a guest's windows, and of its queues' descriptors.
+#[derive(Drop)]
+pub struct Guest<A: Allocator> {
+    pub block: WindowSeen,
+    pub console: WindowSeen,
+    requests: Table<A>,
+    receive: Table<A>,
+    transmit: Table<A>,
+}
+
+impl<A: Allocator> Guest<A> {
+    /// A slot's guest, of which nothing was said. This takes no memory.
+    pub fn new<I: Image>(alloc: A, board: &Board<I, A>, slot: u8) -> Guest<A>
+    where
+        A: Copy,
+    {
+        Guest {
+            block: seen(board, slot, DeviceKind::Block),
+            console: seen(board, slot, DeviceKind::Console),
+            requests: Table::new(alloc),
+            receive: Table::new(alloc),
+            transmit: Table::new(alloc),
+        }
+    }
+
+    /// Says what of the windows and of the queues isn't as it was, and answers whether a descriptor isn't that was available
+    /// in a packed ring.
+    pub fn say_changes<I: Image>(
+        &mut self,
+        board: &Board<I, A>,
+        slot: u8,
+        text: &mut Text<A>,
+    ) -> bool {
+        let (block, console) = (self.block, self.console);
+        self.block = seen(board, slot, DeviceKind::Block);
+        self.console = seen(board, slot, DeviceKind::Console);
+        say_changes(text, DeviceKind::Block, &block, &self.block);
+        say_changes(text, DeviceKind::Console, &console, &self.console);
+        let at = SlotQueue::new(slot, DeviceKind::Block, 0);
+        let requests = say_queue(text, board, at, &mut self.requests, &block, &self.block);
+        let at = SlotQueue::new(slot, DeviceKind::Console, 0);
+        let receive = say_queue(text, board, at, &mut self.receive, &console, &self.console);
+        let at = SlotQueue::new(slot, DeviceKind::Console, 1);
+        let transmit = say_queue(text, board, at, &mut self.transmit, &console, &self.console);
+        requests || receive || transmit
+    }
+}
+
+// Says what is on offer in a queue, and its descriptors, where they aren't as they were. It answers whether one of these
+// was available in a packed ring.
+fn say_queue<I: Image, A: Allocator>(
+    text: &mut Text<A>,
+    board: &Board<I, A>,
+    at: SlotQueue,
+    table: &mut Table<A>,
+    old: &WindowSeen,
+    new: &WindowSeen,
+) -> bool {
+    let Some((mem, registers)) = queue_of(board, at) else {
+        return false;
+    };
+    let change = table.say_changes(text, mem, at.kind, at.queue, registers);
+    let ([old_0, old_1], [new_0, new_1]) = (&old.queues, &new.queues);
+    let has_changed = if at.queue == 0 {
+        old_0 != new_0
+    } else {
+        old_1 != new_1
+    };
+    say_on_offer(text, mem, at.kind, at.queue, registers, has_changed, change);
+    change == Change::Available
+}
+
+// What is seen of a slot's window.
+fn seen<I: Image, A: Allocator>(board: &Board<I, A>, slot: u8, kind: DeviceKind) -> WindowSeen {
+    let window = window_of(board, slot, kind);
+    match (board.memory(slot), window) {
+        (Some(mem), Some(window)) => window_seen(mem, window),
+        _ => NEW_WINDOW,
+    }
+}
