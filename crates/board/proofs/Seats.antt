@@ -66,23 +66,9 @@ slots_apart slots apart h k d fits fits' (inr (inr behind)) differ =
     let other : IsApart (get_or slots k d).extent (get_or slots h d).extent = rw (← get_or-map extent slots k d d.extent fits', ← get_or-map extent slots h d d.extent fits) (apart k h d.extent behind (omega (arith, length-map slots extent))) in
     apart_sym (get_or slots k d).extent (get_or slots h d).extent other
 
--- what the guest of a slot can see, with these bytes of its extent
-abbrev with_extent_bytes : BoardSlot → List ℕ → SlotState
-with_extent_bytes slot bytes = record {
-  memory = slot.memory;
-  extent = bytes;
-  read_only = slot.read_only;
-  identity = slot.identity;
-  block = slot.block;
-  console = slot.console;
-  pending = slot.pending;
-  cols = slot.cols;
-  rows = slot.rows;
-}
-
 -- what a guest can see stays where the bytes of its extent do
 state_same : (slot : BoardSlot) (xs ys : List ℕ) → extent_of xs slot.extent.start slot.extent.count ≡ extent_of ys slot.extent.start slot.extent.count → state_of xs slot ≡ state_of ys slot
-state_same slot xs ys same = ap (λ (bytes : List ℕ). with_extent_bytes slot bytes) same
+state_same slot xs ys same = ap (λ (bytes : List ℕ). record (state_of xs slot) { extent = bytes }) same
 
 -- one slot changed, and the image within that slot's extent alone: the states of all others stay
 states_set : (slots : List BoardSlot) (h : ℕ) (slot new : BoardSlot) (xs ys : List ℕ) → AllPairs IsApart (extents_of slots) → slice_get slots h ≡ Some slot → outside_of (slot.extent ∷ []) xs ≡ outside_of (slot.extent ∷ []) ys → map (state_of ys) (slice_set slots h new) ≡ slice_set (map (state_of xs) slots) h (state_of ys new)

@@ -1,11 +1,13 @@
 -- Which boards there may be, and why others are refused.
-use Rattle.std.specs.Prelude.{◌≡◌, ℕ, ◌+◌, ◌<◌, ◌≤◌, List, [], length, take, All, Any, Some}
+use Rattle.std.specs.Prelude.{◌≡◌, ℕ, Bool, true, false, ◌+◌, ◌<◌, ◌≤◌, List, [], length, take, All, Any, Some}
 use Rattle.std.specs.List.{slice_get}
 use Rattle.guest_memory.specs.Limits.{IsSize, IsBase}
 use Rattle.guest_memory.specs.declared.fault.MemoryFault.TheVariants.{BadSize, BadBase}
+use Rattle.guest_memory.specs.declared.fault.MemoryFault.TheVariants as memory
 use Rattle.sector_cache.specs.Fault.{IsCapacity}
 use Rattle.sector_cache.specs.declared.fault.CacheFault.{CacheFault}
 use Rattle.sector_cache.specs.declared.fault.CacheFault.TheVariants.{BadCapacity}
+use Rattle.sector_cache.specs.declared.fault.CacheFault.TheVariants as cache
 use Rattle.board.specs.declared.fault.BoardFault.{BoardFault}
 use Rattle.board.specs.declared.fault.BoardFault.TheVariants.{NoSlots, TooManySlots, Memory, ExtentOutside, ExtentsOverlap, Cache, NoMemory}
 use Rattle.board.specs.declared.spec.SlotSpec.{SlotSpec}
@@ -85,3 +87,10 @@ pub record IsAccepted (sectors : ℕ) (slots : List SlotSpec) (cache : ℕ) : Ty
 abbrev pub cache_refusal : CacheFault → BoardFault
 cache_refusal BadCapacity = Cache BadCapacity
 cache_refusal _ = NoMemory
+
+-- there was no memory, whatever it was wanted for
+abbrev pub is_want_of_memory : BoardFault → Bool
+is_want_of_memory NoMemory = true
+is_want_of_memory (Memory memory.NoMemory) = true
+is_want_of_memory (Cache cache.NoMemory) = true
+is_want_of_memory _ = false

@@ -1,5 +1,8 @@
 //! Why a board can't be made.
 
+ghost use Rattle.std.specs.Prelude.{◌≡◌};
+ghost use Rattle.board.specs.Fault.{is_want_of_memory};
+
 use guest_memory::MemoryFault;
 use sector_cache::CacheFault;
 use thiserror::Error;
@@ -29,4 +32,18 @@ pub enum BoardFault {
     /// There was no memory for the slots, a guest's memory or the cache.
     #[error("no memory for the board")]
     NoMemory,
+}
+
+impl BoardFault {
+    /// Whether there was no memory, whatever it was wanted for.
+    pub fn lacks_memory(self) -> bool
+        ensures { result ≡ is_want_of_memory self }
+    {
+        matches!(
+            self,
+            BoardFault::NoMemory
+                | BoardFault::Memory(MemoryFault::NoMemory)
+                | BoardFault::Cache(CacheFault::NoMemory)
+        )
+    }
 }

@@ -93,8 +93,7 @@ fn of_board_fault(why: BoardFault) -> u32
         BoardFault::ExtentOutside => EXTENT_OUTSIDE,
         BoardFault::ExtentsOverlap => EXTENTS_OVERLAP,
         BoardFault::Cache(CacheFault::BadCapacity) => BAD_CACHE,
-        BoardFault::Memory(MemoryFault::NoMemory)
-        | BoardFault::Cache(CacheFault::NoMemory)
-        | BoardFault::NoMemory => NO_MEMORY,
+        // All others lack memory.
+        _ => NO_MEMORY,
     }
 }

@@ -6,9 +6,8 @@ use crate::fault::Fault;
 use crate::lines::{Spelling, example_of, spelling_of};
 use crate::whose::{slot_at_fault, slot_of};
 use board::BoardFault;
-use guest_memory::MemoryFault;
 use replay::ReplayFault;
-use sector_cache::{BackingFile, CacheFault, FileCall, FileFailure, FileImage};
+use sector_cache::{BackingFile, FileCall, FileFailure, FileImage};
 use std::alloc::Allocator;
 use std::fmt::{Display, Formatter};
 use std::{fmt, io};
@@ -111,11 +110,7 @@ impl<'a> Advice<'a> {
                 FaultKind::NoMemory => Advice::Memory("the trace"),
                 _ => Advice::Line(fault, line_of(text, fault.line), version_in(text)),
             },
-            ReplayFault::Board(
-                BoardFault::NoMemory
-                | BoardFault::Memory(MemoryFault::NoMemory)
-                | BoardFault::Cache(CacheFault::NoMemory),
-            ) => Advice::Memory("the board"),
+            ReplayFault::Board(fault) if fault.lacks_memory() => Advice::Memory("the board"),
             ReplayFault::Board(BoardFault::TooManySlots) if version_in(text) == VERSION_1 => {
                 Advice::ManySlots
             }

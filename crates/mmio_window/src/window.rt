@@ -1,9 +1,11 @@
 //! The window itself: its state, the queues that it lends, and its device's events.
 
-ghost use Rattle.std.specs.Prelude.{◌≡◌, ◌≤◌, IfSome};
+ghost use Rattle.std.specs.Prelude.{◌≡◌, ◌<◌, ◌≤◌, IfSome, IsSome, IsTrue, Some, is_some};
 ghost use Rattle.std.specs.Borrow.{sem};
 ghost use Rattle.std.specs.Option.{option_copied_mut};
 ghost use Rattle.negotiation.specs.Features.{feature_bits};
+ghost use Rattle.negotiation.specs.Negotiation.{is_live};
+ghost use Rattle.mmio_window.specs.DeviceKind.{queue_of};
 ghost use Rattle.mmio_window.specs.Interrupts.{interrupt_bits};
 ghost use Rattle.mmio_window.specs.Lending.{LendsQueue};
 ghost use Rattle.guest_memory.specs.Memory.{Memory};
@@ -82,13 +84,24 @@ impl Window {
         ensures value { option_copied_mut result ≡ queue_at q self.old }
         ensures lies { (m : Memory) → IsSound m self.old → IfSome (option_copied_mut result) (LiesIn m) }
     {
-        if !self.negotiation.live() {
-            return None;
-        }
-        match self.kind.queue(u32::from(q)) {
+        match self.served(u32::from(q)) {
             Some(QueueIndex::Queue0) => self.queue_0.ring.as_mut(),
             Some(QueueIndex::Queue1) => self.queue_1.ring.as_mut(),
             None => None,
+        }
+    }
+
+    // Which queue of the device has this number, where the window is live and the queue ready (2.1.2).
+    fn served(&self, q: u32) -> Option<QueueIndex>
+        ensures served { is_some result ≡ is_some (queue_at q self.now) }
+        ensures live { IsSome result → IsTrue (is_live self.now.negotiation) }
+        ensures named { IfSome result (λ index. queue_of self.now.kind q ≡ Some index) }
+        ensures below { IsSome result → q < 2 }
+    {
+        if self.negotiation.live() && self.is_ready(q) {
+            self.kind.queue(q)
+        } else {
+            None
         }
     }
 

@@ -53,12 +53,7 @@ fn status_of(fault: &ReplayFault) -> u8
             FaultKind::NoMemory => FAILED,
             _ => REFUSED,
         },
-        ReplayFault::Board(fault) => match fault {
-            BoardFault::NoMemory
-            | BoardFault::Memory(MemoryFault::NoMemory)
-            | BoardFault::Cache(CacheFault::NoMemory) => FAILED,
-            _ => REFUSED,
-        },
+        ReplayFault::Board(fault) if !fault.lacks_memory() => REFUSED,
         _ => FAILED,
     }
 }
@@ -119,12 +114,11 @@ fn board_line(fault: &BoardFault) -> &'static str
         BoardFault::TooManySlots => "fault board TooManySlots\n",
         BoardFault::Memory(MemoryFault::BadSize) => "fault board BadSize\n",
         BoardFault::Memory(MemoryFault::BadBase) => "fault board BadBase\n",
-        BoardFault::Memory(MemoryFault::NoMemory) => MEMORY,
         BoardFault::ExtentOutside => "fault board ExtentOutside\n",
         BoardFault::ExtentsOverlap => "fault board ExtentsOverlap\n",
         BoardFault::Cache(CacheFault::BadCapacity) => "fault board BadCapacity\n",
-        BoardFault::Cache(CacheFault::NoMemory) => MEMORY,
-        BoardFault::NoMemory => MEMORY,
+        // All others lack memory.
+        _ => MEMORY,
     }
 }
 

@@ -8,7 +8,7 @@ ghost use Rattle.board.specs.declared.pause.Turn.{Turn};
 ghost use Rattle.board.specs.declared.reply.Reply.{Reply};
 ghost use Rattle.board.specs.Image.{Tells, bytes_of};
 ghost use Rattle.board.specs.Pausing.{Begins, GoesOn, HasLimit, TakesTurn, met_in};
-ghost use Rattle.board.specs.Slot.{BoardSlot, state_of};
+ghost use Rattle.board.specs.Slot.{BoardSlot, interrupt_words, state_of};
 ghost use Rattle.board.specs.World.{KeepsOthers, MayLackMemory, StaysInExtents, disturbed_of, extents_of, noted, world_of};
 ghost use Rattle.board.specs.Within.{BeginsWithin, GoesOnWithin};
 
@@ -16,6 +16,7 @@ use crate::board::Board;
 use crate::event::EventKind;
 use crate::pause::{Pause, Turn};
 use crate::reply::Reply;
+use crate::slot::Slot;
 use chain::Budget;
 use console_device::Outlet;
 use sector_cache::Image;
@@ -27,6 +28,38 @@ pub struct Taken<A: Allocator = Global> {
     pub turn: Turn<A>,
     pub block_irq: u8,
     pub console_irq: u8,
+}
+
+impl<A: Allocator> Taken<A> {
+    // Where there is no such slot.
+    fn missing() -> Taken<A>
+        ensures { result ≡ record {
+          turn = Turn.Answered Reply.BadSlot;
+          block_irq = 0;
+          console_irq = 0;
+        } }
+    {
+        Taken {
+            turn: Turn::Answered(Reply::BadSlot),
+            block_irq: 0,
+            console_irq: 0,
+        }
+    }
+
+    // The slot took the turn.
+    fn after(turn: Turn<A>, slot: &Slot<A>) -> Taken<A>
+        ensures turn { result.turn ≡ turn }
+        ensures words { (result.block_irq, result.console_irq) ≡ interrupt_words slot.now }
+        ensures block_word { result.block_irq ≤ 3 }
+        ensures console_word { result.console_irq ≤ 3 }
+    {
+        let (block_irq, console_irq) = slot.interrupts();
+        Taken {
+            turn,
+            block_irq,
+            console_irq,
+        }
+    }
 }
 
 impl<I: Image, A: Allocator + Copy> Board<I, A> {
@@ -64,19 +97,10 @@ impl<I: Image, A: Allocator + Copy> Board<I, A> {
             (λ found. (image : List ℕ) → MayLackMemory (state_of image found) what.now) }
     {
         let Some(slot) = self.slots.get_mut(slot as usize) else {
-            return Taken {
-                turn: Turn::Answered(Reply::BadSlot),
-                block_irq: 0,
-                console_irq: 0,
-            };
+            return Taken::missing();
         };
         let turn = slot.begin(self.alloc, what, budget, &mut self.cache, out);
-        let (block_irq, console_irq) = slot.interrupts();
-        Taken {
-            turn,
-            block_irq,
-            console_irq,
-        }
+        Taken::after(turn, slot)
     }
 
     /// Types bytes to the slot's console: `begin` for that input, for who has the bytes in a slice. No memory is
@@ -94,19 +118,10 @@ impl<I: Image, A: Allocator + Copy> Board<I, A> {
         ensures others { KeepsOthers slot self.old.slots self.new.slots }
     {
         let Some(slot) = self.slots.get_mut(slot as usize) else {
-            return Taken {
-                turn: Turn::Answered(Reply::BadSlot),
-                block_irq: 0,
-                console_irq: 0,
-            };
+            return Taken::missing();
         };
         let turn = slot.input(bytes, budget);
-        let (block_irq, console_irq) = slot.interrupts();
-        Taken {
-            turn,
-            block_irq,
-            console_irq,
-        }
+        Taken::after(turn, slot)
     }
 
     /// Goes on with a service of a slot that paused.
@@ -135,18 +150,9 @@ impl<I: Image, A: Allocator + Copy> Board<I, A> {
         ensures others { KeepsOthers slot self.old.slots self.new.slots }
     {
         let Some(slot) = self.slots.get_mut(slot as usize) else {
-            return Taken {
-                turn: Turn::Answered(Reply::BadSlot),
-                block_irq: 0,
-                console_irq: 0,
-            };
+            return Taken::missing();
         };
         let turn = slot.go_on(pause, budget, &mut self.cache, out);
-        let (block_irq, console_irq) = slot.interrupts();
-        Taken {
-            turn,
-            block_irq,
-            console_irq,
-        }
+        Taken::after(turn, slot)
     }
 }

@@ -1,8 +1,7 @@
 //! Writing the window's registers.
 
-ghost use Rattle.std.specs.Prelude.{◌≡◌, ◌<◌, IsTrue, is_some};
+ghost use Rattle.std.specs.Prelude.{◌≡◌};
 ghost use Rattle.mmio_window.specs.Soundness.{IsSound};
-ghost use Rattle.mmio_window.specs.Window.{queue_at};
 ghost use Rattle.mmio_window.specs.Writing.{action_of, register_action, register_written, status_written, with_queue_written, written};
 
 use crate::action::Action;
@@ -66,7 +65,7 @@ impl Window {
         }
     }
 
-    // A write to QueueNotify: is the named queue ready in a live window?
+    // A write to QueueNotify: may the named queue be served?
     fn notify(&self, value: u32) -> Action
         ensures { result ≡ register_action Register.QueueNotify value self.now }
     {
@@ -79,19 +78,11 @@ impl Window {
         } else {
             value
         };
-        if self.is_served(q) {
+        if self.served(q).is_some() {
             Action::Notify(q as u16)
         } else {
             Action::None
         }
-    }
-
-    // Whether a queue is ready, and the window live.
-    fn is_served(&self, q: u32) -> bool
-        ensures served { result ≡ is_some (queue_at q self.now) }
-        ensures named { IsTrue result → q < 2 }
-    {
-        self.negotiation.live() && self.is_ready(q)
     }
 
     // A write to a register.

@@ -12,7 +12,7 @@ use Rattle.board.proofs.board.Board.begin.Goals as goal
 
 pub returns-in_default-clause-noted : goal.returns-in_default-clause-noted
 returns-in_default-clause-noted g c =
-    rw (← c.self.view_is) (noted_none c.args.slot (g.I.Image.disk c.self.inside.cache).failures (disturbed_of c.self.inside.slots.items))
+    rw (← c.self.view_is, c.missing.ensures) (noted_none c.args.slot (g.I.Image.disk c.self.inside.cache).failures (disturbed_of c.self.inside.slots.items))
 
 pub returns-in_default-clause-stays : goal.returns-in_default-clause-stays
 returns-in_default-clause-stays g c =
@@ -40,9 +40,9 @@ returns-clause-takes g c tells below =
     let new = g.I.Image.disk c.begin-turn.new.cache in
     let telling : Tells old = subst (λ b. Tells (g.I.Image.disk b.image)) (sym c.self.view_is) tells in
     let kept = outside_kept c.in-Some.slot.now.extent old.told new.told telling c.begin-turn.ensures.stays.image.outside.told in
-    rw (← c.self.view_is)
+    rw (← c.self.view_is, c.after.ensures.turn)
     (takes _ c.self.inside.slots.items old new c.args.slot c.in-Some.slot.now c.begin-turn.new.self c.begin-turn.result _ _ _ _
-    c.self.invariant.apart (there g c) c.begin-turn.ensures.stays.extent c.begin-turn.ensures.noted kept.outside (c.begin-turn.ensures.serves telling) c.interrupts-block_irq.ensures.value)
+    c.self.invariant.apart (there g c) c.begin-turn.ensures.stays.extent c.begin-turn.ensures.noted kept.outside (c.begin-turn.ensures.serves telling) c.after.ensures.words)
 
 pub returns-clause-stays : goal.returns-clause-stays
 returns-clause-stays g c =
@@ -51,18 +51,18 @@ returns-clause-stays g c =
 
 pub returns-clause-noted : goal.returns-clause-noted
 returns-clause-noted g c =
-    rw (← c.self.view_is)
+    rw (← c.self.view_is, c.after.ensures.turn)
     (noted_set c.self.inside.slots.items c.args.slot c.in-Some.slot.now c.begin-turn.new.self _ (there g c) c.begin-turn.ensures.noted)
 
 pub returns-clause-bad_range_keeps : goal.returns-clause-bad_range_keeps
 returns-clause-bad_range_keeps g c refused =
-    let same = set_same c.self.inside.slots.items c.args.slot c.in-Some.slot.now c.begin-turn.new.self (there g c) (c.begin-turn.ensures.bad_range refused) in
-    rw (same, c.begin-turn.ensures.bad_range_image refused) c.self.view_is
+    let same = set_same c.self.inside.slots.items c.args.slot c.in-Some.slot.now c.begin-turn.new.self (there g c) (c.begin-turn.ensures.bad_range (sym c.after.ensures.turn ∙ refused)) in
+    rw (same, c.begin-turn.ensures.bad_range_image (sym c.after.ensures.turn ∙ refused)) c.self.view_is
 
 pub returns-clause-no_memory : goal.returns-clause-no_memory
 returns-clause-no_memory g c lacking =
     let here : slice_get c.args.self.now.slots c.args.slot ≡ Some c.in-Some.slot.now = ap (λ b. slice_get b.slots c.args.slot) (sym c.self.view_is) ∙ there g c in
-    subst (λ (o : Option BoardSlot). IsSomeAnd o (λ slot. (image : List ℕ) → MayLackMemory (state_of image slot) c.args.what.now)) (sym here) (c.begin-turn.ensures.no_memory lacking)
+    subst (λ (o : Option BoardSlot). IsSomeAnd o (λ slot. (image : List ℕ) → MayLackMemory (state_of image slot) c.args.what.now)) (sym here) (c.begin-turn.ensures.no_memory (sym c.after.ensures.turn ∙ lacking))
 
 pub returns-clause-others : goal.returns-clause-others
 returns-clause-others g c other differ =
@@ -79,4 +79,4 @@ returns-clause-within g c limit limited found after here now =
     let was : slice_get c.args.self.now.slots c.args.slot ≡ Some c.in-Some.slot.now = ap (λ b. slice_get b.slots c.args.slot) (sym c.self.view_is) ∙ there g c in
     let is : c.in-Some.slot.now ≡ found = same_Some c.in-Some.slot.now found (sym was ∙ here) in
     let set : c.begin-turn.new.self ≡ after = same_Some c.begin-turn.new.self after (sym (get_set c.self.inside.slots.items c.args.slot c.in-Some.slot.now c.begin-turn.new.self (there g c)) ∙ now) in
-    rw (← is, ← set, ← c.self.view_is) (c.begin-turn.ensures.within limit limited)
+    rw (← is, ← set, ← c.self.view_is, c.after.ensures.turn) (c.begin-turn.ensures.within limit limited)

@@ -20,11 +20,11 @@ invariant_of-self-2 g c =
 pub returns-clause-takes : goal.returns-clause-takes
 returns-clause-takes g c tells below =
     let disk = g.I.Image.disk c.self.inside.cache in
-    rw (← c.self.view_is)
+    rw (← c.self.view_is, c.after.ensures.turn)
     (takes _ c.self.inside.slots.items disk disk c.args.slot c.in-Some.slot.now c.input-turn.new.self c.input-turn.result _ _ [] []
     c.self.invariant.apart (there g c) c.input-turn.ensures.extent (unmet_turn c.in-Some.slot.now c.input-turn.new.self c.input-turn.result disk.failures c.input-turn.ensures.disturbed c.input-turn.ensures.took) refl
     (record { output = []; comes = c.input-turn.ensures.comes (bytes_of disk) (health_of disk); appended = refl })
-    c.interrupts-block_irq.ensures.value)
+    c.after.ensures.words)
 
 pub returns-clause-extents : goal.returns-clause-extents
 returns-clause-extents g c = extents_of-set c.self.inside.slots.items c.args.slot c.in-Some.slot.now c.input-turn.new.self (there g c) c.input-turn.ensures.extent ∙ ap (λ b. extents_of b.slots) c.self.view_is
