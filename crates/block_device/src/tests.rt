@@ -8,8 +8,8 @@ mod pieces;
 
 use crate::answer::Answer;
 use crate::{BlockDevice, Extent};
-use chain::{Buffer, Chain, Fault, Segment};
-use driver::put_request;
+use chain::{Chain, Fault};
+use driver::{WRITE, put_request};
 use guest_memory::GuestMemory;
 use sector_cache::{Image, ScriptedImage, SectorCache};
 use std::alloc::{Allocator, Global};
@@ -43,36 +43,17 @@ const READER: BlockDevice = BlockDevice {
     identity: IDENTITY,
 };
 
-const fn readable(addr: u64, len: u32) -> Buffer {
-    Buffer {
-        segment: Segment { addr, len },
-        writable: false,
-    }
-}
+/// A part of a request: its address, its length, and WRITE where the device writes it.
+type Part = (u64, u32, u16);
 
-const fn writable(addr: u64, len: u32) -> Buffer {
-    Buffer {
-        segment: Segment { addr, len },
-        writable: true,
-    }
-}
-
-/// The buffers of a request that reads so many bytes.
-const fn reading(room: u32) -> [Buffer; 3] {
-    [
-        readable(HEADER, 16),
-        writable(DATA, room),
-        writable(STATUS, 1),
-    ]
+/// The parts of a request that reads so many bytes.
+const fn reading(room: u32) -> [Part; 3] {
+    [(HEADER, 16, 0), (DATA, room, WRITE), (STATUS, 1, WRITE)]
 }
 
 /// Those of one that writes: so many bytes of header, of data and for the status.
-const fn writing(header: u32, data: u32, room: u32) -> [Buffer; 3] {
-    [
-        readable(HEADER, header),
-        readable(DATA, data),
-        writable(STATUS, room),
-    ]
+const fn writing(header: u32, data: u32, room: u32) -> [Part; 3] {
+    [(HEADER, header, 0), (DATA, data, 0), (STATUS, room, WRITE)]
 }
 
 /// Tells of which row something else was found than what is wanted. The one assertion with a message: a message is
@@ -90,14 +71,13 @@ const fn answer_of(len: u32, failed: bool) -> Answer {
     }
 }
 
-/// A chain of these buffers, which all lie in the memory.
-fn chain_of<A: Allocator>(mem: &GuestMemory<A>, buffers: &[Buffer]) -> Result<Chain, Fault>
+/// A chain of these parts, which all lie in the memory.
+fn chain_of<A: Allocator>(mem: &GuestMemory<A>, parts: &[Part]) -> Result<Chain, Fault>
     ensures { IfOk result (Good mem.now) }
 {
     let mut chain = Chain::new();
-    for buffer in buffers {
-        let segment = buffer.segment;
-        chain.push(mem, segment.addr, segment.len, buffer.writable)?;
+    for (addr, len, flags) in parts {
+        chain.push(mem, *addr, *len, *flags == WRITE)?;
     }
     Ok(chain)
 }
@@ -151,7 +131,7 @@ impl Guest {
         self.put_request(13, 0);
         let _ = self.mem.put_u64(DATA, sector);
         let _ = self.mem.put_u32(DATA + 8, count);
-        let chain = chain_of(&self.mem, &[readable(HEADER, 16), readable(DATA, 16)])?;
+        let chain = chain_of(&self.mem, &[(HEADER, 16, 0), (DATA, 16, 0)])?;
         let extent = Extent {
             start: 0,
             count: capacity,
@@ -161,14 +141,14 @@ impl Guest {
         Ok(request == crate::Request::WriteZeroes { segments: 1 })
     }
 
-    /// Serves one chain of these buffers.
+    /// Serves one chain of these parts.
     fn serve(
         &mut self,
         rt: &impl Abort,
         device: BlockDevice,
-        buffers: &[Buffer],
+        parts: &[Part],
     ) -> Result<Answer, Fault> {
-        let chain = chain_of(&self.mem, buffers)?;
+        let chain = chain_of(&self.mem, parts)?;
         let sectors = self.cache.image().sectors();
         assert!(rt; device.extent.start <= sectors);
         assert!(rt; device.extent.count <= sectors - device.extent.start);
@@ -309,8 +289,8 @@ fn what_is_refused_calls_no_image(rt: HostRuntime) -> Result<(), Fail> {
 
 fn check_refused(rt: &impl Abort, guest: &mut Guest, refused: &Refused) {
     let (device, header, data, room) = *refused;
-    let out = writing(header, data, room);
-    let served = guest.serve(rt, device, &out).is_ok();
+    let parts = writing(header, data, room);
+    let served = guest.serve(rt, device, &parts).is_ok();
     same(rt, refused, &(served, guest.calls()), &(true, 0));
 }
 
