@@ -8,7 +8,8 @@ mod pieces;
 
 use crate::answer::Answer;
 use crate::{BlockDevice, Extent};
-use chain::{Buffer, Chain, Fault, Segment};
+use chain::{Chain, Fault};
+use driver::{WRITE, put_request};
 use guest_memory::GuestMemory;
 use sector_cache::{Image, ScriptedImage, SectorCache};
 use std::alloc::{Allocator, Global};
@@ -42,18 +43,17 @@ const READER: BlockDevice = BlockDevice {
     identity: IDENTITY,
 };
 
-const fn readable(addr: u64, len: u32) -> Buffer {
-    Buffer {
-        segment: Segment { addr, len },
-        writable: false,
-    }
+/// A part of a request: its address, its length, and WRITE where the device writes it.
+type Part = (u64, u32, u16);
+
+/// The parts of a request that reads so many bytes.
+const fn reading(room: u32) -> [Part; 3] {
+    [(HEADER, 16, 0), (DATA, room, WRITE), (STATUS, 1, WRITE)]
 }
 
-const fn writable(addr: u64, len: u32) -> Buffer {
-    Buffer {
-        segment: Segment { addr, len },
-        writable: true,
-    }
+/// Those of one that writes: so many bytes of header, of data and for the status.
+const fn writing(header: u32, data: u32, room: u32) -> [Part; 3] {
+    [(HEADER, header, 0), (DATA, data, 0), (STATUS, room, WRITE)]
 }
 
 /// Tells of which row something else was found than what is wanted. The one assertion with a message: a message is
@@ -71,14 +71,13 @@ const fn answer_of(len: u32, failed: bool) -> Answer {
     }
 }
 
-/// A chain of these buffers, which all lie in the memory.
-fn chain_of<A: Allocator>(mem: &GuestMemory<A>, buffers: &[Buffer]) -> Result<Chain, Fault>
+/// A chain of these parts, which all lie in the memory.
+fn chain_of<A: Allocator>(mem: &GuestMemory<A>, parts: &[Part]) -> Result<Chain, Fault>
     ensures { IfOk result (Good mem.now) }
 {
     let mut chain = Chain::new();
-    for buffer in buffers {
-        let segment = buffer.segment;
-        chain.push(mem, segment.addr, segment.len, buffer.writable)?;
+    for (addr, len, flags) in parts {
+        chain.push(mem, *addr, *len, *flags == WRITE)?;
     }
     Ok(chain)
 }
@@ -113,8 +112,7 @@ impl Guest {
 
     /// The header of a request, and ff where its status is to be.
     fn put_request(&mut self, kind: u32, sector: u64) {
-        let _ = self.mem.put_u32(HEADER, kind);
-        let _ = self.mem.put_u64(HEADER + 8, sector);
+        put_request(&mut self.mem, HEADER, kind, sector);
         let _ = self.mem.put_u16(STATUS, 0xff);
     }
 
@@ -133,7 +131,7 @@ impl Guest {
         self.put_request(13, 0);
         let _ = self.mem.put_u64(DATA, sector);
         let _ = self.mem.put_u32(DATA + 8, count);
-        let chain = chain_of(&self.mem, &[readable(HEADER, 16), readable(DATA, 16)])?;
+        let chain = chain_of(&self.mem, &[(HEADER, 16, 0), (DATA, 16, 0)])?;
         let extent = Extent {
             start: 0,
             count: capacity,
@@ -143,14 +141,14 @@ impl Guest {
         Ok(request == crate::Request::WriteZeroes { segments: 1 })
     }
 
-    /// Serves one chain of these buffers.
+    /// Serves one chain of these parts.
     fn serve(
         &mut self,
         rt: &impl Abort,
         device: BlockDevice,
-        buffers: &[Buffer],
+        parts: &[Part],
     ) -> Result<Answer, Fault> {
-        let chain = chain_of(&self.mem, buffers)?;
+        let chain = chain_of(&self.mem, parts)?;
         let sectors = self.cache.image().sectors();
         assert!(rt; device.extent.start <= sectors);
         assert!(rt; device.extent.count <= sectors - device.extent.start);
@@ -197,19 +195,10 @@ fn a_request_is_judged_by_its_type_sector_and_room(rt: HostRuntime) -> Result<()
 fn check_request(rt: &impl Abort, guest: &mut Guest, request: &Request) {
     let (kind, sector, room, status, len) = *request;
     guest.put_request(kind, sector);
-    let buffers = [
-        readable(HEADER, 16),
-        writable(DATA, room),
-        writable(STATUS, 1),
-    ];
-    let answer = guest.serve(rt, WHOLE, &buffers);
+    let answer = guest.serve(rt, WHOLE, &reading(room));
     let found = (answer, guest.status());
-    same(
-        rt,
-        request,
-        &found,
-        &(Ok(answer_of(len, false)), Some(status)),
-    );
+    let wanted = (Ok(answer_of(len, false)), Some(status));
+    same(rt, request, &found, &wanted);
 }
 
 /// Identities that differ from one another in every byte: with NULs inside, without any, and of NULs alone.
@@ -237,20 +226,11 @@ fn check_identity(rt: &impl Abort, guest: &mut Guest, identity: &[u8; 20]) {
         identity: *identity,
         ..WHOLE
     };
-    let buffers = [
-        readable(HEADER, 16),
-        writable(DATA, 21),
-        writable(STATUS, 1),
-    ];
-    let served = guest.serve(rt, device, &buffers).is_ok();
+    let served = guest.serve(rt, device, &reading(21)).is_ok();
     let found = guest.mem.part(DATA, 20) == Some(identity.as_slice());
     let behind = guest.mem.part(DATA + 20, 1).map(|bytes| bytes[0]);
-    same(
-        rt,
-        identity,
-        &(served, found, behind),
-        &(true, true, Some(0xee)),
-    );
+    let wanted = (true, true, Some(0xee));
+    same(rt, identity, &(served, found, behind), &wanted);
 }
 
 /// A capacity, a segment's sector and count, and whether it may be zeroed.
@@ -309,12 +289,8 @@ fn what_is_refused_calls_no_image(rt: HostRuntime) -> Result<(), Fail> {
 
 fn check_refused(rt: &impl Abort, guest: &mut Guest, refused: &Refused) {
     let (device, header, data, room) = *refused;
-    let buffers = [
-        readable(HEADER, header),
-        readable(DATA, data),
-        writable(STATUS, room),
-    ];
-    let served = guest.serve(rt, device, &buffers).is_ok();
+    let parts = writing(header, data, room);
+    let served = guest.serve(rt, device, &parts).is_ok();
     same(rt, refused, &(served, guest.calls()), &(true, 0));
 }
 
@@ -336,19 +312,10 @@ fn a_failed_request_ends_at_once_and_the_next_is_tried(rt: HostRuntime) -> Resul
 
 fn check_tried(rt: &impl Abort, guest: &mut Guest, tried: &Tried) {
     let (failed, status, calls) = *tried;
-    let out = [
-        readable(HEADER, 16),
-        readable(DATA, 1024),
-        writable(STATUS, 1),
-    ];
-    let answer = guest.serve(rt, WHOLE, &out);
+    let answer = guest.serve(rt, WHOLE, &writing(16, 1024, 1));
     let found = (answer, guest.status(), guest.calls());
-    same(
-        rt,
-        tried,
-        &found,
-        &(Ok(answer_of(1, failed)), Some(status), calls),
-    );
+    let wanted = (Ok(answer_of(1, failed)), Some(status), calls);
+    same(rt, tried, &found, &wanted);
 }
 
 #[test]

@@ -1,12 +1,10 @@
 -- A device that either serves a chain or lacks memory for it, and never may do both, has one service.
-use Rattle.std.proofs.Common.{◌≡◌, ◌≢◌, ℕ, ◌≤◌, Bool, true, false, ◌↔◌, Option, Some, None, List, [], ◌∷◌, length, refl, sym, ap, subst, ◌∙◌, arith}
+use Rattle.std.proofs.Common.{◌≡◌, ℕ, Bool, true, false, ◌↔◌, Option, Some, None, List, [], ◌∷◌, refl, sym, ap, subst, ◌∙◌, arith}
 use Rattle.std.specs.Prelude.{IsTrue}
-use Rattle.guest_memory.specs.Memory.{Memory}
 use Rattle.chain.specs.declared.segment.Buffer.{Buffer}
 use Rattle.chain.specs.declared.fault.Fault.{Fault}
-use Rattle.chain.specs.Bytes.{readable_of, writable_of}
-use Rattle.chain.specs.Service.{Kind, Device, Given, Entry, Ending, Spent, Faulted, Refused, Site, Served, ServesChain, ServesAll, IsEnding, Leaves, Runs, Works, after, open_site, IsService, HasAtMostOneChain, HasAtMostOneAnswer}
-use Rattle.console_device.specs.Device.{MayRefuse, Fits, transmit_within}
+use Rattle.chain.specs.Service.{Kind, Device, Given, Entry, Ending, Spent, Faulted, Refused, Site, Served, ServesChain, ServesAll, IsEnding, Works, after, open_site, IsService, HasAtMostOneChain, HasAtMostOneAnswer}
+use Rattle.console_device.specs.Device.{transmit_within}
 
 -- what it serves it has memory for
 pub record Decides {State : Type 0} (device : Device State) : Type 0 where

@@ -1,6 +1,6 @@
 -- Readable bytes of a chain on their way out.
 use Rattle.std.proofs.Common.{◌≡◌, ℕ, ◌+◌, ◌≤◌, arith, false, List, ◌++◌, length, take, drop, Option, None, refl, sym, ap, ◌∙◌, append_assoc}
-use Rattle.std.proofs.lemmas.List.{length-replicate, length-append, length-take, length-drop, take_all}
+use Rattle.std.proofs.lemmas.List.{length-replicate, length-take, length-drop, take_all}
 use Rattle.guest_memory.specs.Memory.{Memory}
 use Rattle.guest_memory.proofs.Ranges.{take-plus}
 use Rattle.chain.specs.declared.segment.Buffer.{Buffer}

@@ -11,6 +11,7 @@ mod transmit;
 
 use crate::{ConsoleDevice, NoMemory};
 use chain::Chain;
+use driver::{Descriptor, NEXT, accept, begin, put_descriptors, put_heads, set_up};
 use guest_memory::GuestMemory;
 use mmio_window::{DeviceKind, Window};
 use negotiation::{Features, Flags};
@@ -41,48 +42,18 @@ const RECEIVE: u32 = 0;
 
 const TRANSMIT: u32 = 1;
 
-/// Flags of a descriptor (2.7.5).
-const NEXT: u16 = 1;
-
-const WRITE: u16 = 2;
-
-const INDIRECT: u16 = 4;
-
 /// Tells of which row or step something else was found than what is wanted. The one assertion with a message:
 /// a message is dear to prove.
 fn same<R: Debug, T: PartialEq + Debug>(rt: &impl Abort, row: &R, found: &T, wanted: &T) {
     assert_eq!(rt; found, wanted, "{row:?}");
 }
 
-/// A descriptor of a split queue (2.7.5): its address, length, flags and next descriptor.
-#[derive(Clone, Copy, Debug)]
-struct Descriptor(u64, u32, u16, u16);
-
 /// A descriptor that no chain leads to.
-const UNUSED: Descriptor = Descriptor(0, 0, 0, 0);
+const UNUSED: Descriptor = (0, 0, 0, 0);
 
 /// Whether these bytes stand at the address.
 fn has<M: Allocator>(mem: &GuestMemory<M>, addr: u64, bytes: &[u8]) -> bool {
     mem.part(addr, bytes.len() as u64) == Some(bytes)
-}
-
-/// Writes a table of descriptors.
-fn put_table<M: Allocator>(mem: &mut GuestMemory<M>, table: u64, descriptors: &[Descriptor]) {
-    let mut at = table;
-    for Descriptor(addr, len, flags, next) in descriptors {
-        let _ = mem.put_u64(at, *addr);
-        let _ = mem.put_u32(at.wrapping_add(8), *len);
-        let _ = mem.put_u16(at.wrapping_add(12), *flags);
-        let _ = mem.put_u16(at.wrapping_add(14), *next);
-        at = at.wrapping_add(16);
-    }
-}
-
-/// Offers the chains of these two heads, or of the first alone (2.7.6).
-fn offer<M: Allocator>(mem: &mut GuestMemory<M>, heads: [u16; 2], count: u16) {
-    let _ = mem.put_u16(AVAILABLE + 4, heads[0]);
-    let _ = mem.put_u16(AVAILABLE + 6, heads[1]);
-    let _ = mem.put_u16(AVAILABLE + 2, count);
 }
 
 /// The same byte again and again.
@@ -109,25 +80,9 @@ fn up<M: Allocator>(mem: &GuestMemory<M>, queue: u32) -> Window
         DeviceKind::Console,
         Features::from_bits_retain(0x1_1000_0005),
     );
-    let negotiation = [
-        (0x070, 1),
-        (0x070, 3),
-        (0x020, 0x1000_0000),
-        (0x024, 1),
-        (0x020, 1),
-        (0x070, 0x0b),
-    ];
-    let setup = [
-        (0x030, queue),
-        (0x038, 4),
-        (0x080, 0x8000_1000),
-        (0x090, 0x8000_2000),
-        (0x0a0, 0x8000_3000),
-        (0x044, 1),
-        (0x070, 0x0f),
-    ];
-    write_all(&mut window, mem, &negotiation);
-    write_all(&mut window, mem, &setup);
+    write_all(&mut window, mem, &begin());
+    write_all(&mut window, mem, &accept(0x1_1000_0000));
+    write_all(&mut window, mem, &set_up(queue, 4));
     window
 }
 
@@ -155,24 +110,14 @@ fn look<M: Allocator>(mem: &GuestMemory<M>, window: &Window) -> Seen {
 
 /// A guest with these descriptors in its table, that offers the chains of these heads, and whose data are
 /// `abcdefgh`. The indirect table has `c` and `de`.
-fn guest(
-    alloc: Global,
-    table: &[Descriptor],
-    heads: [u16; 2],
-    count: u16,
-) -> Result<GuestMemory, Fail> {
+fn guest(alloc: Global, table: &[Descriptor], heads: &[u16]) -> Result<GuestMemory, Fail> {
+    let count = u16::try_from(heads.len())?;
     let mut mem = GuestMemory::new(alloc, BASE, LEN)?;
     let _ = mem.put_u64(DATA, 0x6867_6665_6463_6261);
-    put_table(&mut mem, TABLE, table);
-    put_table(
-        &mut mem,
-        INDIRECT_TABLE,
-        &[
-            Descriptor(DATA + 2, 1, NEXT, 1),
-            Descriptor(DATA + 3, 2, 0, 0),
-        ],
-    );
-    offer(&mut mem, heads, count);
+    put_descriptors(&mut mem, TABLE, table);
+    let indirect = [(DATA + 2, 1, NEXT, 1), (DATA + 3, 2, 0, 0)];
+    put_descriptors(&mut mem, INDIRECT_TABLE, &indirect);
+    put_heads(&mut mem, AVAILABLE, heads, count);
     Ok(mem)
 }
 

@@ -5,6 +5,7 @@ ghost use Rattle.mmio_window.specs.Soundness.{IsSound};
 
 use crate::tests::{BASE, DATA, Guest, HEADER, STATUS, WHOLE, same};
 use chain::{Budget, Chain, Progress};
+use driver::{NEXT, WRITE, accept, begin, put_descriptors, put_heads, put_request, set_up};
 use guest_memory::GuestMemory;
 use mmio_window::{DeviceKind, Stage, Window};
 use negotiation::{Features, Flags};
@@ -54,11 +55,11 @@ fn check_pieces(rt: &impl Abort, guest: &mut Guest, pieces: &Pieces) {
     same(rt, pieces, &left(&guest.mem), &LEFT);
 }
 
-/// What is left: of each request the head and the length of its used entry, the first and the last byte of its data,
-/// and its status.
-type Left = [(u32, u32, u8, u8, u8); 5];
+/// What is left of a request: the head and the length of its used entry, the first and the last byte of its data, and
+/// its status.
+type Left = (u32, u32, u8, u8, u8);
 
-const LEFT: Left = [
+const LEFT: [Left; 5] = [
     (0, 0x201, 0x10, 0x10, 0),
     (3, 0x201, 0x11, 0x11, 0),
     (6, 0x201, 0x12, 0x12, 0),
@@ -66,7 +67,7 @@ const LEFT: Left = [
     (12, 0x201, 0x14, 0x14, 0),
 ];
 
-fn left(mem: &GuestMemory) -> Left {
+fn left(mem: &GuestMemory) -> [Left; 5] {
     [
         left_of(mem, 0),
         left_of(mem, 1),
@@ -76,15 +77,16 @@ fn left(mem: &GuestMemory) -> Left {
     ]
 }
 
-fn left_of(mem: &GuestMemory, index: u64) -> (u32, u32, u8, u8, u8) {
-    let entry = USED.wrapping_add(4).wrapping_add(index.wrapping_mul(8));
-    let sector = DATA.wrapping_add(index.wrapping_mul(0x200));
+fn left_of(mem: &GuestMemory, sector: u8) -> Left {
+    let number = u64::from(sector);
+    let entry = USED + 4 + 8 * number;
+    let data = DATA + 0x200 * number;
     (
         mem.get_u32(entry).unwrap_or(0xff),
-        mem.get_u32(entry.wrapping_add(4)).unwrap_or(0xff),
-        byte(mem, sector),
-        byte(mem, sector.wrapping_add(0x1ff)),
-        byte(mem, STATUS.wrapping_add(index)),
+        mem.get_u32(entry + 4).unwrap_or(0xff),
+        byte(mem, data),
+        byte(mem, data + 0x1ff),
+        byte(mem, STATUS + number),
     )
 }
 
@@ -97,40 +99,27 @@ fn byte(mem: &GuestMemory, addr: u64) -> u8 {
 
 /// Offers five requests, which read the first five sectors.
 fn offer(mem: &mut GuestMemory) {
-    put_request(mem, 0);
-    put_request(mem, 1);
-    put_request(mem, 2);
-    put_request(mem, 3);
-    put_request(mem, 4);
-    let _ = mem.put_u16(AVAILABLE + 2, 5);
+    for sector in 0..5 {
+        put_read(mem, sector);
+    }
+    put_heads(mem, AVAILABLE, &[0, 3, 6, 9, 12], 5);
 }
 
-/// A request that reads the sector of this number (5.2.6): its header, its data and its status, in three descriptors
-/// (2.7.5).
-fn put_request(mem: &mut GuestMemory, index: u16) {
-    let number = u64::from(index);
-    let head = index.wrapping_mul(3);
-    let header = HEADER.wrapping_add(number.wrapping_mul(0x10));
-    let sector = DATA.wrapping_add(number.wrapping_mul(0x200));
-    let _ = mem.put_u64(header.wrapping_add(8), number);
-    let _ = mem.put_u16(STATUS.wrapping_add(number), 0xff);
-    put_descriptor(mem, head, header, 0x10, 1);
-    put_descriptor(mem, head.wrapping_add(1), sector, 0x200, 3);
-    put_descriptor(mem, head.wrapping_add(2), STATUS.wrapping_add(number), 1, 2);
-    let _ = mem.put_u16(
-        AVAILABLE
-            .wrapping_add(4)
-            .wrapping_add(number.wrapping_mul(2)),
-        head,
-    );
-}
-
-fn put_descriptor(mem: &mut GuestMemory, index: u16, addr: u64, len: u32, flags: u16) {
-    let at = TABLE.wrapping_add(u64::from(index).wrapping_mul(16));
-    let _ = mem.put_u64(at, addr);
-    let _ = mem.put_u32(at.wrapping_add(8), len);
-    let _ = mem.put_u16(at.wrapping_add(12), flags);
-    let _ = mem.put_u16(at.wrapping_add(14), index.wrapping_add(1));
+/// Puts a request that reads a sector, ff where its status is to be, and its three descriptors.
+fn put_read(mem: &mut GuestMemory, sector: u8) {
+    let number = u64::from(sector);
+    let header = HEADER + 0x10 * number;
+    let data = DATA + 0x200 * number;
+    let status = STATUS + number;
+    let head = 3 * u16::from(sector);
+    put_request(mem, header, 0, number);
+    let _ = mem.put_u16(status, 0xff);
+    let descriptors = [
+        (header, 0x10, NEXT, head + 1),
+        (data, 0x200, NEXT | WRITE, head + 2),
+        (status, 1, WRITE, 0),
+    ];
+    put_descriptors(mem, TABLE + 0x30 * number, &descriptors);
 }
 
 /// A live block window whose queue of 16 descriptors is ready.
@@ -138,20 +127,9 @@ fn up<M: Allocator>(mem: &GuestMemory<M>) -> Window
     ensures { IsSound mem.now result }
 {
     let mut window = Window::new(DeviceKind::Block, Features::from_bits_retain(0x1_0000_0000));
-    let writes = [
-        (0x070, 1),
-        (0x070, 3),
-        (0x024, 1),
-        (0x020, 1),
-        (0x070, 0x0b),
-        (0x038, 16),
-        (0x080, 0x8000_1000),
-        (0x090, 0x8000_2000),
-        (0x0a0, 0x8000_3000),
-        (0x044, 1),
-        (0x070, 0x0f),
-    ];
-    write_all(&mut window, mem, &writes);
+    write_all(&mut window, mem, &begin());
+    write_all(&mut window, mem, &accept(0x1_0000_0000));
+    write_all(&mut window, mem, &set_up(0, 16));
     window
 }
 

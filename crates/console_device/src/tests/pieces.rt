@@ -3,10 +3,9 @@
 ghost use Rattle.mmio_window.specs.Soundness.{IsSound};
 
 use crate::ConsoleDevice;
-use crate::tests::{
-    DATA, Descriptor, RECEIVE, TRANSMIT, UNUSED, WRITE, guest, has, look, same, up,
-};
+use crate::tests::{DATA, RECEIVE, TRANSMIT, guest, has, look, same, up};
 use chain::{Budget, Chain, Progress};
+use driver::WRITE;
 use guest_memory::GuestMemory;
 use mmio_window::{Stage, Window};
 use std::process::Abort;
@@ -26,29 +25,17 @@ const SECOND: Piece = (Progress::Done, 2, 1);
 
 #[test]
 fn input_goes_on_with_the_next_chain(rt: HostRuntime) -> Result<(), Fail> {
-    let table = [
-        Descriptor(DATA, 3, WRITE, 0),
-        Descriptor(DATA + 4, 3, WRITE, 0),
-        UNUSED,
-    ];
-    let mut mem = guest(rt.alloc(), &table, [0, 1], 2)?;
+    let table = [(DATA, 3, WRITE, 0), (DATA + 4, 3, WRITE, 0)];
+    let mut mem = guest(rt.alloc(), &table, &[0, 1])?;
     let mut window = up(&mem, RECEIVE);
     let mut console = ConsoleDevice::new(rt.alloc(), 80, 25)?;
     let _ = console.input(b"ABCDEFG");
     let first = receive_piece(&mut console, &mut mem, &mut window, Stage::First);
-    same(
-        &rt,
-        &"first",
-        &(first, has(&mem, DATA, b"ABCdefgh")),
-        &(FIRST, true),
-    );
+    let found = (first, has(&mem, DATA, b"ABCdefgh"));
+    same(&rt, &"first", &found, &(FIRST, true));
     let second = receive_piece(&mut console, &mut mem, &mut window, Stage::Next);
-    same(
-        &rt,
-        &"second",
-        &(second, has(&mem, DATA, b"ABCdDEFh")),
-        &(SECOND, true),
-    );
+    let found = (second, has(&mem, DATA, b"ABCdDEFh"));
+    same(&rt, &"second", &found, &(SECOND, true));
     Ok(())
 }
 
@@ -68,29 +55,17 @@ fn receive_piece(
 
 #[test]
 fn output_goes_on_with_the_next_chain(rt: HostRuntime) -> Result<(), Fail> {
-    let table = [
-        Descriptor(DATA, 3, 0, 0),
-        Descriptor(DATA + 4, 2, 0, 0),
-        UNUSED,
-    ];
-    let mut mem = guest(rt.alloc(), &table, [0, 1], 2)?;
+    let table = [(DATA, 3, 0, 0), (DATA + 4, 2, 0, 0)];
+    let mut mem = guest(rt.alloc(), &table, &[0, 1])?;
     let mut window = up(&mem, TRANSMIT);
     let mut console = ConsoleDevice::new(rt.alloc(), 80, 25)?;
     let mut out = Vec::new(rt.alloc());
     let first = transmit_piece(&mut console, &mut mem, &mut window, &mut out, Stage::First);
-    same(
-        &rt,
-        &"first",
-        &(first, out.as_slice() == b"abc".as_slice()),
-        &(FIRST, true),
-    );
+    let found = (first, out.as_slice() == b"abc".as_slice());
+    same(&rt, &"first", &found, &(FIRST, true));
     let second = transmit_piece(&mut console, &mut mem, &mut window, &mut out, Stage::Next);
-    same(
-        &rt,
-        &"second",
-        &(second, out.as_slice() == b"abcef".as_slice()),
-        &(SECOND, true),
-    );
+    let found = (second, out.as_slice() == b"abcef".as_slice());
+    same(&rt, &"second", &found, &(SECOND, true));
     Ok(())
 }
 

@@ -2,9 +2,8 @@
 //! services one after another are scenarios of `conformance`, under `input`.
 
 use crate::ConsoleDevice;
-use crate::tests::{
-    DATA, Descriptor, NEXT, RECEIVE, Seen, UNUSED, WRITE, after_receive, guest, has, same, up,
-};
+use crate::tests::{DATA, RECEIVE, Seen, UNUSED, after_receive, guest, has, same, up};
+use driver::{Descriptor, NEXT, WRITE};
 use guest_memory::GuestMemory;
 use std::alloc::Global;
 use std::process::Abort;
@@ -23,27 +22,27 @@ struct Received {
 const RECEIVED: [Received; 7] = [
     // no writable buffer, and one without bytes: nothing is taken
     Received {
-        table: [Descriptor(DATA, 4, 0, 0), UNUSED, UNUSED],
+        table: [(DATA, 4, 0, 0), UNUSED, UNUSED],
         len: 0,
         found: *b"abcdefgh",
         room: 4090,
     },
     Received {
-        table: [Descriptor(DATA, 0, WRITE, 0), UNUSED, UNUSED],
+        table: [(DATA, 0, WRITE, 0), UNUSED, UNUSED],
         len: 0,
         found: *b"abcdefgh",
         room: 4090,
     },
     // less room than input
     Received {
-        table: [Descriptor(DATA, 3, WRITE, 0), UNUSED, UNUSED],
+        table: [(DATA, 3, WRITE, 0), UNUSED, UNUSED],
         len: 3,
         found: *b"ABCdefgh",
         room: 4093,
     },
     // more room than input
     Received {
-        table: [Descriptor(DATA, 0x1000, WRITE, 0), UNUSED, UNUSED],
+        table: [(DATA, 0x1000, WRITE, 0), UNUSED, UNUSED],
         len: 6,
         found: *b"ABCDEFgh",
         room: 4096,
@@ -51,9 +50,9 @@ const RECEIVED: [Received; 7] = [
     // several buffers, one of them empty
     Received {
         table: [
-            Descriptor(DATA, 2, WRITE | NEXT, 2),
-            Descriptor(DATA + 5, 3, WRITE, 0),
-            Descriptor(DATA + 3, 0, WRITE | NEXT, 1),
+            (DATA, 2, WRITE | NEXT, 2),
+            (DATA + 5, 3, WRITE, 0),
+            (DATA + 3, 0, WRITE | NEXT, 1),
         ],
         len: 5,
         found: *b"ABcdeCDE",
@@ -62,9 +61,9 @@ const RECEIVED: [Received; 7] = [
     // readable buffers between
     Received {
         table: [
-            Descriptor(DATA + 4, 1, WRITE | NEXT, 1),
-            Descriptor(DATA, 8, NEXT, 2),
-            Descriptor(DATA + 1, 2, WRITE, 0),
+            (DATA + 4, 1, WRITE | NEXT, 1),
+            (DATA, 8, NEXT, 2),
+            (DATA + 1, 2, WRITE, 0),
         ],
         len: 3,
         found: *b"aBCdAfgh",
@@ -72,11 +71,7 @@ const RECEIVED: [Received; 7] = [
     },
     // buffers that overlap: the later byte stands
     Received {
-        table: [
-            Descriptor(DATA, 3, WRITE | NEXT, 1),
-            Descriptor(DATA + 2, 2, WRITE, 0),
-            UNUSED,
-        ],
+        table: [(DATA, 3, WRITE | NEXT, 1), (DATA + 2, 2, WRITE, 0), UNUSED],
         len: 5,
         found: *b"ABDEefgh",
         room: 4095,
@@ -100,7 +95,7 @@ fn receive_once(
     console: &mut ConsoleDevice,
     table: &[Descriptor],
 ) -> Result<(GuestMemory, Seen), Fail> {
-    let mut mem = guest(alloc, table, [0, 0], 1)?;
+    let mut mem = guest(alloc, table, &[0])?;
     let mut window = up(&mem, RECEIVE);
     let seen = after_receive(console, &mut mem, &mut window);
     Ok((mem, seen))

@@ -1,7 +1,8 @@
 //! Each request for memory refused in turn.
 
-use crate::tests::{DATA, Descriptor, TRANSMIT, WRITE, after_transmit, fill, guest, same, up};
+use crate::tests::{DATA, TRANSMIT, after_transmit, fill, guest, same, up};
 use crate::{ConsoleDevice, NoMemory};
+use driver::{Descriptor, WRITE};
 use refusing::RefusingHeap;
 use std::alloc::{Allocator, Global};
 use std::process::Abort;
@@ -70,10 +71,7 @@ const REFUSED: [Refused; 3] = [
 ];
 
 /// One chain of the byte `a`, and one of 4096 bytes 42.
-const CHAINS: [Descriptor; 2] = [
-    Descriptor(DATA, 1, 0, 0),
-    Descriptor(DATA + 0x1000, 0x1000, 0, 0),
-];
+const CHAINS: [Descriptor; 2] = [(DATA, 1, 0, 0), (DATA + 0x1000, 0x1000, 0, 0)];
 
 #[test]
 fn a_chain_without_room_stays_on_offer(rt: HostRuntime) -> Result<(), Fail> {
@@ -85,7 +83,7 @@ fn a_chain_without_room_stays_on_offer(rt: HostRuntime) -> Result<(), Fail> {
 
 fn check_refused(rt: &impl Abort, alloc: Global, row: &Refused) -> Result<(), Fail> {
     let heap = RefusingHeap::new(alloc);
-    let mut mem = guest(alloc, &CHAINS, [0, 1], 2)?;
+    let mut mem = guest(alloc, &CHAINS, &[0, 1])?;
     fill(&mut mem, DATA + 0x1000, 0x1000, 0x42);
     let mut window = up(&mem, TRANSMIT);
     let mut console = ConsoleDevice::new(alloc, 80, 25)?;
@@ -112,8 +110,8 @@ fn is_all<A: Allocator>(out: &Vec<u8, A>, byte: u8) -> bool {
 #[test]
 fn chains_without_readable_bytes_take_no_memory(rt: HostRuntime) -> Result<(), Fail> {
     let heap = RefusingHeap::new(rt.alloc());
-    let table = [Descriptor(DATA, 8, WRITE, 0), Descriptor(DATA, 0, 0, 0)];
-    let mut mem = guest(rt.alloc(), &table, [0, 1], 2)?;
+    let table = [(DATA, 8, WRITE, 0), (DATA, 0, 0, 0)];
+    let mut mem = guest(rt.alloc(), &table, &[0, 1])?;
     let mut window = up(&mem, TRANSMIT);
     let mut console = ConsoleDevice::new(rt.alloc(), 80, 25)?;
     let mut out = Vec::new(&heap);

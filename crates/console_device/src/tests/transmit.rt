@@ -2,9 +2,9 @@
 
 use crate::ConsoleDevice;
 use crate::tests::{
-    DATA, Descriptor, INDIRECT, INDIRECT_TABLE, NEXT, Seen, TRANSMIT, UNUSED, WRITE,
-    after_transmit, guest, has, same, up,
+    DATA, INDIRECT_TABLE, Seen, TRANSMIT, UNUSED, after_transmit, guest, has, same, up,
 };
+use driver::{Descriptor, INDIRECT, NEXT, WRITE};
 use std::alloc::Global;
 use std::process::Abort;
 use std::test::Fail;
@@ -32,11 +32,7 @@ const BOTH: Seen = Seen {
 const TRANSMITTED: [Transmitted; 5] = [
     // one after another
     Transmitted {
-        table: [
-            Descriptor(DATA + 4, 2, 0, 0),
-            Descriptor(DATA, 3, 0, 0),
-            UNUSED,
-        ],
+        table: [(DATA + 4, 2, 0, 0), (DATA, 3, 0, 0), UNUSED],
         heads: [0, 1],
         out: *b">efabc..",
         len: 6,
@@ -45,9 +41,9 @@ const TRANSMITTED: [Transmitted; 5] = [
     // overlapping buffers, and a writable one between
     Transmitted {
         table: [
-            Descriptor(DATA, 3, NEXT, 1),
-            Descriptor(DATA + 1, 4, NEXT | WRITE, 2),
-            Descriptor(DATA + 1, 2, 0, 0),
+            (DATA, 3, NEXT, 1),
+            (DATA + 1, 4, NEXT | WRITE, 2),
+            (DATA + 1, 2, 0, 0),
         ],
         heads: [0, 2],
         out: *b">abcbcbc",
@@ -56,11 +52,7 @@ const TRANSMITTED: [Transmitted; 5] = [
     },
     // no readable byte
     Transmitted {
-        table: [
-            Descriptor(DATA, 8, WRITE, 0),
-            Descriptor(DATA, 0, 0, 0),
-            UNUSED,
-        ],
+        table: [(DATA, 8, WRITE, 0), (DATA, 0, 0, 0), UNUSED],
         heads: [0, 1],
         out: *b">.......",
         len: 1,
@@ -69,9 +61,9 @@ const TRANSMITTED: [Transmitted; 5] = [
     // an indirect table behind a buffer
     Transmitted {
         table: [
-            Descriptor(DATA + 7, 1, NEXT, 1),
-            Descriptor(INDIRECT_TABLE, 32, INDIRECT, 0),
-            Descriptor(DATA, 1, 0, 0),
+            (DATA + 7, 1, NEXT, 1),
+            (INDIRECT_TABLE, 32, INDIRECT, 0),
+            (DATA, 1, 0, 0),
         ],
         heads: [0, 2],
         out: *b">hcdea..",
@@ -80,7 +72,7 @@ const TRANSMITTED: [Transmitted; 5] = [
     },
     // a fault in the second chain: what the first put out stays
     Transmitted {
-        table: [Descriptor(DATA, 3, 0, 0), UNUSED, UNUSED],
+        table: [(DATA, 3, 0, 0), UNUSED, UNUSED],
         heads: [0, 4],
         out: *b">abc....",
         len: 4,
@@ -102,7 +94,7 @@ fn readable_bytes_go_out_in_order(rt: HostRuntime) -> Result<(), Fail> {
 }
 
 fn check_transmitted(rt: &impl Abort, alloc: Global, row: &Transmitted) -> Result<(), Fail> {
-    let mut mem = guest(alloc, &row.table, row.heads, 2)?;
+    let mut mem = guest(alloc, &row.table, &row.heads)?;
     let mut window = up(&mem, TRANSMIT);
     let mut console = ConsoleDevice::new(alloc, 80, 25)?;
     let mut out = Vec::new(alloc);

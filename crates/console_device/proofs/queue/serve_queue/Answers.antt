@@ -1,5 +1,5 @@
 use Rattle.chain.proofs.Budgets.{piece_closes}
-use Rattle.mmio_window.proofs.Stages.{ends_at, faults_at, pauses_at}
+use Rattle.mmio_window.proofs.Stages.{ends_at, faults_at}
 use Rattle.mmio_window.specs.Queue.{queue_kind}
 use Rattle.mmio_window.specs.Serving.{ending_of_result}
 use Rattle.console_device.specs.Serving.{site_of}

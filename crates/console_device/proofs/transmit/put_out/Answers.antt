@@ -1,4 +1,4 @@
-use Rattle.std.proofs.Common.{rules, ◌≡◌, ◌≤◌, ◌++◌, ◌∙◌}
+use Rattle.std.proofs.Common.{◌∙◌}
 use Rattle.chain.specs.Bytes.{readable_of}
 use Rattle.console_device.proofs.Transmitting.{put_out_more}
 use Rattle.console_device.proofs.transmit.put_out.Goals as goal

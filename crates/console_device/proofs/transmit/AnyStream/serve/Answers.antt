@@ -1,4 +1,3 @@
-use Rattle.std.proofs.Common.{rules}
 use Rattle.console_device.proofs.Transmitting.{transmit_does}
 use Rattle.console_device.proofs.transmit.AnyStream.serve.Goals as goal
 
