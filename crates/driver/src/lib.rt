@@ -11,4 +11,4 @@ pub use descriptors::{
     AVAIL, Descriptor, INDIRECT, NEXT, USED, WRITE, put_descriptor, put_descriptors, put_heads,
     put_request,
 };
-pub use registers::{RegisterWrite, accept, begin, set_up};
+pub use registers::{RegisterWrite, bring_up};
