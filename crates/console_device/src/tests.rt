@@ -11,7 +11,7 @@ mod transmit;
 
 use crate::{ConsoleDevice, NoMemory};
 use chain::Chain;
-use driver::{Descriptor, NEXT, accept, begin, put_descriptors, put_heads, set_up};
+use driver::{Descriptor, NEXT, bring_up, put_descriptors, put_heads};
 use guest_memory::GuestMemory;
 use mmio_window::{DeviceKind, Window};
 use negotiation::{Features, Flags};
@@ -80,9 +80,7 @@ fn up<M: Allocator>(mem: &GuestMemory<M>, queue: u32) -> Window
         DeviceKind::Console,
         Features::from_bits_retain(0x1_1000_0005),
     );
-    write_all(&mut window, mem, &begin());
-    write_all(&mut window, mem, &accept(0x1_1000_0000));
-    write_all(&mut window, mem, &set_up(queue, 4));
+    write_all(&mut window, mem, &bring_up(0x1_1000_0000, queue, 4));
     window
 }
 

@@ -23,15 +23,24 @@ pub const USED: u16 = 0x8000;
 /// The 16 bytes of a descriptor: addr, len, and then flags and next (2.7.5), or id and flags (2.8.13).
 pub type Descriptor = (u64, u32, u16, u16);
 
+/// The bytes of a descriptor as they lie in memory.
+pub fn descriptor_bytes(descriptor: Descriptor) -> [u8; 16] {
+    let (addr, len, third, fourth) = descriptor;
+    let number = u128::from(addr)
+        | u128::from(len) << 64
+        | u128::from(third) << 96
+        | u128::from(fourth) << 112;
+    number.to_le_bytes()
+}
+
 /// Writes a descriptor at an address.
 pub fn put_descriptor<A: Allocator>(mem: &mut GuestMemory<A>, at: u64, descriptor: Descriptor)
     ensures range { SameRange mem.old mem.new }
 {
-    let (addr, len, third, fourth) = descriptor;
-    let _ = mem.put_u64(at, addr);
-    let _ = mem.put_u32(at.wrapping_add(8), len);
-    let _ = mem.put_u16(at.wrapping_add(12), third);
-    let _ = mem.put_u16(at.wrapping_add(14), fourth);
+    if mem.holds(at, 16) {
+        mem.part_mut(at, 16)
+            .copy_from_slice(&descriptor_bytes(descriptor));
+    }
 }
 
 /// Writes descriptors one behind another from an address on.

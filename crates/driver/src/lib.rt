@@ -8,7 +8,7 @@ mod registers;
 mod tests;
 
 pub use descriptors::{
-    AVAIL, Descriptor, INDIRECT, NEXT, USED, WRITE, put_descriptor, put_descriptors, put_heads,
-    put_request,
+    AVAIL, Descriptor, INDIRECT, NEXT, USED, WRITE, descriptor_bytes, put_descriptor,
+    put_descriptors, put_heads, put_request,
 };
-pub use registers::{RegisterWrite, accept, begin, set_up};
+pub use registers::{RegisterWrite, bring_up};

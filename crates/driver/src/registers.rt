@@ -1,29 +1,25 @@
-//! The registers that a driver writes until a device is up (3.1.1, 4.2.3).
+//! The registers that a driver writes until a device is up.
 
 /// A write of width 4: an offset and a value.
 pub type RegisterWrite = (u16, u32);
 
-/// It resets the device and says ACKNOWLEDGE and DRIVER.
-pub fn begin() -> [RegisterWrite; 3] {
-    [(0x070, 0), (0x070, 1), (0x070, 3)]
-}
-
-/// It accepts these features, and says FEATURES_OK.
-pub fn accept(features: u64) -> [RegisterWrite; 5] {
+/// It resets the device, accepts these features, makes a queue of this size ready, whose areas begin at 80001000, 80002000
+/// and 80003000, and says DRIVER_OK (3.1.1, 4.2.3.2).
+pub fn bring_up(features: u64, queue: u32, size: u32) -> [RegisterWrite; 18] {
     let low = (features & 0xffff_ffff) as u32;
     let high = (features >> 32) as u32;
     [
+        // a reset, ACKNOWLEDGE, and DRIVER
+        (0x070, 0),
+        (0x070, 1),
+        (0x070, 3),
+        // both halves of the features, and FEATURES_OK
         (0x024, 0),
         (0x020, low),
         (0x024, 1),
         (0x020, high),
         (0x070, 0x0b),
-    ]
-}
-
-/// It makes a queue of this size ready, whose areas begin at 80001000, 80002000 and 80003000, and says DRIVER_OK.
-pub fn set_up(queue: u32, size: u32) -> [RegisterWrite; 10] {
-    [
+        // the queue, and DRIVER_OK
         (0x030, queue),
         (0x038, size),
         (0x080, 0x8000_1000),

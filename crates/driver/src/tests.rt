@@ -1,6 +1,6 @@
 //! The bytes that are written.
 
-use crate::{NEXT, WRITE, accept, put_descriptors, put_heads, put_request};
+use crate::{NEXT, RegisterWrite, WRITE, bring_up, put_descriptors, put_heads, put_request};
 use guest_memory::GuestMemory;
 use std::test::Fail;
 
@@ -29,14 +29,29 @@ fn bytes_stand_in_memory(rt: HostRuntime) -> Result<(), Fail> {
     Ok(())
 }
 
+/// Queue 1 of four, and features whose halves have other bits.
+const BROUGHT_UP: [RegisterWrite; 18] = [
+    (0x070, 0),
+    (0x070, 1),
+    (0x070, 3),
+    (0x024, 0),
+    (0x020, 0x3000_0001),
+    (0x024, 1),
+    (0x020, 5),
+    (0x070, 11),
+    (0x030, 1),
+    (0x038, 4),
+    (0x080, 0x8000_1000),
+    (0x084, 0),
+    (0x090, 0x8000_2000),
+    (0x094, 0),
+    (0x0a0, 0x8000_3000),
+    (0x0a4, 0),
+    (0x044, 1),
+    (0x070, 15),
+];
+
 #[test]
 fn features_are_accepted_by_halves(rt: HostRuntime) {
-    let writes = [
-        (0x024, 0),
-        (0x020, 0x3000_0001),
-        (0x024, 1),
-        (0x020, 5),
-        (0x070, 11),
-    ];
-    assert_eq!(rt; accept(0x5_3000_0001), writes);
+    assert_eq!(rt; bring_up(0x5_3000_0001, 1, 4), BROUGHT_UP);
 }

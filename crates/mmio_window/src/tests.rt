@@ -17,7 +17,7 @@ mod split;
 use self::queues::{DESC, DEVICE, DRIVER};
 use crate::{Action, CONFIGURATION_LEN, DeviceKind, Queue, Window};
 use chain::{Chain, Virtqueue};
-use driver::{accept, begin, put_descriptors, put_heads, set_up};
+use driver::{bring_up, put_descriptors, put_heads};
 use guest_memory::GuestMemory;
 use negotiation::{Features, Flags};
 use std::alloc::Allocator;
@@ -60,9 +60,7 @@ fn up<A: Allocator>(kind: DeviceKind, offered: u64, asked: u64, mem: &GuestMemor
     ensures sound { IsSound mem.now result }
 {
     let mut window = Window::new(kind, Features::from_bits_retain(offered));
-    write_all(&mut window, mem, &begin());
-    write_all(&mut window, mem, &accept(asked));
-    write_all(&mut window, mem, &set_up(0, 4));
+    write_all(&mut window, mem, &bring_up(asked, 0, 4));
     window
 }
 

@@ -4,6 +4,7 @@ mod guest;
 
 use crate::{Board, Budget, Event, EventKind, Paced, PacedFault, Reply, Response};
 use board::{Bytes, DeviceKind, Extent, MemoryImage, SlotSpec};
+use driver::{Descriptor, descriptor_bytes};
 use guest::{BASE, BLOCK, CONSOLE, DATA, USED, bring_up, receive_twice, request_thrice, two_lines};
 use std::alloc::{AllocError, Allocator, Global};
 use std::fmt::Debug;
@@ -21,6 +22,8 @@ enum Act<'a> {
     Load(u64, u32),
     /// It writes bytes to its memory.
     Store(u64, &'a [u8]),
+    /// It writes a descriptor.
+    Describe(u64, Descriptor),
     /// These bytes are typed to it.
     Type(&'a [u8]),
     /// Its console gets so many columns and rows.
@@ -47,7 +50,7 @@ enum Told<'a> {
     Idle,
 }
 
-use Act::{Get, Load, Resize, Set, Store, Type};
+use Act::{Describe, Get, Load, Resize, Set, Store, Type};
 use Call::{Do, GoOn};
 
 /// A call, its answer, what is put out by then, and both interrupt words of slot 0.
@@ -93,6 +96,12 @@ const fn budget(chains: Option<u32>, bytes: Option<u64>) -> Budget {
     Budget { chains, bytes }
 }
 
+/// Bytes are written to memory.
+fn stored(alloc: Global, addr: u64, bytes: &[u8]) -> Result<EventKind, AllocError> {
+    let bytes = Bytes::from(bytes.to_vec(alloc)?);
+    Ok(EventKind::MemWrite { addr, bytes })
+}
+
 /// The event that this is, of a slot.
 fn event(alloc: Global, slot: u8, act: Act) -> Result<Event, AllocError> {
     let what = match act {
@@ -108,10 +117,8 @@ fn event(alloc: Global, slot: u8, act: Act) -> Result<Event, AllocError> {
             value,
         },
         Load(addr, len) => EventKind::MemRead { addr, len },
-        Store(addr, bytes) => EventKind::MemWrite {
-            addr,
-            bytes: Bytes::from(bytes.to_vec(alloc)?),
-        },
+        Store(addr, bytes) => stored(alloc, addr, bytes)?,
+        Describe(addr, descriptor) => stored(alloc, addr, &descriptor_bytes(descriptor))?,
         Type(bytes) => EventKind::Input {
             bytes: Bytes::from(bytes.to_vec(alloc)?),
         },
@@ -204,7 +211,7 @@ fn check_rows(
 
 /// Three requests of one sector, a chain a call. The other guest is served in between; of this one nothing is, and its
 /// interrupt comes at the end.
-const THREE_REQUESTS: [Row; 17] = [
+static THREE_REQUESTS: [Row; 17] = [
     (GoOn(0), Told::Idle, b"", (0, 0)),
     (Do(0, Set(BLOCK, 0x050, 0)), Told::More, b"", (0, 0)),
     (Do(0, Get(BLOCK, 0x000)), Told::Busy, b"", (0, 0)),
@@ -251,7 +258,7 @@ fn three_requests_in_three_calls(rt: HostRuntime) -> Result<(), Fail> {
 }
 
 /// What one chain puts out waits for no other: it is there in the pause.
-const TWO_LINES: [Row; 3] = [
+static TWO_LINES: [Row; 3] = [
     (Do(0, Set(CONSOLE, 0x050, 1)), Told::More, b"A", (0, 0)),
     (GoOn(0), Told::Done, b"ABC", (0, 1)),
     (
@@ -269,7 +276,7 @@ fn two_lines_in_two_calls(rt: HostRuntime) -> Result<(), Fail> {
 }
 
 /// What is typed is taken at once, and told at the end.
-const TYPED: [Row; 4] = [
+static TYPED: [Row; 4] = [
     (Do(0, Type(b"abcdef")), Told::More, b"", (0, 0)),
     (Do(0, Type(b"more")), Told::Busy, b"", (0, 0)),
     (GoOn(0), Told::Took(6), b"", (0, 1)),
@@ -283,7 +290,7 @@ fn what_is_typed_in_two_calls(rt: HostRuntime) -> Result<(), Fail> {
 }
 
 /// How many calls three chains of 529 bytes take within a budget: 16 of the header, 512 of the sector, and the status.
-const CALLS: [(Option<u32>, Option<u64>, u32); 10] = [
+static CALLS: [(Option<u32>, Option<u64>, u32); 10] = [
     (None, None, 1),
     (Some(1), None, 3),
     (Some(2), None, 2),

@@ -5,7 +5,7 @@ ghost use Rattle.mmio_window.specs.Soundness.{IsSound};
 
 use crate::tests::{BASE, DATA, Guest, HEADER, STATUS, WHOLE, same};
 use chain::{Budget, Chain, Progress};
-use driver::{NEXT, WRITE, accept, begin, put_descriptors, put_heads, put_request, set_up};
+use driver::{NEXT, WRITE, bring_up, put_descriptors, put_heads, put_request};
 use guest_memory::GuestMemory;
 use mmio_window::{DeviceKind, Stage, Window};
 use negotiation::{Features, Flags};
@@ -127,9 +127,7 @@ fn up<M: Allocator>(mem: &GuestMemory<M>) -> Window
     ensures { IsSound mem.now result }
 {
     let mut window = Window::new(DeviceKind::Block, Features::from_bits_retain(0x1_0000_0000));
-    write_all(&mut window, mem, &begin());
-    write_all(&mut window, mem, &accept(0x1_0000_0000));
-    write_all(&mut window, mem, &set_up(0, 16));
+    write_all(&mut window, mem, &bring_up(0x1_0000_0000, 0, 16));
     window
 }
 
