@@ -2,7 +2,6 @@ use Rattle.std.proofs.Common.{◌≡◌, [], Some, length, refl, ◌∙◌, ap, 
 use Rattle.std.specs.List.{slice_get}
 use Rattle.std.proofs.lemmas.Option.{slice_get_read}
 use Rattle.board.specs.Image.{bytes_of, health_of}
-use Rattle.board.specs.Slot.{state_of}
 use Rattle.board.specs.World.{extents_of}
 use Rattle.board.proofs.Access.{unmet_turn}
 use Rattle.board.proofs.Seats.{extents_of-set, others_kept, takes}
