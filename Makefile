@@ -52,7 +52,7 @@ test:
 # Lists what there is to make.
 help:
 	@awk '/^#/ { text = text substr($$0, 2); next } /^[a-z-]+:/ && text { sub(/:.*/, ""); sub(/\. .*|\.$$/, "", text); \
-		printf "make %-11s%s\n", $$0, text } { text = "" }' $(firstword $(MAKEFILE_LIST))
+		printf "make %-15s%s\n", $$0, text } { text = "" }' $(firstword $(MAKEFILE_LIST))
 
 # Proves and builds the library for C.
 library:

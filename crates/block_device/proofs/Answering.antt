@@ -1,6 +1,6 @@
 -- From a request that is done to a chain that is served: the status is written last.
-use Rattle.std.proofs.Common.{◌≡◌, inl, inr, ℕ, zero, suc, ◌+◌, ◌-◌, ◌*◌, ◌^◌, ◌<◌, ◌≤◌, Bool, true, false, Option, Some, None, List, [], ◌∷◌, ◌++◌, length, map, drop, replicate, refl, sym, ap, subst, ◌∙◌, arith, append_assoc, length-append, length-drop}
-use Rattle.std.specs.Prelude.{◌||◌}
+use Rattle.std.proofs.Common.{◌≡◌, inl, inr, ℕ, zero, suc, ◌+◌, ◌-◌, ◌*◌, ◌^◌, ◌<◌, ◌≤◌, true, false, Option, Some, None, List, [], ◌∷◌, ◌++◌, length, map, drop, replicate, refl, sym, ap, subst, ◌∙◌, arith, append_assoc, length-append, length-drop}
+use Rattle.std.proofs.Math.Bool.{or-true}
 use Rattle.std.proofs.lemmas.Bool.{cases_lt}
 use Rattle.std.proofs.lemmas.List.{length-map, length-replicate}
 use Rattle.guest_memory.specs.Memory.{Memory}
@@ -94,13 +94,9 @@ used_len-found found room x some =
     ∙ used_len-run found (replicate (room - length found) None ++ Some x ∷ [])
     ∙ (let e = status_gap (room - length found) x (omega (arith, some)) in omega (arith, e))
 
-or_true : (b : Bool) → true ≡ (b || true)
-or_true true = refl
-or_true false = refl
-
 -- the status itself is written
 wrote-status : (front : List (Option ℕ)) (x : ℕ) → true ≡ wrote (front ++ Some x ∷ [])
-wrote-status front x = or_true (wrote front) ∙ sym (wrote-append front (Some x ∷ []))
+wrote-status front x = sym (or-true (wrote front)) ∙ sym (wrote-append front (Some x ∷ []))
 
 -- A chain without a writable byte is used as it is.
 pub nothing_does : (device : BlockDevice) (m : Memory) (buffers : List Buffer) (disk : Disk) → length (writable_of buffers) ≡ 0

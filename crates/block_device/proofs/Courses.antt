@@ -1,5 +1,6 @@
 -- A service in its course: the chains so far, and what else stays along them.
 use Rattle.std.proofs.Common.{◌≡◌, ℕ, ◌+◌, ◌≤◌, Bool, true, false, if◌then◌else◌, nat_lt, Option, Some, None, List, refl, ap, ◌∙◌, arith}
+use Rattle.std.proofs.Math.Bool.{or-true, or-false}
 use Rattle.std.specs.Prelude.{◌||◌}
 use Rattle.std.proofs.lemmas.Bool.Decides.{nat_tests}
 use Rattle.guest_memory.specs.Memory.{Memory, SameRange}
@@ -62,18 +63,10 @@ course_start device budget m queue disk lies = record {
 less_more : (a b c : ℕ) → a ≤ b → c ≡ b + 1 → true ≡ nat_lt a c
 less_more a b c h e = grind (arith, nat_tests)
 
-or_true : (b : Bool) → (b || true) ≡ true
-or_true true = refl
-or_true false = refl
-
-or_false : (b : Bool) → (b || false) ≡ b
-or_false true = refl
-or_false false = refl
-
 -- one failure more, or none
 counts_on : (failed more : Bool) (a b c : ℕ) → failed ≡ nat_lt a b → a ≤ b → c ≡ b + (if more then 1 else 0) → (failed || more) ≡ nat_lt a c
-counts_on failed true a b c e h n = or_true failed ∙ less_more a b c h n
-counts_on failed false a b c e h n = or_false failed ∙ e ∙ ap (nat_lt a) (let f : b ≡ c = omega (arith, n) in f)
+counts_on failed true a b c e h n = or-true failed ∙ less_more a b c h n
+counts_on failed false a b c e h n = or-false failed ∙ e ∙ ap (nat_lt a) (let f : b ≡ c = omega (arith, n) in f)
 
 rises_on : (more : Bool) (a b c : ℕ) → a ≤ b → c ≡ b + (if more then 1 else 0) → a ≤ c
 rises_on true a b c h n = omega (arith, n)

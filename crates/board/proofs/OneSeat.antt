@@ -2,6 +2,7 @@
 use Rattle.std.proofs.Common.{◌≡◌, inl, inr, ◌⊎◌, ℕ, zero, suc, ◌<◌, ◌≤◌, Bool, Option, Some, None, List, ◌++◌, length, refl, sym, ◌∙◌, ap, arith}
 use Rattle.guest_memory.specs.Memory.{Memory}
 use Rattle.chain.specs.Service.{Ending, Site}
+use Rattle.chain.proofs.Servicing.{one_decided_service}
 use Rattle.mmio_window.specs.declared.queue.Queue.{Queue}
 use Rattle.mmio_window.specs.Queue.{queue_kind}
 use Rattle.mmio_window.specs.Serving.{Notified, after_service}
@@ -9,7 +10,7 @@ use Rattle.mmio_window.specs.Window.{WindowState, with_ring, queue_at}
 use Rattle.mmio_window.proofs.QueueKind.{has_at_most_one_chain}
 use Rattle.console_device.specs.Device.{transmit_within}
 use Rattle.console_device.proofs.Services.{within_once}
-use Rattle.console_device.proofs.Deciding.{within_decides, one_decided_service}
+use Rattle.console_device.proofs.Deciding.{within_decides}
 use Rattle.board.specs.declared.event.EventKind.{EventKind}
 use Rattle.board.specs.declared.event.EventKind.TheVariants.{Read, Write, MemRead, MemWrite, Input, Resize}
 use Rattle.board.specs.declared.reply.Reply.{Reply}
@@ -40,14 +41,14 @@ notified_one limit (Some queue) old m n before v w s0 s t e f x y =
     let other : Site Queue (List ℕ) = record { memory = n; ring = y.last; state = t } in
     let same = one_decided_service queue_kind (transmit_within (Some limit)) has_at_most_one_chain (within_once (Some limit)) (within_decides limit)
     (record { memory = old; ring = queue; state = s0 }) one other e f x.wanted y.wanted x.service y.service in
-    let ring : x.last ≡ y.last = ap (λ (z : Site Queue (List ℕ)). z.ring) same.0 in
+    let ring : x.last ≡ y.last = ap (λ (z : Site Queue (List ℕ)). z.ring) same.site in
     record {
-      memory = ap (λ (z : Site Queue (List ℕ)). z.memory) same.0;
+      memory = ap (λ (z : Site Queue (List ℕ)). z.memory) same.site;
       window = x.window ∙ (ap (λ (r : Queue). after_service e x.wanted (with_ring 1 before r)) ring
-          ∙ (ap (λ (k : Ending). after_service k x.wanted (with_ring 1 before y.last)) same.1
-          ∙ (ap (λ (z : Bool). after_service f z (with_ring 1 before y.last)) same.2 ∙ sym y.window)));
-      state = ap (λ (z : Site Queue (List ℕ)). z.state) same.0;
-      ending = same.1;
+          ∙ (ap (λ (k : Ending). after_service k x.wanted (with_ring 1 before y.last)) same.ending
+          ∙ (ap (λ (z : Bool). after_service f z (with_ring 1 before y.last)) same.wanted ∙ sym y.window)));
+      state = ap (λ (z : Site Queue (List ℕ)). z.state) same.site;
+      ending = same.ending;
     }
 
 -- what two outcomes agree in

@@ -1,6 +1,7 @@
 -- One slot's event, seen as a step of the whole board. Here the extents' being apart is used: what a
 -- slot's event does to the image stays within that slot's own.
 use Rattle.std.proofs.Common.{◌≡◌, ◌≢◌, ◌⊎◌, inl, inr, ℕ, zero, suc, ◌<◌, Bool, true, false, ◌||◌, List, [], ◌∷◌, length, map, Option, Some, None, get_or, refl, sym, ◌∙◌, ap, subst, append-nil, arith}
+use Rattle.std.proofs.Math.Bool.{or-true, or-false}
 use Rattle.std.specs.Prelude.{nat_lt, slice_set, MatchOption, All, AllPairs}
 use Rattle.std.specs.List.{slice_get, list_any}
 use Rattle.std.specs.Option.{option_map}
@@ -117,20 +118,12 @@ pub step_missing : {A : Type 0} (old : World) (event : Event A) → slice_get ol
 step_missing old event missing written step =
     subst (λ (o : Option SlotState). MatchOption o (MissingStep old event.slot written old) (λ s. SlotStep old event.slot s event.what written old)) (sym missing) step
 
-or_true : (b : Bool) → (b || true) ≡ true
-or_true true = refl
-or_true false = refl
-
-or_false : (b : Bool) → (b || false) ≡ b
-or_false true = refl
-or_false false = refl
-
 -- a slot notes a refusal: so does the board
 pub noted_set : (slots : List BoardSlot) (h : ℕ) (slot new : BoardSlot) (met : Bool) → slice_get slots h ≡ Some slot → new.disturbed ≡ (slot.disturbed || met) → disturbed_of (slice_set slots h new) ≡ noted h met (disturbed_of slots)
 noted_set slots h slot new true here is =
-    map-set (λ (s : BoardSlot). s.disturbed) slots h new ∙ ap (λ b. slice_set (disturbed_of slots) h b) (is ∙ or_true slot.disturbed)
+    map-set (λ (s : BoardSlot). s.disturbed) slots h new ∙ ap (λ b. slice_set (disturbed_of slots) h b) (is ∙ or-true slot.disturbed)
 noted_set slots h slot new false here is =
-    map-set_same (λ (s : BoardSlot). s.disturbed) slots h new slot ((is ∙ or_false slot.disturbed) ∙ ap (λ (s : BoardSlot). s.disturbed) (sym (get_or_from_slice_get slots h slot slot here)))
+    map-set_same (λ (s : BoardSlot). s.disturbed) slots h new slot ((is ∙ or-false slot.disturbed) ∙ ap (λ (s : BoardSlot). s.disturbed) (sym (get_or_from_slice_get slots h slot slot here)))
 
 -- where the failures stay nothing is noted
 pub noted_none : (h failures : ℕ) (flags : List Bool) → flags ≡ noted h (nat_lt failures failures) flags

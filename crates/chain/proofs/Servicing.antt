@@ -68,22 +68,34 @@ module _ {Ring State : Type 0} (kind : Kind Ring) (device : Device State) where
       let left = (refused_service old new wanted (subst (λ (f : Ending). IsService kind device old new f wanted) e s)).leaves in
       never _ _ _ left.lacks_memory
 
+-- what a device serves it has memory for
+pub record Decides {State : Type 0} (device : Device State) : Type 0 where
+  pub never_both : (s : State) (readable : List ℕ) (w : ℕ) (g : Given State) → device.Gives s readable w g → device.LacksMemory s readable w → ⊥
+
 module _ {Ring State : Type 0} (kind : Kind Ring) (device : Device State) (one_chain : HasAtMostOneChain kind) (one_answer : HasAtMostOneAnswer device) where
-  -- a site that ends, and not for want of memory, doesn't serve
-  ends_or_serves : (site : Site Ring State) (ending : Ending) (s : Served State) → ending ≢ Refused → IsEnding kind device site ending → ServesChain kind device site s → ⊥
-  ends_or_serves site Spent s n e q = cc (e, q.ready)
-  ends_or_serves site (Faulted f) s n e q = one_chain.not_both site.memory site.ring s.buffers s.entry f q.offered e.1
-  ends_or_serves site Refused s n e q = n refl
+  -- that the ending is decided: where it is for want of memory, the device decides
+  abbrev IsDecided : Ending → Type 0
+  IsDecided ending = ending ≡ Refused → Decides device
+
+  -- a site that ends, which is decided, doesn't serve
+  ends_or_serves : (site : Site Ring State) (ending : Ending) (s : Served State) → IsDecided ending → IsEnding kind device site ending → ServesChain kind device site s → ⊥
+  ends_or_serves site Spent s d e q = cc (e, q.ready)
+  ends_or_serves site (Faulted f) s d e q = one_chain.not_both site.memory site.ring s.buffers s.entry f q.offered e.1
+  ends_or_serves site Refused s d e q =
+      let b = one_chain.buffers site.memory site.ring s.buffers e.buffers s.entry e.entry q.offered e.offered in
+      (d refl).never_both site.state _ _ s.given q.gives (rw (← b) at e.lacks_memory)
 
   -- it ends in one way
-  ends_once : (site : Site Ring State) (e f : Ending) → e ≢ Refused → f ≢ Refused → IsEnding kind device site e → IsEnding kind device site f → e ≡ f
-  ends_once site Spent Spent n o p q = refl
-  ends_once site Spent (Faulted g) n o p q = cc (p, q.0)
-  ends_once site (Faulted f) Spent n o p q = cc (p.0, q)
-  ends_once site (Faulted f) (Faulted g) n o p q = ap Faulted (one_chain.fault site.memory site.ring f g p.1 q.1)
-  ends_once site Refused f n o p q = absurd (n refl)
-  ends_once site Spent Refused n o p q = absurd (o refl)
-  ends_once site (Faulted f) Refused n o p q = absurd (o refl)
+  ends_once : (site : Site Ring State) (e f : Ending) → IsEnding kind device site e → IsEnding kind device site f → e ≡ f
+  ends_once site Spent Spent p q = refl
+  ends_once site Spent (Faulted g) p q = cc (p, q.0)
+  ends_once site (Faulted f) Spent p q = cc (p.0, q)
+  ends_once site (Faulted f) (Faulted g) p q = ap Faulted (one_chain.fault site.memory site.ring f g p.1 q.1)
+  ends_once site Refused Refused p q = refl
+  ends_once site Spent Refused p q = cc (p, q.ready)
+  ends_once site Refused Spent p q = cc (p.ready, q)
+  ends_once site (Faulted f) Refused p q = absurd (one_chain.not_both site.memory site.ring q.buffers q.entry f q.offered p.1)
+  ends_once site Refused (Faulted f) p q = absurd (one_chain.not_both site.memory site.ring p.buffers p.entry f p.offered q.1)
 
   -- it serves one chain
   serves_once : (site : Site Ring State) (s t : Served State) → ServesChain kind device site s → ServesChain kind device site t → s ≡ t
@@ -93,37 +105,42 @@ module _ {Ring State : Type 0} (kind : Kind Ring) (device : Device State) (one_c
       let g = one_answer.given site.state _ _ s.given t.given p.gives (rw (← b) at q.gives) in
       same_served s.buffers t.buffers s.entry t.entry s.given t.given b e g
 
-  run_once : (start : Site Ring State) (cs ds : List (Served State)) (a b : Site Ring State) (e f : Ending) → e ≢ Refused → f ≢ Refused
+  run_once : (start : Site Ring State) (cs ds : List (Served State)) (a b : Site Ring State) (e f : Ending) → IsDecided e → IsDecided f
       → ServesAll kind device start cs a → IsEnding kind device a e → ServesAll kind device start ds b → IsEnding kind device b f → (a ≡ b) × (e ≡ f)
-  run_once start [] [] a b e f n o p x q y = (sym p ∙ q, ends_once start e f n o (rw (← p) at x) (rw (← q) at y))
+  run_once start [] [] a b e f n o p x q y = (sym p ∙ q, ends_once start e f (rw (← p) at x) (rw (← q) at y))
   run_once start [] (d ∷ ds) a b e f n o p x q y = absurd (ends_or_serves start e d n (rw (← p) at x) q.0)
   run_once start (c ∷ cs) [] a b e f n o p x q y = absurd (ends_or_serves start f c o (rw (← q) at y) p.0)
   run_once start (c ∷ cs) (d ∷ ds) a b e f n o p x q y =
       let same = serves_once start c d p.0 q.0 in
       run_once (after kind device start c) cs ds a b e f n o p.1 x (subst (λ (d : Served State). ServesAll kind device (after kind device start d) ds b) (sym same) q.1) y
 
-  -- from one site there is at most one run that doesn't end for want of memory
-  runs_once : (start a b : Site Ring State) (e f : Ending) → e ≢ Refused → f ≢ Refused → Runs kind device start e a → Runs kind device start f b
-      → (a ≡ b) × (e ≡ f)
-  runs_once start a b e f n o x y =
+  works_once : (fault : Option Fault) (start a b : Site Ring State) (e f : Ending) → IsDecided e → IsDecided f
+      → Works kind device fault start e a → Works kind device fault start f b → (a ≡ b) × (e ≡ f)
+  works_once None start a b e f n o x y =
       let same = run_once start x.chains y.chains x.at y.at e f n o x.serves x.ends y.serves y.ends in
       (x.stands ∙ rw (same.0, same.1) refl ∙ sym y.stands, same.1)
-
-  works_once : (fault : Option Fault) (start a b : Site Ring State) (e f : Ending) → e ≢ Refused → f ≢ Refused
-      → Works kind device fault start e a → Works kind device fault start f b → (a ≡ b) × (e ≡ f)
-  works_once None start a b e f n o x y = runs_once start a b e f n o x y
   works_once (Some fault) start a b e f n o x y = (x.1 ∙ sym y.1, x.0 ∙ sym y.0)
 
-  -- There is at most one service from a site that doesn't end for want of memory.
-  pub at_most_one_service : (old a b : Site Ring State) (e f : Ending) (v w : Bool) → e ≢ Refused → f ≢ Refused
+  -- There is at most one service from a site whose ending is decided.
+  one_service : (old a b : Site Ring State) (e f : Ending) (v w : Bool) → IsDecided e → IsDecided f
       → IsService kind device old a e v → IsService kind device old b f w → record { site : a ≡ b; ending : e ≡ f; wanted : v ≡ w }
-  at_most_one_service old a b e f v w n o x y =
+  one_service old a b e f v w n o x y =
       let same = works_once (kind.opening_fault old.memory old.ring) (open_site kind device old) x.last y.last e f n o x.works y.works in
       record {
         site = x.closed ∙ rw same.0 refl ∙ sym y.closed;
         ending = same.1;
         wanted = same_answer v w _ x.wanted_is (rw (← same.0) at y.wanted_is);
       }
+
+  -- There is at most one that doesn't end for want of memory.
+  pub at_most_one_service : (old a b : Site Ring State) (e f : Ending) (v w : Bool) → e ≢ Refused → f ≢ Refused
+      → IsService kind device old a e v → IsService kind device old b f w → record { site : a ≡ b; ending : e ≡ f; wanted : v ≡ w }
+  at_most_one_service old a b e f v w n o = one_service old a b e f v w (λ r. absurd (n r)) (λ r. absurd (o r))
+
+  -- There is at most one, however it ends, of a device that decides.
+  pub one_decided_service : Decides device → (old a b : Site Ring State) (e f : Ending) (v w : Bool)
+      → IsService kind device old a e v → IsService kind device old b f w → record { site : a ≡ b; ending : e ≡ f; wanted : v ≡ w }
+  one_decided_service decides old a b e f v w = one_service old a b e f v w (λ _. decides) (λ _. decides)
 
 module _ {Ring State : Type 0} (kind : Kind Ring) (device exact : Device State) (count : State → ℕ) (is_exact : IsExactUnless device exact count) where
   pub ready_exact : (site : Site Ring State) → IsReady kind device site → IsReady kind exact site

@@ -1,5 +1,6 @@
 -- Bytes of pending input on their way into a chain.
-use Rattle.std.proofs.Common.{◌≡◌, ℕ, zero, suc, ◌-◌, false, true, Bool, nat_lt, List, [], ◌∷◌, ◌++◌, length, map, take, drop, Option, Some, None, refl, sym, ap, ◌∙◌, arith}
+use Rattle.std.proofs.Common.{◌≡◌, ℕ, zero, suc, ◌-◌, nat_lt, List, [], ◌∷◌, ◌++◌, length, map, take, drop, Option, Some, None, refl, sym, ap, ◌∙◌, arith}
+use Rattle.std.proofs.Math.Bool.{or-false}
 use Rattle.std.specs.Prelude.{◌||◌, min}
 use Rattle.std.proofs.lemmas.List.{length-map, length-replicate, length-append, length-take, take_min}
 use Rattle.std.proofs.lemmas.Bool.{lt-ltb}
@@ -48,10 +49,6 @@ pub used_len-none : (n : ℕ) → used_len (unwritten n) ≡ 0
 used_len-none zero = refl
 used_len-none (suc n) = refl
 
-or_false : (b : Bool) → (b || false) ≡ b
-or_false true = refl
-or_false false = refl
-
 wrote-run : (bytes : List ℕ) → wrote (map Some bytes) ≡ nat_lt 0 (length bytes)
 wrote-run [] = refl
 wrote-run (x ∷ bytes) = sym (lt-ltb 0 (length (x ∷ bytes)) (omega arith))
@@ -72,5 +69,5 @@ receive_does m new buffers pending left count count_is written left_is =
       each = length-append (map Some bytes) (unwritten rest) ∙ (let e = length-map bytes Some in let f = length-replicate {A = Option ℕ} rest None in let t = length-take w pending in omega (arith, e, f, t));
       memory = written ∙ sym (scattered-run m (writable_of buffers) bytes) ∙ sym (scattered-then_unwritten m (writable_of buffers) (map Some bytes) rest);
       len_is = count_is ∙ (let e = used_len-run bytes (unwritten rest) in let f = used_len-none rest in omega (arith, e, f));
-      any_is = ap (nat_lt 0) count_is ∙ sym (wrote-append (map Some bytes) (unwritten rest) ∙ ap (λ b. wrote (map Some bytes) || b) (wrote-unwritten rest) ∙ or_false (wrote (map Some bytes)) ∙ wrote-run bytes);
+      any_is = ap (nat_lt 0) count_is ∙ sym (wrote-append (map Some bytes) (unwritten rest) ∙ ap (λ b. wrote (map Some bytes) || b) (wrote-unwritten rest) ∙ or-false (wrote (map Some bytes)) ∙ wrote-run bytes);
     }

@@ -81,17 +81,12 @@ impl<I: Image + Drop, A: Allocator + Copy> Watcher<I, A> {
             return;
         };
         match &event.what {
-            EventKind::Read {
-                window,
-                offset,
-                width,
-            } => {
+            EventKind::Read { offset, width, .. } => {
                 if let Reply::Value(value) = self.board.step(event, &mut self.output) {
                     head.say(" -> ");
                     say_value(head, *offset, *width, value);
                 }
                 self.note(line, slot, read_mistake(*offset, *width), tail);
-                let _ = window;
             }
             EventKind::MemRead { addr, len } => self.read_memory(slot, *addr, *len, head),
             _ => self.change(line, event, words, head, tail),
