@@ -6,7 +6,7 @@ use mmio_window::{Queue, QueueRegisters, Window};
 use std::alloc::Allocator;
 
 /// A queue of a slot.
-#[derive(Clone, Copy, Debug, PartialEq, Eq)]
+#[derive(Clone, Copy)]
 pub struct SlotQueue {
     pub slot: u8,
     pub kind: DeviceKind,

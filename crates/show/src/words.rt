@@ -7,7 +7,7 @@ use replay::ReplayFault;
 use std::alloc::Global;
 
 /// The files that a call names.
-#[derive(Clone, Copy, Debug, PartialEq, Eq)]
+#[derive(Clone, Copy)]
 pub struct Call<'a> {
     /// The trace that is shown.
     pub trace: &'a str,

@@ -18,7 +18,7 @@ use std::alloc::Allocator;
 use weave::Text;
 
 /// What stands before a service at its ring's place.
-#[derive(Clone, Copy, Debug, PartialEq, Eq)]
+#[derive(Clone, Copy)]
 pub enum Ahead {
     /// A chain at a place, what it asks of a block device, and what it has that the standard forbids a driver.
     Chain {

@@ -5,7 +5,7 @@ use chain::Fault;
 use mmio_window::{CONFIGURATION_OFFSET, Register};
 
 /// What a driver did that the standard forbids it.
-#[derive(Clone, Copy, Debug, PartialEq, Eq)]
+#[derive(Clone, Copy)]
 pub enum Mistake {
     ControlAccess,
     NoRegister,
@@ -131,7 +131,7 @@ impl Mistake {
 }
 
 /// How a register may be accessed (4.2.2).
-#[derive(Clone, Copy, Debug, PartialEq, Eq)]
+#[derive(Clone, Copy, PartialEq, Eq)]
 enum Access {
     Read,
     Write,

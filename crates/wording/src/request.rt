@@ -10,7 +10,7 @@ use std::alloc::Allocator;
 use weave::Text;
 
 /// What a chain asks for.
-#[derive(Clone, Copy, Debug, PartialEq, Eq)]
+#[derive(Clone, Copy)]
 pub struct RequestSeen {
     /// The header's type and sector, where the chain has a header.
     pub header: Option<(u32, u64)>,
@@ -42,11 +42,10 @@ fn header_of<A: Allocator>(mem: &GuestMemory<A>, chain: &Chain) -> Option<(u32, 
     if chain.readable_len() < 16 {
         return None;
     }
-    let mut kind = [0; 4];
-    let mut sector = [0; 8];
-    chain.read_at(mem, 0, &mut kind);
-    chain.read_at(mem, 8, &mut sector);
-    Some((u32::from_le_bytes(kind), u64::from_le_bytes(sector)))
+    let mut header = [0; 16];
+    chain.read_at(mem, 0, &mut header);
+    let number = u128::from_le_bytes(header);
+    Some(((number & 0xffff_ffff) as u32, (number >> 64) as u64))
 }
 
 // The address of the last writable byte.

@@ -13,7 +13,7 @@ use std::alloc::Allocator;
 use weave::Text;
 
 /// A window.
-#[derive(Clone, Copy, Debug, PartialEq, Eq)]
+#[derive(Clone, Copy, PartialEq, Eq)]
 pub struct WindowSeen {
     /// The device status.
     pub status: u32,
@@ -32,7 +32,7 @@ pub struct WindowSeen {
 }
 
 /// A queue.
-#[derive(Clone, Copy, Debug, PartialEq, Eq)]
+#[derive(Clone, Copy, PartialEq, Eq)]
 pub struct QueueSeen {
     /// The size.
     pub number: u32,
@@ -45,7 +45,7 @@ pub struct QueueSeen {
 }
 
 /// A ring.
-#[derive(Clone, Copy, Debug, PartialEq, Eq)]
+#[derive(Clone, Copy, PartialEq, Eq)]
 pub enum RingSeen {
     Split {
         /// How many chains were used.

@@ -22,7 +22,7 @@ const DESCRIPTOR_LEN: usize = 16;
 const MOST_LISTED: u16 = 64;
 
 /// How the descriptors of a queue changed.
-#[derive(Clone, Copy, Debug, PartialEq, Eq)]
+#[derive(Clone, Copy, PartialEq, Eq)]
 pub enum Change {
     Nothing,
     Descriptors,

@@ -8,7 +8,7 @@ use std::alloc::Allocator;
 use weave::Text;
 
 /// A used entry.
-#[derive(Clone, Copy, Debug)]
+#[derive(Clone, Copy)]
 pub struct Used {
     /// The head or the buffer id.
     pub id: u32,
