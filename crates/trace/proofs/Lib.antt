@@ -8,6 +8,7 @@ pub mod Judging
 pub mod Entries
 pub mod Saying
 pub mod Taking
+pub mod Values
 pub mod Clean
 pub mod Faulty
 pub mod Sofar

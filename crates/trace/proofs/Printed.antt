@@ -1,8 +1,8 @@
 -- Fields written one after another, and lines.
-use Rattle.std.proofs.Common.{◌≡◌, ◌==◌, ℕ, ◌+◌, ◌<◌, ◌≤◌, Bool, true, false, if◌then◌else◌, List, [], ◌∷◌, ◌++◌, length, get_or, map, take, refl, sym, ap, ◌∙◌, arith}
+use Rattle.std.proofs.Common.{◌≡◌, ◌==◌, ℕ, ◌+◌, ◌<◌, Bool, true, false, if◌then◌else◌, List, [], ◌∷◌, ◌++◌, length, get_or, map, take, refl, sym, ap, ◌∙◌, arith}
 use Rattle.std.proofs.lemmas.List.{append-nil, append_assoc, get_or_default, length-map, map_more, take-map}
 use Rattle.board.specs.declared.spec.SlotSpec.{SlotSpec}
-use Rattle.trace.specs.declared.print.line.FieldValue.{FieldValue}
+use Rattle.trace.specs.declared.value.FieldValue.{FieldValue}
 use Rattle.trace.specs.declared.table.Field.{Field}
 use Rattle.trace.specs.declared.word.Word.TheVariants.{Slot}
 use Rattle.trace.specs.Spelling.{bytes, mode, num, value_text}
@@ -30,13 +30,6 @@ line_more f front word before spaced now xs i d lt sofar space field =
 
 pub slot_counted : (version : ℕ) (fs : List Field) → ((fields : List (List ℕ)) → map (shape_of (width_among fields)) fs ≡ shapes version Slot fields) → length fs ≡ length (shapes version Slot [])
 slot_counted version fs h = sym (length-map fs (shape_of (width_among []))) ∙ ap length (h [])
-
-at_most : (has : Bool) → length (if has then Identity ∷ [] else []) ≤ 1
-at_most false = omega arith
-at_most true = omega arith
-
-pub slot_within : (version : ℕ) (fs : List Field) → ((fields : List (List ℕ)) → map (shape_of (width_among fields)) fs ≡ shapes version Slot fields) → length fs ≤ 8
-slot_within version fs h = omega (arith, slot_counted version fs h, at_most (version == 2))
 
 slot_cut : (has : Bool) (n : ℕ) (s : SlotSpec) → n ≡ 7 + length (if has then Identity ∷ [] else [])
     → take n (num s.base ∷ num s.len ∷ num s.extent.start ∷ num s.extent.count ∷ mode s.read_only ∷ num s.cols ∷ num s.rows ∷ bytes s.identity ∷ [])

@@ -1,10 +1,9 @@
 -- Fields taken off the front of a line, one after another.
-use Rattle.std.proofs.Common.{◌≡◌, ◌↔◌, IsTrue, ℕ, ◌*◌, ◌<◌, List, [], ◌∷◌, Option, None, Some, length, get_or, refl, sym, ap, subst, ◌∙◌, arith}
-use Rattle.std.specs.Option.{is_some}
-use Rattle.std.specs.Prelude.{IfSome, IfNone}
+use Rattle.std.proofs.Common.{◌≡◌, ℕ, ◌*◌, ◌^◌, ◌<◌, List, [], ◌∷◌, length, get_or, refl, sym, ap, subst, ◌∙◌, arith}
 use Rattle.trace.specs.Cuts.{fields_of}
-use Rattle.trace.specs.declared.word.Word.TheVariants.{Write}
-use Rattle.trace.specs.Words.{AllRight, AreRight, IsFixed, IsWidthField, Says, Value}
+use Rattle.trace.specs.declared.value.FieldValue.TheVariants as value
+use Rattle.trace.specs.Values.{SaysValue}
+use Rattle.trace.specs.Words.{AllRight, IsFixed, IsWidthField, Says, Value}
 use Rattle.trace.proofs.Cutting.{some_fields}
 
 -- a field after those that a line has
@@ -16,18 +15,17 @@ pub not_ended : (l : List ℕ) → ¬ AllRight [] (fields_of l)
 not_ended l h = some_more (fields_of l) (some_fields l) h
 
 -- a value beside its width
-pub value_test : (width bytes : List ℕ) (w : ℕ) (found : Option ℕ) → IsWidthField width w → IfSome found (λ n. IsFixed (2 * w) bytes n) → IfNone found ((n : ℕ) → ¬ IsFixed (2 * w) bytes n) → IsTrue (is_some found) ↔ Says (Value width) bytes
-value_test width bytes w None wide some none = (λ e. absurd cc, λ said. let n = said w wide in absurd (none n.0 n.1))
-value_test width bytes w (Some n) wide some none = (
-  λ e v other.
-      let same : w ≡ v = omega (arith, ap (λ (xs : List ℕ). get_or xs 0 0) (sym wide.spelled ∙ other.spelled)) in
-      (n, subst (λ (x : ℕ). IsFixed (2 * x) bytes n) same some),
-  λ said. refl,
-)
+pub no_value : (width bytes : List ℕ) (w : ℕ) → IsWidthField width w → ((n : ℕ) → ¬ IsFixed (2 * w) bytes n) → ¬ Says (Value width) bytes
+no_value width bytes w wide none said = let n = said w wide in none n.0 n.1
 
--- a write whose value isn't one of its width
-pub not_value : (all more : List (List ℕ)) (a b c d e : List ℕ) (width : ℕ) → all ≡ a ∷ b ∷ c ∷ d ∷ e ∷ more → IsWidthField d width → ((n : ℕ) → ¬ IsFixed (2 * width) e n) → (version : ℕ) → ¬ AreRight version Write all
-not_value all more a b c d e width cut wide none version right =
-    let all_right : AreRight version Write (a ∷ b ∷ c ∷ d ∷ e ∷ more) = subst (AreRight version Write) cut right in
-    let said = all_right.1.1.1.1.0 width wide in
-    none said.0 said.1
+same_width : (width : List ℕ) (v w : ℕ) → IsWidthField width v → IsWidthField width w → v ≡ w
+same_width width v w one other = omega (arith, ap (λ (xs : List ℕ). get_or xs 0 0) (sym one.spelled ∙ other.spelled))
+
+pub value_said : (width bytes : List ℕ) (w n : ℕ) → IsWidthField width w → IsFixed (2 * w) bytes n → Says (Value width) bytes
+value_said width bytes w n wide is = λ other h. (n, subst (λ (x : ℕ). IsFixed (2 * x) bytes n) (same_width width w other wide h) is)
+
+pub value_read : (width bytes : List ℕ) (w n : ℕ) → IsWidthField width w → IsFixed (2 * w) bytes n → SaysValue (Value width) bytes (value.Value w n)
+value_read width bytes w n wide is = record {
+  is_of = λ other h. (n, subst (λ (x : ℕ). (value.Value w n ≡ value.Value x n) × (n < 16 ^ (2 * x))) (same_width width w other wide h) (refl, is.fits));
+  spelled = is.spelled;
+}

@@ -3,6 +3,7 @@ pub mod Cuts
 pub mod Version
 pub mod Words
 pub mod Text
+pub mod Values
 pub mod Printable
 pub mod Faults
 pub mod Reading

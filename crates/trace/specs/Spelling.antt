@@ -4,8 +4,8 @@ use Rattle.std.specs.Int.Digits.{digits_of}
 use Rattle.hex.specs.Hex.{lower_digits, encode_lower}
 use Rattle.mmio_window.specs.declared.device_kind.DeviceKind.{DeviceKind}
 use Rattle.mmio_window.specs.declared.device_kind.DeviceKind.TheVariants.{Block, Console}
-use Rattle.trace.specs.declared.print.line.FieldValue.{FieldValue}
-use Rattle.trace.specs.declared.print.line.FieldValue.TheVariants.{Number, Mode, Window, Offset, Width, Value, Bytes}
+use Rattle.trace.specs.declared.value.FieldValue.{FieldValue}
+use Rattle.trace.specs.declared.value.FieldValue.TheVariants.{Number, Mode, Window, Offset, Width, Value, Bytes, Identity, Spelled}
 
 -- the lower case hexadecimal digit of a number below 16
 unfoldable pub digit : ℕ → ℕ
@@ -49,3 +49,5 @@ value_text (Offset offset) = fixed 3 offset
 value_text (Width width) = num width
 value_text (Value width value) = fixed (2 * width) value
 value_text (Bytes bs) = bytes bs.now
+value_text (Identity bs) = bytes bs
+value_text (Spelled field) = field.now

@@ -18,13 +18,13 @@ mod write;
 
 use crate::no_memory::NoMemory;
 pub use crate::print::buffer::Buffer;
-use crate::print::line::FieldValue::{Bytes, Mode, Number, Offset, Value, Width, Window};
 use crate::print::line::push_line;
 use crate::print::range::in_range;
 pub use crate::print::records::{print_records, put_line, put_read};
 pub use crate::print::write::write_whole;
 use crate::table::fields_after;
 use crate::trace::Trace;
+use crate::value::FieldValue::{Bytes, Identity, Mode, Number, Offset, Value, Width, Window};
 use crate::version::{VERSION_1, VERSION_2, header_of, identity_in_version_1};
 use crate::word::Word;
 use board::{Event, EventKind, SlotSpec};
@@ -174,7 +174,7 @@ fn push_slot<A: Allocator>(
         Mode(slot.read_only),
         Number(u64::from(slot.cols)),
         Number(u64::from(slot.rows)),
-        Bytes(&slot.identity),
+        Identity(slot.identity),
     ];
     let count = fields_after(version, Word::Slot).len();
     push_line(out, Word::Slot, &values[..count])?;

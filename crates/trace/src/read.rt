@@ -1,9 +1,9 @@
 //! Reading a whole trace.
 //!
-//! `cut` takes lines and fields off, `entry` and `fields` read one line, `frequent` those that come most often, and
-//! `number`, `choice` and `bytes` one field. `said` is the event that a line says, before anything owns it.
-//! `judging` goes over a whole text and keeps what stands before its events, `events` takes these one by one, and
-//! `at_fault` finds the fault of a line, and its field.
+//! `cut` takes lines and fields off. `entry` and `fields` read one line, whose `values` are read over the table of its
+//! fields, and `frequent` those that come most often. `number`, `choice` and `bytes` read one field. `said` is the event
+//! that a line says, before anything owns it. `judging` goes over a whole text and keeps what stands before its events,
+//! `events` takes these one by one, and `at_fault` finds the fault of a line, and its field.
 
 ghost use Rattle.std.specs.Prelude.{◌≡◌, ◌≢◌, ◌≤◌, IfOk, IfErr, OnOk};
 ghost use Rattle.trace.specs.Faults.{IsFault, IsCleanBefore};
@@ -25,6 +25,7 @@ mod frequent;
 mod judging;
 mod number;
 mod said;
+mod values;
 
 use crate::fault::{FaultKind, TraceFault};
 use crate::read::at_fault::fault_in;

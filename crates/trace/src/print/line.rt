@@ -6,22 +6,10 @@ ghost use Rattle.trace.specs.Text.{ended, line};
 ghost use Rattle.trace.specs.Words.{spelled};
 
 use crate::print::push::{push_bytes, push_fixed, push_num};
+use crate::value::FieldValue;
 use crate::word::{Word, spelling_of};
 use board::DeviceKind;
 use std::alloc::{AllocError, Allocator};
-
-/// The value of a field, by how it is spelled.
-#[derive(Clone, Copy)]
-pub(crate) enum FieldValue<'a> {
-    Number(u64),
-    Mode(bool),
-    Window(DeviceKind),
-    Offset(u16),
-    Width(u8),
-    /// A value of so many bytes.
-    Value(u8, u32),
-    Bytes(&'a [u8]),
-}
 
 /// Appends a line.
 pub(crate) fn push_line<A: Allocator>(
@@ -54,5 +42,7 @@ fn push_value<A: Allocator>(out: &mut Vec<u8, A>, value: FieldValue<'_>) -> Resu
         FieldValue::Width(width) => push_num(out, u64::from(width)),
         FieldValue::Value(width, value) => push_fixed(out, 2 * u16::from(width), value),
         FieldValue::Bytes(bytes) => push_bytes(out, bytes),
+        FieldValue::Identity(identity) => push_bytes(out, &identity),
+        FieldValue::Spelled(field) => out.extend_from_slice(field),
     }
 }

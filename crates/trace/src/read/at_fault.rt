@@ -9,10 +9,8 @@ ghost use Rattle.trace.specs.Words.{AreRight, Says, Value, shape_of, shapes, spe
 ghost use Rattle.trace.specs.declared.word.Word.{Word};
 
 use crate::fault::FaultKind;
-use crate::read::bytes::{are_bytes, identity_of};
-use crate::read::choice::{mode_of, width_of, window_of};
-use crate::read::cut::take_field;
-use crate::read::number::{fixed_number, number, number_u8, number_u16, number_u32, offset_of};
+use crate::read::cut::{nth_field, take_field};
+use crate::read::values::says;
 use crate::table::{Field, fields_after};
 use crate::word::{Word, word_of};
 
@@ -35,20 +33,6 @@ pub fn first_word(line: &[u8]) -> Option<Word>
 {
     let (first, _) = take_field(line);
     word_of(first)
-}
-
-// The nth of the fields that are left, from 0 on, or none of its bytes.
-fn nth_field(rest: Option<&[u8]>, n: usize) -> &[u8]
-    ensures { result.now ≡ slice_index_or (fields_left (option_copied rest.entry)) n [] }
-{
-    let Some(line) = rest else {
-        return &[];
-    };
-    let (field, rest) = take_field(line);
-    if n == 0 {
-        return field;
-    }
-    nth_field(rest, n - 1)
 }
 
 /// The fault of the fields that are left after a word, in a version.
@@ -118,36 +102,5 @@ fn fault_for(field: Field) -> FaultKind
         Field::Window | Field::Width | Field::Mode => FaultKind::Choice,
         Field::Bytes | Field::Identity => FaultKind::Bytes,
         _ => FaultKind::Number,
-    }
-}
-
-// Whether these bytes say a value of the field, which is read by this width.
-fn says(field: Field, width: &[u8], bytes: &[u8]) -> bool
-    ensures { IsTrue result ↔ Says (shape_of width.now field) bytes.now }
-{
-    match field {
-        Field::Base | Field::Size | Field::Start | Field::Count | Field::Address => {
-            number(bytes).is_some()
-        }
-        Field::Sectors | Field::Length => number_u32(bytes).is_some(),
-        Field::Columns | Field::Rows => number_u16(bytes).is_some(),
-        Field::Slot => number_u8(bytes).is_some(),
-        Field::Offset => offset_of(bytes).is_some(),
-        Field::Value => is_value(width, bytes),
-        Field::Window => window_of(bytes).is_some(),
-        Field::Width => width_of(bytes).is_some(),
-        Field::Mode => mode_of(bytes).is_some(),
-        Field::Bytes => are_bytes(bytes),
-        Field::Identity => identity_of(bytes).is_some(),
-    }
-}
-
-// Whether bytes are a value of a width. Where there is no such width, they may be one.
-fn is_value(width: &[u8], bytes: &[u8]) -> bool
-    ensures { IsTrue result ↔ Says (Value width.now) bytes.now }
-{
-    match width_of(width) {
-        Some(width) => fixed_number(bytes, 2 * width as usize).is_some(),
-        None => true,
     }
 }

@@ -1,6 +1,6 @@
 //! Cutting a text into its lines and a line into its fields, each at the front.
 
-ghost use Rattle.std.specs.Prelude.{◌≡◌, ◌++◌, ◌∷◌, [], IfSome, IfNone, OnSome};
+ghost use Rattle.std.specs.Prelude.{◌≡◌, ◌++◌, ◌∷◌, [], IfSome, IfNone, OnSome, slice_index_or};
 ghost use Rattle.std.specs.Option.{option_copied};
 ghost use Rattle.trace.specs.Cuts.{fields_of, fields_left, lines_of};
 ghost use Rattle.trace.specs.Faults.{line_at};
@@ -48,6 +48,20 @@ pub(crate) fn take_field(line: &[u8]) -> (&[u8], Option<&[u8]>)
         }
     }
     (line, None)
+}
+
+/// The nth of the fields that are left, from 0 on, or none of its bytes.
+pub(crate) fn nth_field(rest: Option<&[u8]>, n: usize) -> &[u8]
+    ensures { result.now ≡ slice_index_or (fields_left (option_copied rest.entry)) n [] }
+{
+    let Some(line) = rest else {
+        return &[];
+    };
+    let (field, rest) = take_field(line);
+    if n == 0 {
+        return field;
+    }
+    nth_field(rest, n - 1)
 }
 
 /// Takes off the first of the fields that are left.

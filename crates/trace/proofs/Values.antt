@@ -1,0 +1,148 @@
+-- The values of a line's fields, read one after another.
+use Rattle.std.proofs.Common.{◌≡◌, ◌≢◌, ◌==◌, ℕ, Bool, true, false, if◌then◌else◌, ◌+◌, ◌*◌, ◌^◌, ◌<◌, ◌≤◌, List, [], ◌∷◌, ◌++◌, length, get_or, map, take, drop, slice_index_or, refl, sym, ap, subst, ◌∙◌, arith, inl, inr}
+use Rattle.std.proofs.lemmas.List.{append-nil, append_assoc, drop_all, drop_more, length-map, map-append, map_more, take_all}
+use Rattle.mmio_window.specs.declared.device_kind.DeviceKind.{DeviceKind}
+use Rattle.trace.specs.declared.table.Field.{Field}
+use Rattle.trace.specs.declared.table.Field.TheVariants.{Sectors}
+use Rattle.trace.specs.declared.value.FieldValue.{FieldValue}
+use Rattle.trace.specs.declared.value.FieldValue.TheVariants as value
+use Rattle.trace.specs.declared.word.Word.{Word}
+use Rattle.trace.specs.declared.word.Word.TheVariants.{Cache, Slot, Read, Write, MemRead, MemWrite, Input, Resize}
+use Rattle.trace.specs.Printable.{IsWriteAccess}
+use Rattle.trace.specs.Spelling.{value_text}
+use Rattle.trace.specs.Values.{AreOf, IsOf, SaysValue, SayValues}
+use Rattle.trace.specs.Words.{AllRight, AreRight, Identity, IsWidth, Says, Shape, shape_of, shapes, width_among}
+use Rattle.trace.proofs.Numbers.{num_width}
+
+-- ---- the values so far
+
+-- one value more
+pub are_more : (ss : List Shape) (s : Shape) (vs : List FieldValue) (v : FieldValue) → AreOf ss vs → IsOf s v → AreOf (ss ++ s ∷ []) (vs ++ v ∷ [])
+are_more [] s vs v h is = (v, [], (ap (λ (xs : List FieldValue). xs ++ v ∷ []) h, (is, refl)))
+are_more (t ∷ ss) s vs v h is = (h.0, h.1 ++ v ∷ [], (ap (λ (xs : List FieldValue). xs ++ v ∷ []) h.2.0, (h.2.1.0, are_more ss s h.1 v h.2.1.1 is)))
+
+-- the fields that are left are right for what is left of the row
+right_after : (f : Field → Shape) (row : List Field) (front left : List (List ℕ)) → length front ≤ length row → AllRight (map f row) (front ++ left) → AllRight (map f (drop (length front) row)) left
+right_after f row [] left le h = h
+right_after f [] (x ∷ front) left le h = absurd (omega arith)
+right_after f (r ∷ row) (x ∷ front) left le h = right_after f row front left (omega arith) h.1
+
+module _ (width : List ℕ) (row : List Field) (vs : List FieldValue) (i : ℕ) (all left : List (List ℕ)) (count : length vs ≡ i) (spelled : all ≡ map value_text vs ++ left) (wide : width ≡ width_among all) where
+  rest_right : i ≤ length row → AllRight (map (shape_of (width_among all)) row) all → AllRight (map (shape_of width) (drop i row)) left
+  rest_right le h =
+      let many : length (map value_text vs) ≡ i = length-map vs value_text ∙ count in
+      let by_width : AllRight (map (shape_of width) row) all = subst (λ (w : List ℕ). AllRight (map (shape_of w) row) all) (sym wide) h in
+      subst (λ (n : ℕ). AllRight (map (shape_of width) (drop n row)) left) many
+      (right_after (shape_of width) row (map value_text vs) left (omega (arith, many)) (subst (AllRight (map (shape_of width) row)) spelled by_width))
+
+  here_right : (d : Field) → i < length row → AllRight (map (shape_of (width_among all)) row) all → AllRight (shape_of width (get_or row i d) ∷ map (shape_of width) (drop (i + 1) row)) left
+  here_right d lt h = subst (λ (fs : List Field). AllRight (map (shape_of width) fs) left) (drop_more row i d lt) (rest_right (omega arith) h)
+
+  -- a field is missing
+  pub missing : i < length row → left ≡ [] → ¬ AllRight (map (shape_of (width_among all)) row) all
+  missing lt none h = subst (AllRight (shape_of width (get_or row i Sectors) ∷ map (shape_of width) (drop (i + 1) row))) none (here_right Sectors lt h)
+
+  -- the next one says no value
+  pub wrong : (d : Field) (bytes : List ℕ) (more : List (List ℕ)) → i < length row → left ≡ bytes ∷ more → ¬ Says (shape_of width (get_or row i d)) bytes → ¬ AllRight (map (shape_of (width_among all)) row) all
+  wrong d bytes more lt is fails h = fails (subst (AllRight (shape_of width (get_or row i d) ∷ map (shape_of width) (drop (i + 1) row))) is (here_right d lt h)).0
+
+  -- one field is left over
+  pub left_over : i ≡ length row → ¬ AllRight [] left → ¬ AllRight (map (shape_of (width_among all)) row) all
+  left_over e fails h = fails (subst (λ (fs : List Field). AllRight (map (shape_of width) fs) left) (drop_all i row (omega (arith, e))) (rest_right (omega (arith, e)) h))
+
+  -- one value more
+  pub one_more : (d : Field) (v : FieldValue) (bytes : List ℕ) (more : List (List ℕ)) → i < length row → AreOf (map (shape_of width) (take i row)) vs → left ≡ bytes ∷ more → SaysValue (shape_of width (get_or row i d)) bytes v
+      → (all ≡ map value_text (vs ++ v ∷ []) ++ more) × AreOf (map (shape_of width) (take (i + 1) row)) (vs ++ v ∷ [])
+  one_more d v bytes more lt are is says = (
+    spelled ∙ ap (λ (fs : List (List ℕ)). map value_text vs ++ fs) (is ∙ ap (λ (t : List ℕ). t ∷ more) says.spelled)
+        ∙ sym (append_assoc (map value_text vs) (value_text v ∷ []) more) ∙ ap (λ (fs : List (List ℕ)). fs ++ more) (sym (map-append value_text vs (v ∷ []))),
+    subst (λ (ss : List Shape). AreOf ss (vs ++ v ∷ [])) (sym (map_more (shape_of width) row i d lt)) (are_more (map (shape_of width) (take i row)) (shape_of width (get_or row i d)) vs v are says.is_of),
+  )
+
+  -- all values
+  pub all_values : i ≡ length row → AreOf (map (shape_of width) (take i row)) vs → left ≡ [] → SayValues (map (shape_of (width_among all)) row) all vs
+  all_values e are none = record {
+    are_of = subst (λ (w : List ℕ). AreOf (map (shape_of w) row) vs) wide (subst (λ (fs : List Field). AreOf (map (shape_of width) fs) vs) (take_all i row (omega (arith, e))) are);
+    spelled = spelled ∙ ap (λ (fs : List (List ℕ)). map value_text vs ++ fs) none ∙ append-nil (map value_text vs);
+  }
+
+-- ---- over the table
+
+last_few : (has : Bool) → length (if has then Identity ∷ [] else []) ≤ 1
+last_few false = omega arith
+last_few true = omega arith
+
+few : (version : ℕ) (word : Word) → length (shapes version word []) ≤ 8
+few version Cache = omega arith
+few version Slot = omega (arith, last_few (version == 2))
+few version Read = omega arith
+few version Write = omega arith
+few version MemRead = omega arith
+few version MemWrite = omega arith
+few version Input = omega arith
+few version Resize = omega arith
+
+pub at_most_eight : (version : ℕ) (word : Word) (row : List Field) → ((fs : List (List ℕ)) → map (shape_of (width_among fs)) row ≡ shapes version word fs) → length row ≤ 8
+at_most_eight version word row table =
+    let counted : length row ≡ length (shapes version word []) = sym (length-map row (shape_of (width_among []))) ∙ ap length (table []) in
+    omega (arith, counted, few version word)
+
+-- the fields of an event are the same in each version
+pub same_right : (version other : ℕ) (word : Word) (fields : List (List ℕ)) → word ≢ Slot → AreRight version word fields → AreRight other word fields
+same_right version other Cache fields event h = h
+same_right version other Slot fields event h = absurd (event refl)
+same_right version other Read fields event h = h
+same_right version other Write fields event h = h
+same_right version other MemRead fields event h = h
+same_right version other MemWrite fields event h = h
+same_right version other Input fields event h = h
+same_right version other Resize fields event h = h
+
+-- ---- a write
+
+-- its values, of which the last is read by the width before it
+pub record IsWrite (vs : List FieldValue) : Type 0 where
+  pub slot : ℕ
+  pub kind : DeviceKind
+  pub offset : ℕ
+  pub width : ℕ
+  pub val : ℕ
+  pub are : vs ≡ value.Number slot ∷ value.Window kind ∷ value.Offset offset ∷ value.Width width ∷ value.Value width val ∷ []
+  pub small : slot < 2 ^ 8
+  pub fine : IsWriteAccess offset width val
+
+within_width : (width n : ℕ) → IsWidth width → n < 16 ^ (2 * width) → n < 2 ^ (8 * width)
+within_width width n wide within =
+    elim wide [
+      | inl one ↦ rw one (rw one at within)
+      | inr more ↦ elim more [ inl two ↦ rw two (rw two at within) | inr four ↦ rw four (rw four at within) ]
+    ]
+
+pub written : (vs : List FieldValue) → AreOf (shapes 2 Write (map value_text vs)) vs → IsWrite vs
+written vs h =
+    let t0 = h.2.1.1 in
+    let t1 = t0.2.1.1 in
+    let t2 = t1.2.1.1 in
+    let t3 = t2.2.1.1 in
+    let t4 = t3.2.1.1 in
+    let number = h.2.1.0 in
+    let window = t0.2.1.0 in
+    let offset = t1.2.1.0 in
+    let width = t2.2.1.0 in
+    let up_to_width : vs ≡ value.Number number.0 ∷ value.Window window.0 ∷ value.Offset offset.0 ∷ value.Width width.0 ∷ t2.1 =
+    h.2.0 ∙ ap (λ (xs : List FieldValue). h.0 ∷ xs) (t0.2.0 ∙ ap (λ (xs : List FieldValue). t0.0 ∷ xs) (t1.2.0 ∙ ap (λ (xs : List FieldValue). t1.0 ∷ xs) t2.2.0))
+    ∙ rw (number.1.0, window.1, offset.1.0, width.1.0) refl
+    in
+    let by : slice_index_or (map value_text vs) 3 [] ≡ value_text (value.Width width.0) = ap (λ (xs : List FieldValue). slice_index_or (map value_text xs) 3 []) up_to_width in
+    let val = t3.2.1.0 width.0 (record { fits = width.1.1; spelled = by ∙ num_width width.0 width.1.1 }) in
+    let last : t2.1 ≡ value.Value width.0 val.0 ∷ [] = t3.2.0 ∙ rw (val.1.0, t4) refl in
+    record {
+      slot = number.0;
+      kind = window.0;
+      offset = offset.0;
+      width = width.0;
+      val = val.0;
+      are = up_to_width ∙ ap (λ (xs : List FieldValue). value.Number number.0 ∷ value.Window window.0 ∷ value.Offset offset.0 ∷ value.Width width.0 ∷ xs) last;
+      small = number.1.1;
+      fine = record { access = record { three_digits = offset.1.1; wide = width.1.1 }; within = within_width width.0 val.0 width.1.1 val.1.1 };
+    }

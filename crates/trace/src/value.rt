@@ -1,0 +1,28 @@
+//! The value of a field, as a line is read and as it is written.
+
+use board::DeviceKind;
+
+/// The most fields that a word has after it.
+pub(crate) const MOST_FIELDS: usize = 8;
+
+/// The value of a field, by how it is spelled.
+#[derive(Clone, Copy)]
+pub(crate) enum FieldValue<'a> {
+    Number(u64),
+    Mode(bool),
+    Window(DeviceKind),
+    Offset(u16),
+    Width(u8),
+    /// A value of so many bytes.
+    Value(u8, u32),
+    Bytes(&'a [u8]),
+    Identity([u8; 20]),
+    /// A field as it stands in its line.
+    Spelled(&'a [u8]),
+}
+
+impl Default for FieldValue<'_> {
+    fn default() -> Self {
+        FieldValue::Number(0)
+    }
+}
