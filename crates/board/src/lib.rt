@@ -41,6 +41,3 @@ pub use pause::{Pause, Service, Turn};
 pub use reply::{Record, Reply, RunStop};
 pub use sector_cache::{CacheFault, Image, ImageError, ImageFault, MemoryImage, Refused};
 pub use spec::SlotSpec;
-
-#[cfg(test)]
-mod tests;

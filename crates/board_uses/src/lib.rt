@@ -25,6 +25,3 @@ pub use loading::load_kernel;
 pub use saving::{disk, saved};
 pub use setup::{MEMORY_BASE, advice, two_guests};
 pub use stops::run_some;
-
-#[cfg(test)]
-mod tests;

@@ -13,8 +13,6 @@ mod bytes;
 mod fault;
 mod laws;
 mod segment;
-#[cfg(test)]
-mod tests;
 mod virtqueue;
 
 pub use budget::{Budget, Progress};

@@ -11,8 +11,6 @@ mod queue;
 mod receive;
 mod serve;
 mod stream;
-#[cfg(test)]
-mod tests;
 mod transmit;
 mod view;
 

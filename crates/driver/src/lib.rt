@@ -4,8 +4,6 @@
 
 mod descriptors;
 mod registers;
-#[cfg(test)]
-mod tests;
 
 pub use descriptors::{
     AVAIL, Descriptor, INDIRECT, NEXT, USED, WRITE, descriptor_bytes, put_descriptor,

@@ -27,6 +27,3 @@ pub use paced::Progress;
 pub use refusal::Refusal;
 pub use session::Session;
 pub use typed::Typed;
-
-#[cfg(test)]
-mod tests;

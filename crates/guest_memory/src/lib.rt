@@ -13,6 +13,3 @@ mod numbers;
 pub use fault::{MemoryFault, fault_of};
 pub use laws::a_range_is_tested;
 pub use memory::GuestMemory;
-
-#[cfg(test)]
-mod tests;

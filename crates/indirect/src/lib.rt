@@ -9,8 +9,6 @@ mod append;
 mod descriptor;
 mod laws;
 mod table;
-#[cfg(test)]
-mod tests;
 
 pub use append::{append_packed, append_split};
 pub use descriptor::{Descriptor, INDIRECT, NEXT, WRITE, read_packed_buffer};

@@ -29,6 +29,3 @@ pub use queue_registers::QueueRegisters;
 pub use register::Register;
 pub use stage::Stage;
 pub use window::Window;
-
-#[cfg(test)]
-mod tests;

@@ -14,6 +14,3 @@ pub use features::Features;
 pub use laws::{only_offered_features_settle, only_reset_clears};
 pub use negotiation::Negotiation;
 pub use status::Status;
-
-#[cfg(test)]
-mod tests;

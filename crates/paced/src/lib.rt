@@ -16,6 +16,3 @@ pub use fault::PacedFault;
 pub use laws::{each_guest_is_alone, refusals_are_noted};
 pub use paced::Paced;
 pub use response::Response;
-
-#[cfg(test)]
-mod tests;

@@ -74,6 +74,3 @@ unsafe impl<A: Allocator> Allocator for RefusingHeap<A> {
         self.inner.deallocate(ptr, size, align);
     }
 }
-
-#[cfg(test)]
-mod tests;

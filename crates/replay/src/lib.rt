@@ -17,6 +17,3 @@ pub use input::gather;
 pub use last_line::finish;
 pub use laws::the_version_changes_no_replay;
 pub use replaying::{replay, replay_text};
-
-#[cfg(test)]
-mod tests;

@@ -13,6 +13,3 @@ mod split;
 pub use laws::places_passed_since_the_first;
 pub use packed::packed_wants;
 pub use split::split_wants;
-
-#[cfg(test)]
-mod tests;

@@ -36,6 +36,3 @@ pub use table::{Field, fields_after};
 pub use trace::{Trace, to_version_2};
 pub use version::{VERSION_1, VERSION_2, version_of};
 pub use word::Word;
-
-#[cfg(test)]
-mod tests;

@@ -24,7 +24,7 @@ pub struct Trace<A: Allocator = Global> {
 
 impl<A: Allocator + Copy> Trace<A> {
     /// A trace with no slot and no event. This takes no memory.
-    pub(crate) fn new(alloc: A, version: u8, cache: u32) -> Trace<A>
+    pub fn new(alloc: A, version: u8, cache: u32) -> Trace<A>
         ensures { content result ≡ record { version = version; cache = cache; slots = []; events = [] } }
     {
         Trace {
