@@ -8,7 +8,7 @@ mod session;
 mod slots;
 mod uses;
 
-use board::DeviceKind;
+use board::{DeviceKind, Extent, SlotSpec};
 use std::alloc::{AllocError, Global};
 use std::fmt::Debug;
 use std::process::Abort;
@@ -30,6 +30,22 @@ const USED: u64 = BASE + 0x3000;
 const DATA: u64 = BASE + 0x5000;
 
 const STATUS: u64 = BASE + 0x6000;
+
+/// What the slots' disks are called.
+const IDENTITY: [u8; 20] = *b"disk-of-the-tests-01";
+
+/// A slot of `len` bytes of memory from `BASE` on, and `count` sectors from sector `start` on.
+fn slot(len: u64, start: u64, count: u64) -> SlotSpec {
+    SlotSpec {
+        base: BASE,
+        len,
+        extent: Extent { start, count },
+        read_only: false,
+        cols: 80,
+        rows: 25,
+        identity: IDENTITY,
+    }
+}
 
 /// An image of eight sectors, in which each byte of sector k is 0x10 + k.
 fn eight_sectors(alloc: Global) -> Result<Vec<u8>, AllocError> {

@@ -2,12 +2,12 @@
 
 mod guest;
 
-use crate::tests::{BASE, BLOCK, CONSOLE, DATA, USED, same};
-use board::{Bytes, DeviceKind, Extent, MemoryImage, SlotSpec};
+use crate::tests::{BLOCK, CONSOLE, DATA, USED, same, slot};
+use board::{Bytes, DeviceKind, MemoryImage};
 use driver::{Descriptor, descriptor_bytes};
 use guest::{bring_up, receive_twice, request_thrice, two_lines};
 use paced::{Board, Budget, Event, EventKind, Paced, PacedFault, Reply, Response};
-use std::alloc::{AllocError, Allocator, Global};
+use std::alloc::{AllocError, Global};
 use std::process::Abort;
 use std::test::Fail;
 
@@ -56,19 +56,6 @@ use Call::{Do, GoOn};
 /// A call, its answer, what is put out by then, and both interrupt words of slot 0.
 type Row<'a> = (Call<'a>, Told<'a>, &'a [u8], (u8, u8));
 
-/// A slot of 64 KiB, with four sectors of the image.
-fn slot(start: u64) -> SlotSpec {
-    SlotSpec {
-        base: BASE,
-        len: 0x1_0000,
-        extent: Extent { start, count: 4 },
-        read_only: false,
-        cols: 80,
-        rows: 25,
-        identity: *b"disk-of-the-tests-01",
-    }
-}
-
 /// A board of two slots over an image of eight sectors, in which each byte of sector k is 0x10 + k.
 fn board(alloc: Global) -> Result<Board<MemoryImage>, Fail> {
     let mut bytes = Vec::new(alloc);
@@ -76,7 +63,13 @@ fn board(alloc: Global) -> Result<Board<MemoryImage>, Fail> {
         bytes.extend_from_slice(&[0x10 + sector; 512])?;
     }
     let image = MemoryImage::new(bytes)?;
-    let board = Board::new(alloc, &[slot(0), slot(4)], image, 8).map_err(|refused| refused.why)?;
+    let board = Board::new(
+        alloc,
+        &[slot(0x1_0000, 0, 4), slot(0x1_0000, 4, 4)],
+        image,
+        8,
+    )
+    .map_err(|refused| refused.why)?;
     Ok(board)
 }
 

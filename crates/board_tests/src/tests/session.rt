@@ -3,34 +3,18 @@
 mod outlets;
 mod pauses;
 
-use super::{BASE, BLOCK, CONSOLE, eight_sectors, same};
+use super::{BASE, BLOCK, CONSOLE, eight_sectors, same, slot};
 use board::{BoardFault, CacheFault};
-use embed::{
-    Budget, DeviceKind, Extent, GuestSpec, Progress, Refusal, Session, SessionFault, SlotSpec,
-    Typed,
-};
+use embed::{Budget, DeviceKind, GuestSpec, Progress, Refusal, Session, SessionFault, Typed};
 use refusing::RefusingHeap;
-use std::alloc::{AllocError, Allocator, Global};
+use std::alloc::{Allocator, Global};
 use std::fmt::Debug;
 use std::process::Abort;
 use std::test::Fail;
 
-/// A slot of 64 KiB, with four sectors of the image.
-fn slot(start: u64) -> SlotSpec {
-    SlotSpec {
-        base: BASE,
-        len: 0x1_0000,
-        extent: Extent { start, count: 4 },
-        read_only: false,
-        cols: 80,
-        rows: 25,
-        identity: *b"disk-of-the-tests-01",
-    }
-}
-
 /// Two guests, each of whose outputs has so much room.
 fn two_guests(outlet: u32) -> [GuestSpec; 2] {
-    [slot(0), slot(4)].map(|slot| GuestSpec { slot, outlet })
+    [slot(0x1_0000, 0, 4), slot(0x1_0000, 4, 4)].map(|slot| GuestSpec { slot, outlet })
 }
 
 /// A session of both slots over it.

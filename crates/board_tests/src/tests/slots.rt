@@ -11,29 +11,11 @@ mod made;
 mod output;
 mod refused;
 
-use crate::tests::{BASE, eight_sectors, same};
-use board::{
-    Board, Bytes, DeviceKind, Event, EventKind, Extent, Image, Record, Reply, RunStop, SlotSpec,
-};
+use crate::tests::{eight_sectors, slot};
+use board::{Board, Bytes, DeviceKind, Event, EventKind, Image, Record, Reply, RunStop, SlotSpec};
 use sector_cache::MemoryImage;
 use std::alloc::{AllocError, Allocator, Global};
 use std::test::Fail;
-
-/// What the slots' disks are called.
-const IDENTITY: [u8; 20] = *b"disk-of-the-tests-01";
-
-/// A slot of `len` bytes of memory from `BASE` on, and `count` sectors from sector `start` on.
-fn slot(len: u64, start: u64, count: u64) -> SlotSpec {
-    SlotSpec {
-        base: BASE,
-        len,
-        extent: Extent { start, count },
-        read_only: false,
-        cols: 80,
-        rows: 25,
-        identity: IDENTITY,
-    }
-}
 
 /// Two slots of 64 KiB, each with one half of the image.
 fn two_slots() -> [SlotSpec; 2] {

@@ -17,7 +17,6 @@ use guest_memory::GuestMemory;
 use mmio_window::{DeviceKind, Window};
 use negotiation::{Features, Flags};
 use std::alloc::{Allocator, Global};
-use std::process::Abort;
 use std::test::Fail;
 
 const LEN: u64 = 0x1_0000;

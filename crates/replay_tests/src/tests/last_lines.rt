@@ -5,7 +5,6 @@ use super::same;
 use board::{BoardFault, CacheFault, MemoryFault};
 use replay::{ReplayFault, finish};
 use std::process::Abort;
-use std::test::Fail;
 use trace::{FaultKind, TraceFault};
 
 /// Where the writer has room for so many bytes the outcome ends a program with this line and this status, or with a

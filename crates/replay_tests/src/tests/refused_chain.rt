@@ -1,6 +1,6 @@
 //! The room for the second of two chains refused, by the records of the notifications.
 
-use super::two_guests::{Machine, run};
+use super::two_guests::run;
 use board::Board;
 use refusing::RefusingHeap;
 use sector_cache::ScriptedImage;

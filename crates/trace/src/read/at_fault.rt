@@ -1,11 +1,11 @@
 //! Which field of a line is at fault, over the table of its fields.
 
-ghost use Rattle.std.specs.Prelude.{◌≡◌, ◌≢◌, ◌↔◌, [], ℕ, List, IsTrue, IfSome, IsNone, length, map, slice_index_or};
+ghost use Rattle.std.specs.Prelude.{◌≡◌, ◌≢◌, ◌↔◌, [], ℕ, List, IsTrue, IfSome, IsNone, length, map};
 ghost use Rattle.std.specs.Option.{option_copied};
 ghost use Rattle.trace.specs.Cuts.{fields_left};
 ghost use Rattle.trace.specs.Faults.{AllSay, IsAtFault, fault_of, first_field, other_fields};
 ghost use Rattle.trace.specs.Refusals.{RefusesFields};
-ghost use Rattle.trace.specs.Words.{AreRight, Says, Value, shape_of, shapes, spelled, width_among};
+ghost use Rattle.trace.specs.Words.{AreRight, shape_of, shapes, spelled, width_among};
 ghost use Rattle.trace.specs.declared.word.Word.{Word};
 
 use crate::fault::FaultKind;

@@ -246,7 +246,7 @@ fn a_full_outlet_is_its_own_guests(rt: HostRuntime) -> Result<(), Fail> {
     let heap = RefusingHeap::new(rt.alloc());
     let mut both = with_outlets(rt.alloc(), &heap, 4096)?;
     let alone = [GuestSpec {
-        slot: slot(0),
+        slot: slot(0x1_0000, 0, 4),
         outlet: 4096,
     }];
     let mut one = Session::new(rt.alloc(), &alone, &[0; 2048], 8, Budget::UNLIMITED)?;
@@ -266,11 +266,11 @@ fn a_full_outlet_is_its_own_guests(rt: HostRuntime) -> Result<(), Fail> {
 fn two_outlets() -> [GuestSpec; 2] {
     [
         GuestSpec {
-            slot: slot(0),
+            slot: slot(0x1_0000, 0, 4),
             outlet: 0x100_0000,
         },
         GuestSpec {
-            slot: slot(4),
+            slot: slot(0x1_0000, 4, 4),
             outlet: 1,
         },
     ]

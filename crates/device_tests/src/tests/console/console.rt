@@ -1,7 +1,7 @@
 //! The console without its queues: input, emergency byte, size and configuration.
 
 use crate::tests::console::{same, up};
-use console_device::{ConsoleDevice, NoMemory};
+use console_device::ConsoleDevice;
 use guest_memory::GuestMemory;
 use std::alloc::Global;
 use std::process::Abort;

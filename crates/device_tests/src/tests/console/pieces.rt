@@ -8,7 +8,6 @@ use console_device::ConsoleDevice;
 use driver::WRITE;
 use guest_memory::GuestMemory;
 use mmio_window::{Stage, Window};
-use std::process::Abort;
 use std::test::Fail;
 
 const ONE: Budget = Budget {
