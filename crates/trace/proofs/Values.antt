@@ -11,7 +11,7 @@ use Rattle.trace.specs.declared.word.Word.TheVariants.{Cache, Slot, Read, Write,
 use Rattle.trace.specs.Printable.{IsWriteAccess}
 use Rattle.trace.specs.Spelling.{value_text}
 use Rattle.trace.specs.Values.{AreOf, IsOf, SaysValue, SayValues}
-use Rattle.trace.specs.Words.{AllRight, AreRight, Identity, IsWidth, Says, Shape, shape_of, shapes, width_among}
+use Rattle.trace.specs.Words.{AllRight, AreRight, Identity, IsWidth, Num, Offset, Says, Shape, Value, Width, Window, shape_of, shapes, width_among}
 use Rattle.trace.proofs.Numbers.{num_width}
 
 -- ---- the values so far
@@ -27,42 +27,41 @@ right_after f row [] left le h = h
 right_after f [] (x ∷ front) left le h = absurd (omega arith)
 right_after f (r ∷ row) (x ∷ front) left le h = right_after f row front left (omega arith) h.1
 
-module _ (width : List ℕ) (row : List Field) (vs : List FieldValue) (i : ℕ) (all left : List (List ℕ)) (count : length vs ≡ i) (spelled : all ≡ map value_text vs ++ left) (wide : width ≡ width_among all) where
-  rest_right : i ≤ length row → AllRight (map (shape_of (width_among all)) row) all → AllRight (map (shape_of width) (drop i row)) left
+module _ (f : Field → Shape) (row : List Field) (vs : List FieldValue) (i : ℕ) (all left : List (List ℕ)) (count : length vs ≡ i) (spelled : all ≡ map value_text vs ++ left) where
+  rest_right : i ≤ length row → AllRight (map f row) all → AllRight (map f (drop i row)) left
   rest_right le h =
       let many : length (map value_text vs) ≡ i = length-map vs value_text ∙ count in
-      let by_width : AllRight (map (shape_of width) row) all = subst (λ (w : List ℕ). AllRight (map (shape_of w) row) all) (sym wide) h in
-      subst (λ (n : ℕ). AllRight (map (shape_of width) (drop n row)) left) many
-      (right_after (shape_of width) row (map value_text vs) left (omega (arith, many)) (subst (AllRight (map (shape_of width) row)) spelled by_width))
+      subst (λ (n : ℕ). AllRight (map f (drop n row)) left) many
+      (right_after f row (map value_text vs) left (omega (arith, many)) (subst (AllRight (map f row)) spelled h))
 
-  here_right : (d : Field) → i < length row → AllRight (map (shape_of (width_among all)) row) all → AllRight (shape_of width (get_or row i d) ∷ map (shape_of width) (drop (i + 1) row)) left
-  here_right d lt h = subst (λ (fs : List Field). AllRight (map (shape_of width) fs) left) (drop_more row i d lt) (rest_right (omega arith) h)
+  here_right : (d : Field) → i < length row → AllRight (map f row) all → AllRight (f (get_or row i d) ∷ map f (drop (i + 1) row)) left
+  here_right d lt h = subst (λ (fs : List Field). AllRight (map f fs) left) (drop_more row i d lt) (rest_right (omega arith) h)
 
   -- a field is missing
-  pub missing : i < length row → left ≡ [] → ¬ AllRight (map (shape_of (width_among all)) row) all
-  missing lt none h = subst (AllRight (shape_of width (get_or row i Sectors) ∷ map (shape_of width) (drop (i + 1) row))) none (here_right Sectors lt h)
+  pub missing : i < length row → left ≡ [] → ¬ AllRight (map f row) all
+  missing lt none h = subst (AllRight (f (get_or row i Sectors) ∷ map f (drop (i + 1) row))) none (here_right Sectors lt h)
 
   -- the next one says no value
-  pub wrong : (d : Field) (bytes : List ℕ) (more : List (List ℕ)) → i < length row → left ≡ bytes ∷ more → ¬ Says (shape_of width (get_or row i d)) bytes → ¬ AllRight (map (shape_of (width_among all)) row) all
-  wrong d bytes more lt is fails h = fails (subst (AllRight (shape_of width (get_or row i d) ∷ map (shape_of width) (drop (i + 1) row))) is (here_right d lt h)).0
+  pub wrong : (d : Field) (bytes : List ℕ) (more : List (List ℕ)) → i < length row → left ≡ bytes ∷ more → ¬ Says (f (get_or row i d)) bytes → ¬ AllRight (map f row) all
+  wrong d bytes more lt is fails h = fails (subst (AllRight (f (get_or row i d) ∷ map f (drop (i + 1) row))) is (here_right d lt h)).0
 
   -- one field is left over
-  pub left_over : i ≡ length row → ¬ AllRight [] left → ¬ AllRight (map (shape_of (width_among all)) row) all
-  left_over e fails h = fails (subst (λ (fs : List Field). AllRight (map (shape_of width) fs) left) (drop_all i row (omega (arith, e))) (rest_right (omega (arith, e)) h))
+  pub left_over : i ≡ length row → ¬ AllRight [] left → ¬ AllRight (map f row) all
+  left_over e fails h = fails (subst (λ (fs : List Field). AllRight (map f fs) left) (drop_all i row (omega (arith, e))) (rest_right (omega (arith, e)) h))
 
   -- one value more
-  pub one_more : (d : Field) (v : FieldValue) (bytes : List ℕ) (more : List (List ℕ)) → i < length row → AreOf (map (shape_of width) (take i row)) vs → left ≡ bytes ∷ more → SaysValue (shape_of width (get_or row i d)) bytes v
-      → (all ≡ map value_text (vs ++ v ∷ []) ++ more) × AreOf (map (shape_of width) (take (i + 1) row)) (vs ++ v ∷ [])
+  pub one_more : (d : Field) (v : FieldValue) (bytes : List ℕ) (more : List (List ℕ)) → i < length row → AreOf (map f (take i row)) vs → left ≡ bytes ∷ more → SaysValue (f (get_or row i d)) bytes v
+      → (all ≡ map value_text (vs ++ v ∷ []) ++ more) × AreOf (map f (take (i + 1) row)) (vs ++ v ∷ [])
   one_more d v bytes more lt are is says = (
     spelled ∙ ap (λ (fs : List (List ℕ)). map value_text vs ++ fs) (is ∙ ap (λ (t : List ℕ). t ∷ more) says.spelled)
         ∙ sym (append_assoc (map value_text vs) (value_text v ∷ []) more) ∙ ap (λ (fs : List (List ℕ)). fs ++ more) (sym (map-append value_text vs (v ∷ []))),
-    subst (λ (ss : List Shape). AreOf ss (vs ++ v ∷ [])) (sym (map_more (shape_of width) row i d lt)) (are_more (map (shape_of width) (take i row)) (shape_of width (get_or row i d)) vs v are says.is_of),
+    subst (λ (ss : List Shape). AreOf ss (vs ++ v ∷ [])) (sym (map_more f row i d lt)) (are_more (map f (take i row)) (f (get_or row i d)) vs v are says.is_of),
   )
 
   -- all values
-  pub all_values : i ≡ length row → AreOf (map (shape_of width) (take i row)) vs → left ≡ [] → SayValues (map (shape_of (width_among all)) row) all vs
+  pub all_values : i ≡ length row → AreOf (map f (take i row)) vs → left ≡ [] → SayValues (map f row) all vs
   all_values e are none = record {
-    are_of = subst (λ (w : List ℕ). AreOf (map (shape_of w) row) vs) wide (subst (λ (fs : List Field). AreOf (map (shape_of width) fs) vs) (take_all i row (omega (arith, e))) are);
+    are_of = subst (λ (fs : List Field). AreOf (map f fs) vs) (take_all i row (omega (arith, e))) are;
     spelled = spelled ∙ ap (λ (fs : List (List ℕ)). map value_text vs ++ fs) none ∙ append-nil (map value_text vs);
   }
 
@@ -86,6 +85,22 @@ pub at_most_eight : (version : ℕ) (word : Word) (row : List Field) → ((fs : 
 at_most_eight version word row table =
     let counted : length row ≡ length (shapes version word []) = sym (length-map row (shape_of (width_among []))) ∙ ap length (table []) in
     omega (arith, counted, few version word)
+
+-- only a write's shapes depend on a width
+same_shapes : (version : ℕ) (word : Word) (some others : List (List ℕ)) → (word ≡ Write → width_among some ≡ width_among others) → shapes version word some ≡ shapes version word others
+same_shapes version Cache some others same = refl
+same_shapes version Slot some others same = refl
+same_shapes version Read some others same = refl
+same_shapes version Write some others same = ap (λ (width : List ℕ). Num 8 ∷ Window ∷ Offset ∷ Width ∷ Value width ∷ []) (same refl)
+same_shapes version MemRead some others same = refl
+same_shapes version MemWrite some others same = refl
+same_shapes version Input some others same = refl
+same_shapes version Resize some others same = refl
+
+-- the shapes of a row by the width of a write
+pub shapes_by : (version : ℕ) (word : Word) (row : List Field) (width : List ℕ) (fields : List (List ℕ)) → ((fs : List (List ℕ)) → map (shape_of (width_among fs)) row ≡ shapes version word fs) → (word ≡ Write → width ≡ width_among fields)
+    → map (shape_of width) row ≡ shapes version word fields
+shapes_by version word row width fields table same = table ([] ∷ [] ∷ [] ∷ width ∷ []) ∙ same_shapes version word ([] ∷ [] ∷ [] ∷ width ∷ []) fields same
 
 -- the fields of an event are the same in each version
 pub same_right : (version other : ℕ) (word : Word) (fields : List (List ℕ)) → word ≢ Slot → AreRight version word fields → AreRight other word fields

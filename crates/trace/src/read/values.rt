@@ -1,10 +1,11 @@
 //! The values that the fields of a line say, read over the table.
 
-ghost use Rattle.std.specs.Prelude.{◌↔◌, ◌≤◌, IfNone, IfSome, IsTrue, OnSome, length, map};
+ghost use Rattle.std.specs.Prelude.{◌≡◌, ◌↔◌, ◌≤◌, IfNone, IfSome, IsTrue, OnSome, length, map};
 ghost use Rattle.std.specs.Option.{option_copied};
 ghost use Rattle.trace.specs.Cuts.{fields_left};
 ghost use Rattle.trace.specs.Values.{SayValues, SaysValue};
 ghost use Rattle.trace.specs.Words.{AllRight, AreRight, Says, Value as ByWidth, shape_of, shapes, width_among};
+ghost use Rattle.trace.specs.declared.word.Word.{Word};
 
 use crate::read::bytes::{are_bytes, identity_of};
 use crate::read::choice::{mode_of, width_of, window_of};
@@ -27,16 +28,25 @@ pub(crate) fn values_of(version: u8, word: Word, rest: Option<&[u8]>) -> Option<
     ensures some { IfSome result (λ values. SayValues (shapes version word (fields_left (option_copied rest.entry))) (fields_left (option_copied rest.entry)) values.items) }
     ensures none { IfNone result (¬ AreRight version word (fields_left (option_copied rest.entry))) }
 {
-    values_in(fields_after(version, word), rest)
+    values_in(fields_after(version, word), width_for(word, rest), rest)
 }
 
-// The values of these fields.
-fn values_in<'a>(fields: &[Field], mut rest: Option<&'a [u8]>) -> Option<Values<'a>>
-    requires { length fields.now ≤ 8 }
-    ensures some { IfSome result (λ values. SayValues (map (shape_of (width_among (fields_left (option_copied rest.entry)))) fields.now) (fields_left (option_copied rest.entry)) values.items) }
-    ensures none { IfNone result (¬ AllRight (map (shape_of (width_among (fields_left (option_copied rest.entry)))) fields.now) (fields_left (option_copied rest.entry))) }
+// The field by which a value of the word's line is read, where it has one.
+fn width_for(word: Word, rest: Option<&[u8]>) -> &[u8]
+    ensures { word ≡ Word.Write → result.now ≡ width_among (fields_left (option_copied rest.entry)) }
 {
-    let width = nth_field(rest, 3);
+    match word {
+        Word::Write => nth_field(rest, 3),
+        _ => &[],
+    }
+}
+
+// The values of these fields, of which one is read by this width.
+fn values_in<'a>(fields: &[Field], width: &[u8], mut rest: Option<&'a [u8]>) -> Option<Values<'a>>
+    requires { length fields.now ≤ 8 }
+    ensures some { IfSome result (λ values. SayValues (map (shape_of width.now) fields.now) (fields_left (option_copied rest.entry)) values.items) }
+    ensures none { IfNone result (¬ AllRight (map (shape_of width.now) fields.now) (fields_left (option_copied rest.entry))) }
+{
     let mut values = ArrayVec::new();
     for field in fields {
         let bytes = next_field(&mut rest)?;
