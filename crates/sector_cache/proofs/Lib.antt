@@ -1,5 +1,3 @@
 pub mod Coherence
 pub mod Filed
-pub mod Gathered
 pub mod Sectors
-pub mod TestFiles

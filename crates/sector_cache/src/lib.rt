@@ -26,6 +26,3 @@ pub use laws::memory_images_tell;
 pub use memory::MemoryImage;
 pub use scripted::ScriptedImage;
 pub use sector::{SECTOR_LEN, are_whole_sectors};
-
-#[cfg(test)]
-mod tests;

@@ -12,12 +12,12 @@ mod refused;
 mod sectors;
 mod switched;
 
-use crate::{
+use blind::BlindImage;
+use gather::gather;
+use sector_cache::{
     CacheFault, FileImageFault, Image, ImageError, ImageFault, MemoryImage, ScriptedImage,
     SectorCache,
 };
-use blind::BlindImage;
-use gather::gather;
 use sectors::{Given, cached, filled, halves_of};
 use std::alloc::{AllocError, Global};
 use std::fmt::Debug;

@@ -2,8 +2,8 @@
 
 ghost use Rattle.std.specs.Prelude.{◌<◌};
 
-use crate::image::{Image, ImageError};
 use crate::tests::sectors::{Call, Given, filled, halves_of};
+use sector_cache::{Image, ImageError};
 
 /// An image, called as a cache over it is.
 #[derive(Drop)]

@@ -3,8 +3,7 @@
 ghost use Rattle.std.specs.Prelude.{◌≡◌, ◌≢◌, ◌+◌, ◌≤◌, length, take, drop, Some, IfOk, false};
 ghost use Rattle.sector_cache.specs.Backing.{with_bytes};
 
-use crate::FileImageFault;
-use crate::backing::BackingFile;
+use sector_cache::{BackingFile, FileImageFault};
 use std::io;
 use std::io::ErrorKind;
 

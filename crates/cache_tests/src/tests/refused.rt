@@ -2,8 +2,8 @@
 
 use crate::tests::same;
 use crate::tests::sectors::{Call, Numbers, cached, call_of, eight_sectors};
-use crate::{CacheFault, Image, ScriptedImage, SectorCache};
 use refusing::RefusingHeap;
+use sector_cache::{CacheFault, Image, ScriptedImage, SectorCache};
 use std::alloc::Global;
 use std::process::Abort;
 use std::test::Fail;

@@ -1,7 +1,7 @@
 //! An image of sectors that tell their numbers, and calls of a cache over an image as plain values.
 
 use crate::tests::halves;
-use crate::{CacheFault, Image, ScriptedImage, SectorCache};
+use sector_cache::{CacheFault, Image, ScriptedImage, SectorCache};
 use std::alloc::{AllocError, Allocator, Global};
 use std::test::Fail;
 

@@ -1,13 +1,11 @@
 //! An image in memory whose calls fail while a test says so.
 
-ghost use Rattle.std.specs.Prelude.{◌≡◌, ◌+◌, ◌*◌, ◌<◌};
+ghost use Rattle.std.specs.Prelude.{◌≡◌, ◌+◌, ◌*◌, ◌<◌, ◌++◌, take, drop};
 ghost use Rattle.std.specs.Bool.{OnTrue, OnFalse};
 ghost use Rattle.std.proofs.Common.{arith};
 ghost use Rattle.sector_cache.specs.MemoryImage.{disk_of};
 
-use crate::image::{Image, ImageError};
-use crate::memory::MemoryImage;
-use crate::sector;
+use sector_cache::{Image, ImageError, MemoryImage};
 use std::cell::Cell;
 
 /// An image in memory. While `fails` holds, as long as failures are counted, its calls fail, and a write has
@@ -42,6 +40,13 @@ impl SwitchedImage {
     }
 }
 
+/// Copies the first half of one sector over that of another.
+fn copy_half(into: &mut [u8; 512], from: &[u8; 512])
+    ensures { into.new ≡ take 256 from.now ++ drop 256 into.old }
+{
+    into[..256].copy_from_slice(&from[..256]);
+}
+
 impl Image for SwitchedImage {
     ghost disk = { λ image. record (disk_of image.memory) { failures = image.failures } };
 
@@ -64,7 +69,7 @@ impl Image for SwitchedImage {
         if self.call_fails() {
             let mut torn = [0; 512];
             self.memory.read_sector(sector, &mut torn)?;
-            sector::copy_half(&mut torn, from);
+            copy_half(&mut torn, from);
             self.memory.write_sector(sector, &torn)?;
             return Err(ImageError);
         }

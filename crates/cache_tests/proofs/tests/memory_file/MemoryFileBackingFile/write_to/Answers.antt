@@ -1,6 +1,6 @@
 use Rattle.std.proofs.Common.{rules, ap}
-use Rattle.sector_cache.proofs.TestFiles.{failed_to_write, wrote}
-use Rattle.sector_cache.proofs.tests.memory_file.MemoryFileBackingFile.write_to.Goals as goal
+use Rattle.cache_tests.proofs.TestFiles.{failed_to_write, wrote}
+use Rattle.cache_tests.proofs.tests.memory_file.MemoryFileBackingFile.write_to.Goals as goal
 
 pub returns-in_err-n-clause-put : goal.returns-in_err-n-clause-put
 returns-in_err-n-clause-put c = failed_to_write _ _ _ _ _ (search rules) (ap (λ v. v.items) c.granted.ensures.bytes)

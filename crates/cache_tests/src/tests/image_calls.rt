@@ -2,7 +2,7 @@
 
 use crate::tests::same;
 use crate::tests::sectors::{Call, Given, cached, call_of, eight_sectors};
-use crate::{ScriptedImage, SectorCache};
+use sector_cache::{ScriptedImage, SectorCache};
 use std::alloc::Global;
 use std::process::Abort;
 use std::test::Fail;

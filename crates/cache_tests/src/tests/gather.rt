@@ -4,7 +4,7 @@ ghost use Rattle.std.specs.Prelude.{◌≡◌, ◌<◌, ◌++◌, IfSome, OnOk};
 ghost use Rattle.std.specs.List.{All, flat_map};
 ghost use Rattle.sector_cache.specs.Sector.{sector_of};
 
-use crate::image::Image;
+use sector_cache::Image;
 use std::alloc::AllocError;
 
 /// Reads these sectors one after another into one list, whatever the image answers. Where its

@@ -4,7 +4,7 @@ use crate::tests::plain::PlainCache;
 use crate::tests::same;
 use crate::tests::sectors::{Call, Given, Numbers, cached, call_of};
 use crate::tests::switched::SwitchedImage;
-use crate::{MemoryImage, SectorCache};
+use sector_cache::{MemoryImage, SectorCache};
 use std::alloc::Global;
 use std::process::Abort;
 use std::test::Fail;

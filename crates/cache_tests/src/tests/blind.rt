@@ -4,7 +4,7 @@ ghost use Rattle.std.specs.Prelude.{◌≡◌, ◌+◌, None};
 ghost use Rattle.std.specs.Bool.{OnTrue, OnFalse};
 ghost use Rattle.std.proofs.Common.{arith};
 
-use crate::image::{Image, ImageError};
+use sector_cache::{Image, ImageError};
 
 /// Four sectors of which nothing is known. Every second call fails, as long as failures are counted.
 #[derive(Drop)]

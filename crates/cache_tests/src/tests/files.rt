@@ -3,7 +3,7 @@
 use crate::tests::memory_file::{MemoryFile, Trouble};
 use crate::tests::sectors::filled;
 use crate::tests::{Answers, NEW, OLD, TORN, ZERO, four_calls, halves, same};
-use crate::{FileCall, FileImage, FileImageFault, Image};
+use sector_cache::{FileCall, FileImage, FileImageFault, Image};
 use std::alloc::Global;
 use std::env::temp_dir;
 use std::fs::OpenOptions;

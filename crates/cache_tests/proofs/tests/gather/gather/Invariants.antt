@@ -1,6 +1,6 @@
 use Rattle.std.proofs.Common.{take}
-use Rattle.sector_cache.proofs.Gathered.{IsGathered}
-use Rattle.sector_cache.proofs.tests.gather.gather.Given as goal
+use Rattle.cache_tests.proofs.Gathered.{IsGathered}
+use Rattle.cache_tests.proofs.tests.gather.gather.Given as goal
 
 abbrev pub invariant-loop-sector : goal.invariant-loop-sector
 invariant-loop-sector g l =

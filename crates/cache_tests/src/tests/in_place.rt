@@ -3,8 +3,8 @@
 use crate::tests::refused::requests_of;
 use crate::tests::same;
 use crate::tests::sectors::{Call, Given, cached, call_of, eight_bytes, eight_sectors, halves_of};
-use crate::{Image, MemoryImage, SectorCache};
 use refusing::RefusingHeap;
+use sector_cache::{Image, MemoryImage, SectorCache};
 use std::alloc::Global;
 use std::process::Abort;
 use std::test::Fail;
