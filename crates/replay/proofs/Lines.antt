@@ -14,7 +14,7 @@ use Rattle.replay.specs.Pieces.{SendsRun}
 use Rattle.trace.specs.Printable.{IsPrintableSlot, SlotInRange}
 use Rattle.trace.specs.Refusals.{IsFine, RefusesLine}
 use Rattle.trace.specs.Events.{BeginsWithEvent, TakesEvent}
-use Rattle.replay.specs.Running.{RunsSaid}
+use Rattle.replay.specs.Running.{HasRoomFor, RunsLine, RunsSaid}
 use Rattle.trace.specs.Said.{said_fields}
 use Rattle.trace.specs.Text.{Content, ended, event_fields, event_line, front_text, joined, text, trace_lines}
 use Rattle.trace.proofs.Entries.{cut_event, entered_event}
@@ -92,12 +92,12 @@ begins_at (e ∷ left) rest more some =
     }
 
 -- what was taken off is the first of the events, and the others are left
-record IsNext {A : Type 0} (e : Event A) (left : List (Event A)) (said : Said) (after : List ℕ) : Type 0 where
+record IsNext {A : Type 0} (e : Event A) (left : List (Event A)) (said : Said A) (after : List ℕ) : Type 0 where
   fields : event_fields e ≡ said_fields said
   fine : IsFine e
   more : AreLinesOf left after
 
-next_is : {A : Type 0} (e : Event A) (left : List (Event A)) (rest : List ℕ) (said : Said) (after : List ℕ) → AreLinesOf (e ∷ left) rest → TakesEvent rest said after → IsNext e left said after
+next_is : {A : Type 0} (e : Event A) (left : List (Event A)) (rest : List ℕ) (said : Said A) (after : List ℕ) → AreLinesOf (e ∷ left) rest → TakesEvent rest said after → IsNext e left said after
 unfolding joined
 next_is e left rest said after more takes =
     let fine = more.fine 0 e (omega arith) in
@@ -111,16 +111,16 @@ next_is e left rest said after more takes =
       more = record { fine = λ k d lt. more.fine (suc k) d (omega arith); spelled = ap (drop 1) (append_cancel_left (event_line e) (10 ∷ after) (10 ∷ joined (map event_line left)) whole) };
     }
 
-none_taken : (rest : List ℕ) (said : Said) (after : List ℕ) → TakesEvent rest said after → rest ≡ [] → ⊥
+none_taken : {A : Type 0} (rest : List ℕ) (said : Said A) (after : List ℕ) → TakesEvent rest said after → rest ≡ [] → ⊥
 none_taken rest said after takes none = omega (arith, ap length (sym none ∙ takes.ended), length-append takes.line (10 ∷ after))
 
 -- there is room for its bytes
-fits_at : {A : Type 0} (left : List (Event A)) (room : ℕ) (rest : List ℕ) (said : Said) (after : List ℕ) → AreLinesOf left rest → HaveRoom room left → TakesEvent rest said after → said_len said.what ≤ room
+fits_at : {A : Type 0} (left : List (Event A)) (room : ℕ) (rest : List ℕ) (said : Said A) (after : List ℕ) → AreLinesOf left rest → HaveRoom room left → TakesEvent rest said after → said_len said ≤ room
 unfolding joined
 fits_at [] room rest said after more fit takes = absurd (none_taken rest said after takes more.spelled)
 fits_at {A} (e ∷ left) room rest said after more fit takes =
     let next = next_is e left rest said after more takes in
-    let it = meant {A = A} said takes.fine in
+    let it = meant said takes.fine in
     let same = same_event_fields it.event e it.fine next.fine (it.fields_are ∙ sym next.fields) in
     let first : bytes_len e.what ≤ room = fit 0 e (omega arith) in
     let len = it.len in
@@ -145,12 +145,12 @@ module _ (A : Type 0) {I : Type 0} (disk : I → Disk) (lines : List ℕ) (room 
   pub begins : length rest ≢ 0 → BeginsWithEvent rest
   begins some = begins_at so.left rest so.more some
 
-  pub fits : (said : Said) (after : List ℕ) → TakesEvent rest said after → said_len said.what ≤ room
+  pub fits : HasRoomFor A rest room
   fits said after takes = fits_at so.left room rest said after so.more so.fit takes
 
 -- one event more
-more_at : (A : Type 0) {I : Type 0} (disk : I → Disk) (lines : List ℕ) (room : ℕ) (old mid new : BoardState I) (rest : List ℕ) (said : Said) (after : List ℕ) (done left : List (Event A)) (a b c s t u : Option (List ℕ))
-    → AreLinesOf (done ++ left) lines → AreLinesOf left rest → HaveRoom room left → SendsRun disk old mid done a b s t → TakesEvent rest said after → RunsSaid A disk said mid new b c t u → RunSofar A disk lines room old new after a c s u
+more_at : (A : Type 0) {I : Type 0} (disk : I → Disk) (lines : List ℕ) (room : ℕ) (old mid new : BoardState I) (rest : List ℕ) (said : Said A) (after : List ℕ) (done left : List (Event A)) (a b c s t u : Option (List ℕ))
+    → AreLinesOf (done ++ left) lines → AreLinesOf left rest → HaveRoom room left → SendsRun disk old mid done a b s t → TakesEvent rest said after → RunsSaid disk said mid new b c t u → RunSofar A disk lines room old new after a c s u
 unfolding joined
 more_at A disk lines room old mid new rest said after done [] a b c s t u whole more fit sent takes it = absurd (none_taken rest said after takes more.spelled)
 more_at A disk lines room old mid new rest said after done (e ∷ left) a b c s t u whole more fit sent takes it =
@@ -167,10 +167,10 @@ more_at A disk lines room old mid new rest said after done (e ∷ left) a b c s 
           (subst (λ (x : Event A). SendsRun disk mid new (x ∷ []) b c t u) same it.run);
     }
 
-pub run_more : (A : Type 0) {I : Type 0} (disk : I → Disk) (lines : List ℕ) (room : ℕ) (old mid new : BoardState I) (rest : List ℕ) (said : Said) (after : List ℕ) (a b c s t u : Option (List ℕ))
-    → RunSofar A disk lines room old mid rest a b s t → TakesEvent rest said after → RunsSaid A disk said mid new b c t u → RunSofar A disk lines room old new after a c s u
-run_more A disk lines room old mid new rest said after a b c s t u so takes it =
-    more_at A disk lines room old mid new rest said after so.done so.left a b c s t u so.whole so.more so.fit so.sent takes it
+pub run_more : (A : Type 0) {I : Type 0} (disk : I → Disk) (lines : List ℕ) (room : ℕ) (old mid new : BoardState I) (rest after : List ℕ) (a b c s t u : Option (List ℕ))
+    → RunSofar A disk lines room old mid rest a b s t → RunsLine A disk rest after mid new b c t u → RunSofar A disk lines room old new after a c s u
+run_more A disk lines room old mid new rest after a b c s t u so it =
+    more_at A disk lines room old mid new rest it.said after so.done so.left a b c s t u so.whole so.more so.fit so.sent it.taken it.ran
 
 -- no line is left
 all_at : (A : Type 0) {I : Type 0} (disk : I → Disk) (lines : List ℕ) (old new : BoardState I) (rest : List ℕ) (done left events : List (Event A)) (a b s t : Option (List ℕ))

@@ -1,5 +1,5 @@
 -- Running the events of lines that were judged, one after another.
-use Rattle.std.specs.Prelude.{◌≡◌, ℕ, List, [], ◌∷◌, Option, None, Some}
+use Rattle.std.specs.Prelude.{◌≡◌, ◌≤◌, ℕ, List, [], ◌∷◌, Option, None, Some}
 use Rattle.guest_memory.specs.Memory.{Inside, part_of}
 use Rattle.std.specs.List.{slice_get}
 use Rattle.sector_cache.specs.Disk.{Disk}
@@ -10,6 +10,8 @@ use Rattle.board.specs.Slot.{BoardSlot, interrupt_words}
 use Rattle.board.specs.World.{Answers, BoardState, extents_of, world_of}
 use Rattle.trace.specs.declared.read.said.Said.{Said}
 use Rattle.replay.specs.Pieces.{SendsRun}
+use Rattle.trace.specs.Events.{TakesEvent}
+use Rattle.trace.specs.Judging.{said_len}
 use Rattle.trace.specs.Refusals.{IsFine}
 use Rattle.trace.specs.Said.{said_fields}
 use Rattle.trace.specs.Text.{event_fields}
@@ -37,16 +39,26 @@ pub record AnswersEvent {A I : Type 0} (disk : I → Disk) (old : BoardState I) 
   pub keeps : KeepsTelling disk old new
 
 -- it answered the event that was said
-pub record AnswersSaid (A : Type 0) {I : Type 0} (disk : I → Disk) (said : Said) (old : BoardState I) (reply : Reply A) (out : List ℕ) (new : BoardState I) : Type 0 where
+pub record AnswersSaid {A I : Type 0} (disk : I → Disk) (said : Said A) (old : BoardState I) (reply : Reply A) (out : List ℕ) (new : BoardState I) : Type 0 where
   pub event : Event A
-  pub slot : event.slot ≡ said.slot
+  pub slot : event.slot ≡ said.event.slot
   pub fields : event_fields event ≡ said_fields said
   pub fine : IsFine event
   pub answered : AnswersEvent disk old event reply out new
 
 -- the event that was said was run, and the text of its record sent
-pub record RunsSaid (A : Type 0) {I : Type 0} (disk : I → Disk) (said : Said) (old new : BoardState I) (before after waiting waiting' : Option (List ℕ)) : Type 0 where
+pub record RunsSaid {A I : Type 0} (disk : I → Disk) (said : Said A) (old new : BoardState I) (before after waiting waiting' : Option (List ℕ)) : Type 0 where
   pub event : Event A
   pub fields : event_fields event ≡ said_fields said
   pub fine : IsFine event
   pub run : SendsRun disk old new (event ∷ []) before after waiting waiting'
+
+-- the bytes of the event that the first of these lines says have room
+abbrev pub HasRoomFor : Type 0 → List ℕ → ℕ → Type 0
+HasRoomFor A lines room = (said : Said A) (after : List ℕ) → TakesEvent lines said after → said_len said ≤ room
+
+-- that event was taken off and run
+pub record RunsLine (A : Type 0) {I : Type 0} (disk : I → Disk) (lines rest : List ℕ) (old new : BoardState I) (before after waiting waiting' : Option (List ℕ)) : Type 0 where
+  pub said : Said A
+  pub taken : TakesEvent lines said rest
+  pub ran : RunsSaid disk said old new before after waiting waiting'

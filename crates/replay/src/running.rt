@@ -3,21 +3,23 @@
 //! Each line is read, its event handled and the text of its record sent before the next. Bytes that it spells are
 //! written into room that is lent.
 
-ghost use Rattle.std.specs.Prelude.{◌≡◌, ◌≤◌, [], List, IfSome, length};
+ghost use Rattle.std.specs.Prelude.{◌≡◌, ◌≤◌, ◌/◌, [], List, IfSome, length};
 ghost use Rattle.std.specs.List.{slice_get};
 ghost use Rattle.board.specs.declared.event.Event.{Event};
 ghost use Rattle.board.specs.declared.event.EventKind.{EventKind};
+ghost use Rattle.trace.specs.Events.{BeginsWithEvent};
 ghost use Rattle.trace.specs.Judging.{AreEventLines, AreLinesOf, said_len};
 ghost use Rattle.replay.specs.Pieces.{SendsRun};
-ghost use Rattle.replay.specs.Running.{AnswersEvent, AnswersSaid, IsPart, RunsSaid, words_of};
+ghost use Rattle.replay.specs.Running.{AnswersEvent, AnswersSaid, HasRoomFor, IsPart, RunsLine, RunsSaid, words_of};
 ghost use Rattle.trace.specs.Said.{IsFineSaid};
 ghost use Rattle.trace.specs.Sends.{waiting};
+ghost use Rattle.trace.specs.Words.{IsBytesField, Says, Bytes as ByBytes};
 
-use board::{Board, Event, EventKind, Reply};
+use board::{Board, EventKind, Reply};
 use sector_cache::Image;
 use std::alloc::Allocator;
 use std::io::Write;
-use trace::{Buffer, Said, What, put_line, put_read, read_bytes, spelled_len, take_event};
+use trace::{Buffer, Said, put_line, put_read, read_bytes, spelled_len, take_event};
 
 /// Runs the events that the lines say, and sends the text of their records. Where the writer fails the run goes on, so
 /// that what becomes of the image isn't decided by the writer.
@@ -36,37 +38,57 @@ pub(crate) fn run_lines<W: Write, I: Image, A: Allocator + Copy>(
     let mut output = Vec::new(alloc);
     let mut rest = lines;
     while !rest.is_empty() {
-        let (said, after) = take_event(rest);
-        run_event(board, said, room, &mut output, text, writer);
-        rest = after;
+        rest = run_line(alloc, board, rest, room, &mut output, text, writer);
     }
+}
+
+// Runs the event that the first line says, sends the text of its record, and answers what follows that line.
+fn run_line<'a, W: Write, I: Image, A: Allocator + Copy>(
+    alloc: A,
+    board: &mut Board<I, A>,
+    lines: &'a [u8],
+    room: &mut [u8],
+    output: &mut Vec<u8, A>,
+    text: &mut Buffer<A>,
+    writer: &mut W,
+) -> &'a [u8]
+    requires begins { BeginsWithEvent lines.now }
+    requires room { HasRoomFor A lines.now (length room.old) }
+    requires empty { output.old.items ≡ [] }
+    ensures ran { RunsLine A I.disk lines.now result.now board.old board.new (W.contents writer.old) (W.contents writer.new) (waiting text.old) (waiting text.new) }
+    ensures empty { output.new.items ≡ [] }
+{
+    let (said, after) = take_event(alloc, lines);
+    run_event(board, &said, room, output, text, writer);
+    after
 }
 
 // Runs an event, and sends the text of its record. What the console puts out waits in `output` meanwhile. Memory that
 // is read is printed where it lies.
 fn run_event<W: Write, I: Image, A: Allocator + Copy>(
     board: &mut Board<I, A>,
-    said: Said<'_>,
+    said: &Said<'_, A>,
     room: &mut [u8],
     output: &mut Vec<u8, A>,
     text: &mut Buffer<A>,
     writer: &mut W,
 )
-    requires fine { IsFineSaid said }
-    requires room { said_len said.what ≤ length room.old }
+    requires fine { IsFineSaid said.now }
+    requires room { said_len said.now ≤ length room.old }
     requires empty { output.old.items ≡ [] }
-    ensures sent { RunsSaid A I.disk said.entry board.old board.new (W.contents writer.old) (W.contents writer.new) (waiting text.old) (waiting text.new) }
+    ensures sent { RunsSaid I.disk said.now board.old board.new (W.contents writer.old) (W.contents writer.new) (waiting text.old) (waiting text.new) }
     ensures empty { output.new.items ≡ [] }
 {
-    if let What::MemRead { addr, len } = said.what {
-        if let Some(part) = part_of(board, said.slot, addr, len) {
-            put_read(text, writer, said.slot, part, words(board, said.slot));
+    let slot = said.event.slot;
+    if let EventKind::MemRead { addr, len } = said.event.what {
+        if let Some(part) = part_of(board, slot, addr, len) {
+            put_read(text, writer, slot, part, words(board, slot));
             return;
         }
     }
     let reply = answer(board, said, room, output);
-    let words = words(board, said.slot);
-    put_line(text, writer, said.slot, &reply, output.as_slice(), words);
+    let words = words(board, slot);
+    put_line(text, writer, slot, &reply, output.as_slice(), words);
     output.clear();
 }
 
@@ -97,51 +119,34 @@ fn words<I: Image, A: Allocator>(board: &Board<I, A>, slot: u8) -> (u8, u8)
 // Handles an event.
 fn answer<I: Image, A: Allocator + Copy>(
     board: &mut Board<I, A>,
-    said: Said<'_>,
+    said: &Said<'_, A>,
     room: &mut [u8],
     output: &mut Vec<u8, A>,
 ) -> Reply<A>
-    requires fine { IsFineSaid said }
-    requires room { said_len said.what ≤ length room.old }
+    requires fine { IsFineSaid said.now }
+    requires room { said_len said.now ≤ length room.old }
     requires empty { output.old.items ≡ [] }
-    ensures { AnswersSaid A I.disk said.entry board.old result output.new.items board.new }
+    ensures { AnswersSaid I.disk said.now board.old result output.new.items board.new }
 {
-    let slot = said.slot;
-    let what = match said.what {
-        What::MemWrite { addr, bytes: field } => {
-            let bytes = &mut room[..spelled_len(field)];
-            read_bytes(field, bytes);
-            return write_memory(board, slot, addr, bytes);
+    let slot = said.event.slot;
+    match said.event.what {
+        EventKind::MemWrite { addr, .. } => {
+            write_memory(board, slot, addr, bytes_in(room, said.bytes))
         }
-        What::Input { bytes: field } => {
-            let bytes = &mut room[..spelled_len(field)];
-            read_bytes(field, bytes);
-            return input(board, slot, bytes);
-        }
-        What::Read {
-            window,
-            offset,
-            width,
-        } => EventKind::Read {
-            window,
-            offset,
-            width,
-        },
-        What::Write {
-            window,
-            offset,
-            width,
-            value,
-        } => EventKind::Write {
-            window,
-            offset,
-            width,
-            value,
-        },
-        What::MemRead { addr, len } => EventKind::MemRead { addr, len },
-        What::Resize { cols, rows } => EventKind::Resize { cols, rows },
-    };
-    board.step(&Event { slot, what }, output)
+        EventKind::Input { .. } => input(board, slot, bytes_in(room, said.bytes)),
+        _ => board.step(&said.event, output),
+    }
+}
+
+// Writes the bytes that a field spells to the front of the room, and answers that front.
+fn bytes_in<'a>(room: &'a mut [u8], field: &[u8]) -> &'a [u8]
+    requires spelled { Says ByBytes field.now }
+    requires room { length field.now / 2 ≤ length room.old }
+    ensures { IsBytesField field.now result.now }
+{
+    let bytes = &mut room[..spelled_len(field)];
+    read_bytes(field, bytes);
+    bytes
 }
 
 // Writes bytes to a slot's memory.

@@ -13,6 +13,7 @@ use Rattle.trace.specs.Text.{header}
 use Rattle.trace.specs.Version.{IsVersion}
 use Rattle.trace.specs.Words.{spelled, shapes}
 use Rattle.trace.proofs.Entries.{Entered, EnteredEvent, same_word}
+use Rattle.trace.proofs.Refused.{may_move}
 
 -- a first line names one version
 pub same_version : (v w : ℕ) (text : List ℕ) → IsOfVersion text v → IsOfVersion text w → v ≡ w
@@ -65,27 +66,6 @@ module _ (version : ℕ) (text : List ℕ) (k : ℕ) (g : Good version text k) w
   good_passes kind.Choice = λ end. good_said kind.Choice
   good_passes kind.Bytes = λ end. good_said kind.Bytes
   good_passes kind.NoMemory = tt
-
--- a word that may stand in line 3 may stand in any later one
-pub may_later : (w : Word) (k : ℕ) → 3 ≤ k → MayStand 3 w → MayStand k w
-may_later Cache k le h = absurd (omega arith)
-may_later Slot k le h = le
-may_later Read k le h = le
-may_later Write k le h = le
-may_later MemRead k le h = le
-may_later MemWrite k le h = le
-may_later Input k le h = le
-may_later Resize k le h = le
-
-pub may_earlier : (w : Word) (k : ℕ) → 3 ≤ k → MayStand k w → MayStand 3 w
-may_earlier Cache k le h = absurd (omega arith)
-may_earlier Slot k le h = omega arith
-may_earlier Read k le h = omega arith
-may_earlier Write k le h = omega arith
-may_earlier MemRead k le h = omega arith
-may_earlier MemWrite k le h = omega arith
-may_earlier Input k le h = omega arith
-may_earlier Resize k le h = omega arith
 
 abbrev pub IsSlotLine : ℕ → List ℕ → Type 0
 IsSlotLine version l = Entered version l Slot
@@ -163,7 +143,7 @@ module _ (version : ℕ) (text k : List ℕ) (S E more : List (List ℕ)) (is : 
                     ended = end;
                     names = at_one;
                     first = λ one. absurd (omega arith);
-                    word = λ _. record { word = e.word; may = may_later e.word j late e.may; first = first_is version (line_at text j) e.word e.entry };
+                    word = λ _. record { word = e.word; may = may_move e.word 3 j (omega arith) late e.may; first = first_is version (line_at text j) e.word e.entry };
                     order = λ is i low high. absurd (e.other (same_word e.word Slot (sym (first_is version (line_at text j) e.word e.entry) ∙ is)));
                     entry = λ _. (e.word, e.entry);
                   }

@@ -13,6 +13,7 @@ use Rattle.trace.specs.Version.{IsVersion}
 use Rattle.trace.specs.Words.{spelled}
 use Rattle.trace.proofs.Clean.{Good, good_passes}
 use Rattle.trace.proofs.Faulty.{cut_fault, fields_fault, header_fault, word_fault}
+use Rattle.trace.proofs.Refused.{only_cache}
 use Rattle.trace.proofs.Signs.{above_header, lines_of-joined}
 use Rattle.trace.proofs.Sofar.{some_lines}
 
@@ -57,16 +58,6 @@ module _ (version : ℕ) (text rest : List ℕ) (one_of : IsVersion version) (wh
 
   at_two : line_at text 2 ≡ get_or (lines_of rest) 0 []
   at_two = ap (λ (ls : List (List ℕ)). get_or ls 1 []) headed
-
-  only_cache : (w : Word) → MayStand 2 w → w ≡ Cache
-  only_cache Cache h = refl
-  only_cache Slot h = absurd (omega arith)
-  only_cache Read h = absurd (omega arith)
-  only_cache Write h = absurd (omega arith)
-  only_cache MemRead h = absurd (omega arith)
-  only_cache MemWrite h = absurd (omega arith)
-  only_cache Input h = absurd (omega arith)
-  only_cache Resize h = absurd (omega arith)
 
   fields_of_cache : (fault : FaultKind) → RefusesCache rest fault → fault ≢ kind.NoMemory → IsFault text 2 fault
   fields_of_cache fault h known =

@@ -22,10 +22,10 @@ use Rattle.trace.proofs.Sofar.{Sofar, all_read, clean, event_read, is_cut, is_re
 use Rattle.trace.proofs.Unique.{no_fault, one_trace, text_clean}
 
 -- a line that says an event was judged, and this is kept of how many bytes it spells
-counted_as : (A : Type 0) (begun : Bool) (line after : List ℕ) (longest longest_line : ℕ) (s : Said) (old new : Judgement) → fields_of line ≡ said_fields s → IsFineSaid s
-    → said_len s.what ≤ longest → old.longest ≤ longest → (1 ≤ old.longest_line → 1 ≤ longest_line) → new ≡ record old { longest = longest; longest_line = longest_line } → JudgesLine A begun line after old new
+counted_as : (A : Type 0) (begun : Bool) (line after : List ℕ) (longest longest_line : ℕ) (s : Said A) (old new : Judgement) → fields_of line ≡ said_fields s → IsFineSaid s
+    → said_len s ≤ longest → old.longest ≤ longest → (1 ≤ old.longest_line → 1 ≤ longest_line) → new ≡ record old { longest = longest; longest_line = longest_line } → JudgesLine A begun line after old new
 counted_as A begun line after longest longest_line s old new is fine fits longer numbered e =
-    let it = meant {A = A} s fine in
+    let it = meant s fine in
     let len = it.len in
     inr (record {
       event = it.event;
@@ -37,15 +37,15 @@ counted_as A begun line after longest longest_line s old new is fine fits longer
     })
 
 -- the same, by whether it spells the most so far
-pub event_judged : (A : Type 0) (begun : Bool) (line after : List ℕ) (n : ℕ) (s : Said) (old new : Judgement) → fields_of line ≡ said_fields s → IsFineSaid s → 1 ≤ n
-    → new ≡ (if nat_lt old.longest (said_len s.what) then record old { longest = said_len s.what; longest_line = n } else old) → JudgesLine A begun line after old new
+pub event_judged : (A : Type 0) (begun : Bool) (line after : List ℕ) (n : ℕ) (s : Said A) (old new : Judgement) → fields_of line ≡ said_fields s → IsFineSaid s → 1 ≤ n
+    → new ≡ (if nat_lt old.longest (said_len s) then record old { longest = said_len s; longest_line = n } else old) → JudgesLine A begun line after old new
 event_judged A begun line after n s old new is fine numbered counted =
-    elim (cases_Bool (nat_lt old.longest (said_len s.what))) [
+    elim (cases_Bool (nat_lt old.longest (said_len s))) [
       | inl more ↦
-          let lt = ltb-true old.longest (said_len s.what) more in
-          counted_as A begun line after (said_len s.what) n s old new is fine (omega arith) (omega arith) (λ _. numbered) (rw more at counted)
+          let lt = ltb-true old.longest (said_len s) more in
+          counted_as A begun line after (said_len s) n s old new is fine (omega arith) (omega arith) (λ _. numbered) (rw more at counted)
       | inr same ↦
-          let le = ltb-false old.longest (said_len s.what) same in
+          let le = ltb-false old.longest (said_len s) same in
           counted_as A begun line after old.longest old.longest_line s old new is fine le (omega arith) (λ h. h) (rw same at counted)
     ]
 

@@ -1,5 +1,5 @@
--- A line that is refused for its fields is refused.
-use Rattle.std.proofs.Common.{◌≡◌, ◌≢◌, ℕ, [], ◌∷◌, Bool, true, List, get_or, drop, refl, sym, ap, subst, arith}
+-- Where a word may stand, and a line that is refused for its fields.
+use Rattle.std.proofs.Common.{◌≡◌, ◌≢◌, ℕ, ◌≤◌, ◌⊎◌, [], ◌∷◌, Bool, true, List, get_or, drop, refl, sym, ap, subst, arith, inl, inr}
 use Rattle.trace.specs.declared.fault.FaultKind.{FaultKind}
 use Rattle.trace.specs.declared.fault.FaultKind.TheVariants as kind
 use Rattle.trace.specs.declared.word.Word.{Word}
@@ -8,6 +8,37 @@ use Rattle.trace.specs.Cuts.{fields_of}
 use Rattle.trace.specs.Faults.{MayStand, other_fields}
 use Rattle.trace.specs.Refusals.{RefusesFields, RefusesLine, RefusesAfterWord}
 use Rattle.trace.specs.Words.{spelled}
+
+-- only `cache` stands in line 2, and the others in each line from the third on
+place_of : (w : Word) → (w ≡ Cache) ⊎ ((k : ℕ) → (MayStand k w → 3 ≤ k) × (3 ≤ k → MayStand k w))
+place_of Cache = inl refl
+place_of Slot = inr (λ k. (λ h. h, λ h. h))
+place_of Read = inr (λ k. (λ h. h, λ h. h))
+place_of Write = inr (λ k. (λ h. h, λ h. h))
+place_of MemRead = inr (λ k. (λ h. h, λ h. h))
+place_of MemWrite = inr (λ k. (λ h. h, λ h. h))
+place_of Input = inr (λ k. (λ h. h, λ h. h))
+place_of Resize = inr (λ k. (λ h. h, λ h. h))
+
+not_late : (k : ℕ) → 3 ≤ k → k ≡ 2 → ⊥
+not_late k late two = omega arith
+
+-- a word of the lines after the second
+pub may_stand : (word : Word) → word ≢ Cache → MayStand 3 word
+may_stand word other = elim (place_of word) [ inl is ↦ absurd (other is) | inr place ↦ (place 3).1 (omega arith) ]
+
+-- one that may stand in a later line may stand in each of them
+pub may_move : (w : Word) (j k : ℕ) → 3 ≤ j → 3 ≤ k → MayStand j w → MayStand k w
+may_move w j k late le h =
+    elim (place_of w) [
+      | inl is ↦ absurd (not_late j late (subst (MayStand j) is h))
+      | inr place ↦ (place k).1 le
+    ]
+
+pub only_cache : (w : Word) → MayStand 2 w → w ≡ Cache
+only_cache w h = elim (place_of w) [ inl is ↦ is | inr place ↦ absurd (not_late 2 ((place 2).0 h) refl) ]
+
+-- ---- a line that is refused
 
 after : (version : ℕ) (begun : Bool) (line : List ℕ) (word : Word) (fault : FaultKind) (fields : List (List ℕ)) → MayStand 3 word → fields_of line ≡ spelled word ∷ fields → (begun ≡ true → word ≡ Slot → ⊥) → RefusesFields version word fields fault → RefusesAfterWord version begun line fault
 after version begun line word fault fields may is ordered h =
@@ -30,14 +61,3 @@ refused_after version begun line word kind.Number fields may is ordered h = afte
 refused_after version begun line word kind.Choice fields may is ordered h = after version begun line word kind.Choice fields may is ordered h
 refused_after version begun line word kind.Bytes fields may is ordered h = after version begun line word kind.Bytes fields may is ordered h
 refused_after version begun line word kind.NoMemory fields may is ordered h = absurd h
-
--- a word of the lines after the second
-pub may_stand : (word : Word) → word ≢ Cache → MayStand 3 word
-may_stand Cache other = absurd (other refl)
-may_stand Slot other = omega arith
-may_stand Read other = omega arith
-may_stand Write other = omega arith
-may_stand MemRead other = omega arith
-may_stand MemWrite other = omega arith
-may_stand Input other = omega arith
-may_stand Resize other = omega arith

@@ -15,9 +15,10 @@ use Rattle.trace.specs.Printable.{InRange, IsPrintable, EventInRange, IsPrintabl
 use Rattle.trace.specs.Version.{IsVersion}
 use Rattle.trace.specs.Refusals.{AddsLine, IsFine, IsFineSlot, RefusesLine, RefusesAfterWord, has_begun}
 use Rattle.trace.specs.Text.{Content, ended, header, joined, text, line, cache_fields, cache_line, slot_fields, slot_line, event_fields, event_line, trace_lines}
-use Rattle.trace.proofs.Clean.{Good, IsSlotLine, good, good_passes, only_slots, one_event, may_earlier, may_later}
+use Rattle.trace.proofs.Clean.{Good, IsSlotLine, good, good_passes, only_slots, one_event}
 use Rattle.trace.proofs.Entries.{EnteredEvent, entered_cache, entered_event, entered_slot, same_word}
 use Rattle.trace.proofs.Faulty.{cut_fault, fields_fault, order_fault, word_fault}
+use Rattle.trace.proofs.Refused.{may_move}
 use Rattle.trace.proofs.Signs.{AllAbove, above_header, above_lines, joined_push, line-fields_of, lines_of-joined}
 
 -- what has a text
@@ -116,14 +117,14 @@ module _ {A : Type 0} (text : List ℕ) (c : Content A) (k : ℕ) (rest : List �
   fault_after : (begun : Bool) (fault : FaultKind) → IsEnded text k → 2 ≤ k → (begun ≡ false → length c.events ≡ 0) → RefusesAfterWord c.version begun (line_at text k) fault → fault ≢ kind.NoMemory → IsFault text k fault
   fault_after begun fault end late none r known =
       let count = s.count in
-      fields_fault text k late clean end c.version names_it r.word (may_later r.word k (omega arith) r.may) r.first (ordered begun fault end none r) fault r.refused known
+      fields_fault text k late clean end c.version names_it r.word (may_move r.word 3 k (omega arith) (omega arith) r.may) r.first (ordered begun fault end none r) fault r.refused known
 
   refused : (begun : Bool) (fault : FaultKind) → IsEnded text k → 2 ≤ k → (begun ≡ true → 0 < length c.events) → (begun ≡ false → length c.events ≡ 0) → RefusesLine c.version begun (line_at text k) fault → fault ≢ kind.NoMemory → IsFault text k fault
   refused begun kind.Cut end late some none h known = fault_after begun kind.Cut end late none h known
   refused begun kind.Header end late some none h known = fault_after begun kind.Header end late none h known
   refused begun kind.Word end late some none h known =
       let count = s.count in
-      word_fault text k late clean end (λ w may is. h w (may_earlier w k (omega arith) may) is)
+      word_fault text k late clean end (λ w may is. h w (may_move w k 3 (omega arith) (omega arith) may) is)
   refused begun kind.Order end late some none h known =
       let count = s.count in
       let begins = some h.0 in

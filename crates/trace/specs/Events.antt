@@ -14,7 +14,7 @@ pub record BeginsWithEvent (text : List ℕ) : Type 0 where
   pub never : (fault : FaultKind) → ¬ RefusesLine 2 true line fault
 
 -- that line was taken off, and says this
-pub record TakesEvent (text : List ℕ) (said : Said) (after : List ℕ) : Type 0 where
+pub record TakesEvent {A : Type 0} (text : List ℕ) (said : Said A) (after : List ℕ) : Type 0 where
   pub line : List ℕ
   pub ended : text ≡ line ++ 10 ∷ after
   pub lines : lines_of text ≡ line ∷ lines_of after

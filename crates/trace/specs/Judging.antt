@@ -5,22 +5,19 @@ use Rattle.board.specs.declared.event.EventKind.{EventKind}
 use Rattle.board.specs.declared.event.EventKind.TheVariants as event
 use Rattle.board.specs.declared.spec.SlotSpec.{SlotSpec}
 use Rattle.trace.specs.declared.read.judging.Judged.{Judged}
-use Rattle.trace.specs.declared.read.said.What.{What}
-use Rattle.trace.specs.declared.read.said.What.TheVariants as what
+use Rattle.trace.specs.declared.read.said.Said.{Said}
 use Rattle.trace.specs.Refusals.{IsFine, SaysEvent, SaysSlot}
 use Rattle.trace.specs.Reading.{IsTraceOf}
 use Rattle.trace.specs.Text.{Content, event_line, joined}
 
--- how many bytes an event has, and how many a field spells
+-- how many bytes an event has, and how many are still spelled
 abbrev pub bytes_len : {A : Type 0} → EventKind A → ℕ
 bytes_len (event.MemWrite addr bs) = length bs
 bytes_len (event.Input bs) = length bs
 bytes_len _ = 0
 
-abbrev pub said_len : What → ℕ
-said_len (what.MemWrite addr field) = length field.now / 2
-said_len (what.Input field) = length field.now / 2
-said_len _ = 0
+abbrev pub said_len : {A : Type 0} → Said A → ℕ
+said_len s = length s.bytes.now / 2
 
 -- these are the lines of the events
 pub record AreLinesOf {A : Type 0} (events : List (Event A)) (lines : List ℕ) : Type 0 where

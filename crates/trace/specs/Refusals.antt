@@ -52,7 +52,7 @@ abbrev pub RefusesFieldsOf : Word → List (List ℕ) → FaultKind → Type 0
 RefusesFieldsOf word fields fault = (version : ℕ) → RefusesFields version word fields fault
 
 -- the fields of what was read
-abbrev pub entry_fields : ℕ → Entry → List (List ℕ)
+abbrev pub entry_fields : {A : Type 0} → ℕ → Entry A → List (List ℕ)
 entry_fields version (entry.Slot s) = slot_fields version s
 entry_fields version (entry.Event s) = said_fields s
 
@@ -62,7 +62,7 @@ pub record IsFineSlot (version : ℕ) (s : SlotSpec) : Type 0 where
   pub printable : IsPrintableSlot version s
 
 -- what was read has a line, and a slot comes before every event
-abbrev pub IsFineEntry : ℕ → Bool → Entry → Type 0
+abbrev pub IsFineEntry : {A : Type 0} → ℕ → Bool → Entry A → Type 0
 IsFineEntry version begun (entry.Slot s) = IsFineSlot version s × (begun ≡ true → ⊥)
 IsFineEntry version begun (entry.Event s) = IsFineSaid s
 
@@ -148,7 +148,7 @@ abbrev pub AddsLine : {A : Type 0} → Content A → List ℕ → Content A → 
 AddsLine old line new = AddsSlot old line new ⊎ AddsEvent old line new
 
 -- the event that was said was added
-pub record AddsSaid {A : Type 0} (said : Said) (old new : List (Event A)) : Type 0 where
+pub record AddsSaid {A : Type 0} (said : Said A) (old new : List (Event A)) : Type 0 where
   pub event : Event A
   pub fields : event_fields event ≡ said_fields said
   pub fine : IsFine event

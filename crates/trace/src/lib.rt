@@ -28,7 +28,7 @@ pub use print::{
     Buffer, is_printable, print_records, print_trace, put_line, put_read, write_whole,
 };
 pub use read::{
-    Judged, Said, What, event_of_line, field_at_fault, first_word, judge, line_of, read_bytes,
+    Judged, Said, event_of_line, field_at_fault, first_word, judge, line_of, read_bytes,
     read_trace, spelled_len, take_event,
 };
 pub use round_trip::read_back;

@@ -38,7 +38,7 @@ pub use crate::read::event_line::event_of_line;
 pub use crate::read::events::take_event;
 use crate::read::fields::sectors_of;
 pub use crate::read::judging::{Judged, judge};
-pub use crate::read::said::{Said, What};
+pub use crate::read::said::Said;
 use crate::trace::Trace;
 use crate::version::{VERSION_1, version_of};
 use crate::word::{Word, is_cache};
@@ -132,7 +132,7 @@ fn add_line<A: Allocator + Copy>(
         RefusesLine trace.old.version (has_begun (content trace.old)) line.now fault) }
 {
     let begun = !trace.events.is_empty();
-    let added = match entry_of(trace.version, line, begun) {
+    let added = match entry_of(alloc, trace.version, line, begun) {
         Ok(Entry::Slot(slot)) => trace.slots.push(slot).is_ok(),
         Ok(Entry::Event(said)) => add_event(alloc, &mut trace.events, said).is_ok(),
         Err(fault) => return Err(fault),
@@ -147,12 +147,12 @@ fn add_line<A: Allocator + Copy>(
 fn add_event<A: Allocator>(
     alloc: A,
     events: &mut Vec<Event<A>, A>,
-    said: Said<'_>,
+    said: Said<'_, A>,
 ) -> Result<(), AllocError>
     requires { IsFineSaid said }
     ensures { OnOk result (AddsSaid said.entry events.old.items events.new.items) }
 {
-    let event = said.event(alloc)?;
+    let event = said.into_event(alloc)?;
     events.push(event)?;
     Ok(())
 }

@@ -15,29 +15,40 @@ use crate::read::frequent::frequent;
 use crate::read::said::Said;
 use crate::word::{Word, word_of};
 use board::SlotSpec;
+use std::alloc::Allocator;
 
 /// What one line after the second is.
-#[derive(Clone, Copy)]
-pub(crate) enum Entry<'a> {
+#[derive(Drop)]
+pub(crate) enum Entry<'a, A: Allocator> {
     Slot(SlotSpec),
-    Event(Said<'a>),
+    Event(Said<'a, A>),
 }
 
 /// The slot or the event that a line is in a version, where events may have `begun` before it.
-pub(crate) fn entry_of(version: u8, line: &[u8], begun: bool) -> Result<Entry<'_>, FaultKind>
+pub(crate) fn entry_of<A: Allocator + Copy>(
+    alloc: A,
+    version: u8,
+    line: &[u8],
+    begun: bool,
+) -> Result<Entry<'_, A>, FaultKind>
     requires { IsVersion version }
     ensures ok { IfOk result (λ entry. fields_of line.now ≡ entry_fields version entry) }
     ensures fine { IfOk result (IsFineEntry version begun) }
     ensures err { IfErr result (λ fault. RefusesLine version begun line.now fault) }
 {
-    match frequent(line) {
+    match frequent(alloc, line) {
         Some(said) => Ok(Entry::Event(said)),
-        None => by_fields(version, line, begun),
+        None => by_fields(alloc, version, line, begun),
     }
 }
 
 /// The same of any line, field by field.
-pub(crate) fn by_fields(version: u8, line: &[u8], begun: bool) -> Result<Entry<'_>, FaultKind>
+pub(crate) fn by_fields<A: Allocator>(
+    alloc: A,
+    version: u8,
+    line: &[u8],
+    begun: bool,
+) -> Result<Entry<'_, A>, FaultKind>
     requires { IsVersion version }
     ensures ok { IfOk result (λ entry. fields_of line.now ≡ entry_fields version entry) }
     ensures fine { IfOk result (IsFineEntry version begun) }
@@ -54,7 +65,7 @@ pub(crate) fn by_fields(version: u8, line: &[u8], begun: bool) -> Result<Entry<'
             Some(slot) => Ok(Entry::Slot(slot)),
             None => Err(fault_in(version, word, rest)),
         },
-        _ => match event_of(word, rest) {
+        _ => match event_of(alloc, word, rest) {
             Some(said) => Ok(Entry::Event(said)),
             None => Err(fault_in(version, word, rest)),
         },

@@ -11,11 +11,14 @@ use board::Event;
 use std::alloc::Allocator;
 
 /// The event that a line says, without its line feed. There is none where it says none.
-pub fn event_of_line<A: Allocator>(alloc: A, line: &[u8]) -> Result<Option<Event<A>>, NoMemory>
+pub fn event_of_line<A: Allocator + Copy>(
+    alloc: A,
+    line: &[u8],
+) -> Result<Option<Event<A>>, NoMemory>
     ensures { IfOk result (λ found. IfSome found (λ event. event_fields event ≡ fields_of line.now)) }
 {
-    match entry_of(VERSION_2, line, true) {
-        Ok(Entry::Event(said)) => match said.event(alloc) {
+    match entry_of(alloc, VERSION_2, line, true) {
+        Ok(Entry::Event(said)) => match said.into_event(alloc) {
             Ok(event) => Ok(Some(event)),
             Err(_) => Err(NoMemory),
         },

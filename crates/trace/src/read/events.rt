@@ -12,28 +12,29 @@ use crate::read::entry::{Entry, by_fields};
 use crate::read::frequent::frequent;
 use crate::read::said::Said;
 use crate::version::VERSION_2;
+use std::alloc::Allocator;
 
 /// The event of the first line, and what follows that.
-pub fn take_event(rest: &[u8]) -> (Said<'_>, &[u8])
+pub fn take_event<A: Allocator + Copy>(alloc: A, rest: &[u8]) -> (Said<'_, A>, &[u8])
     requires { BeginsWithEvent rest.now }
     ensures { TakesEvent rest.now result.0 result.1.now }
 {
     let Some((line, after)) = take_line(rest) else {
         unreachable!()
     };
-    (event_of(line), after)
+    (event_of(alloc, line), after)
 }
 
 // The event that a line says.
-fn event_of(line: &[u8]) -> Said<'_>
+fn event_of<A: Allocator + Copy>(alloc: A, line: &[u8]) -> Said<'_, A>
     requires { (fault : FaultKind) → ¬ RefusesLine 2 true line.now fault }
     ensures fields { fields_of line.now ≡ said_fields result }
     ensures fine { IsFineSaid result }
 {
-    if let Some(said) = frequent(line) {
+    if let Some(said) = frequent(alloc, line) {
         return said;
     }
-    match by_fields(VERSION_2, line, true) {
+    match by_fields(alloc, VERSION_2, line, true) {
         Ok(Entry::Event(said)) => said,
         _ => unreachable!(),
     }

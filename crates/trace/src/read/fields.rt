@@ -13,14 +13,15 @@ ghost use Rattle.trace.specs.Values.{AreOf};
 ghost use Rattle.trace.specs.Version.{IsVersion, identity_in_version_1, in_version_2};
 ghost use Rattle.trace.specs.Words.{AreRight, Identity as ByIdentity, shapes, spelled};
 
-use crate::read::said::{Said, What};
+use crate::read::said::Said;
 use crate::read::values::values_of;
 use crate::value::FieldValue::{
     self, Identity, Mode, Number, Offset, Spelled, Value, Width, Window,
 };
 use crate::version::{VERSION_1, VERSION_2, identity_in_version_1};
 use crate::word::Word;
-use board::{Extent, SlotSpec};
+use board::{EventKind, Extent, SlotSpec};
+use std::alloc::Allocator;
 
 /// The capacity of the cache that the fields after its word say.
 pub(crate) fn sectors_of(rest: Option<&[u8]>) -> Option<u32>
@@ -35,7 +36,11 @@ pub(crate) fn sectors_of(rest: Option<&[u8]>) -> Option<u32>
 }
 
 /// The event that the fields after a word say. They are the same in each version.
-pub(crate) fn event_of(word: Word, rest: Option<&[u8]>) -> Option<Said<'_>>
+pub(crate) fn event_of<A: Allocator>(
+    alloc: A,
+    word: Word,
+    rest: Option<&[u8]>,
+) -> Option<Said<'_, A>>
     requires not_cache { word ≢ Word.Cache }
     requires not_slot { word ≢ Word.Slot }
     ensures fields { IfSome result (λ e. said_fields e ≡ spelled word ∷ fields_left (option_copied rest.entry)) }
@@ -43,11 +48,11 @@ pub(crate) fn event_of(word: Word, rest: Option<&[u8]>) -> Option<Said<'_>>
     ensures none { IfNone result ((version : ℕ) → ¬ AreRight version word (fields_left (option_copied rest.entry))) }
 {
     let values = values_of(VERSION_2, word, rest)?;
-    Some(said_of(word, &values))
+    Some(said_of(alloc, word, &values))
 }
 
 // What the values after a word say.
-fn said_of<'a>(word: Word, values: &[FieldValue<'a>]) -> Said<'a>
+fn said_of<'a, A: Allocator>(alloc: A, word: Word, values: &[FieldValue<'a>]) -> Said<'a, A>
     requires not_cache { word ≢ Word.Cache }
     requires not_slot { word ≢ Word.Slot }
     requires values { AreOf (shapes 2 word (map value_text values.now)) values.now }
@@ -61,33 +66,27 @@ fn said_of<'a>(word: Word, values: &[FieldValue<'a>]) -> Said<'a>
             let &[Number(slot), Number(addr), Number(len)] = values else {
                 unreachable!()
             };
-            let (slot, len) = (slot as u8, len as u32);
-            let what = What::MemRead { addr, len };
-            Said { slot, what }
+            let len = len as u32;
+            Said::plain(slot as u8, EventKind::MemRead { addr, len })
         }
         Word::MemWrite => {
             let &[Number(slot), Number(addr), Spelled(bytes)] = values else {
                 unreachable!()
             };
-            let slot = slot as u8;
-            let what = What::MemWrite { addr, bytes };
-            Said { slot, what }
+            Said::mem_write(alloc, slot as u8, addr, bytes)
         }
         Word::Input => {
             let &[Number(slot), Spelled(bytes)] = values else {
                 unreachable!()
             };
-            let slot = slot as u8;
-            let what = What::Input { bytes };
-            Said { slot, what }
+            Said::input(alloc, slot as u8, bytes)
         }
         Word::Resize => {
             let &[Number(slot), Number(cols), Number(rows)] = values else {
                 unreachable!()
             };
-            let (slot, cols, rows) = (slot as u8, cols as u16, rows as u16);
-            let what = What::Resize { cols, rows };
-            Said { slot, what }
+            let (cols, rows) = (cols as u16, rows as u16);
+            Said::plain(slot as u8, EventKind::Resize { cols, rows })
         }
         Word::Cache | Word::Slot => unreachable!(),
     }
@@ -95,7 +94,7 @@ fn said_of<'a>(word: Word, values: &[FieldValue<'a>]) -> Said<'a>
 
 // What those of a read of a register say.
 #[tactic(auto, using(crate::proofs::Numbers::num_width))]
-fn read_of<'a>(values: &[FieldValue<'a>]) -> Said<'a>
+fn read_of<'a, A: Allocator>(values: &[FieldValue<'a>]) -> Said<'a, A>
     requires { AreOf (shapes 2 Word.Read (map value_text values.now)) values.now }
     ensures fields { said_fields result ≡ spelled Word.Read ∷ map value_text values.now }
     ensures fine { IsFineSaid result }
@@ -103,17 +102,16 @@ fn read_of<'a>(values: &[FieldValue<'a>]) -> Said<'a>
     let &[Number(slot), Window(window), Offset(offset), Width(width)] = values else {
         unreachable!()
     };
-    let slot = slot as u8;
-    let what = What::Read {
+    let what = EventKind::Read {
         window,
         offset,
         width,
     };
-    Said { slot, what }
+    Said::plain(slot as u8, what)
 }
 
 // What those of a write say, whose value is read by the width before it.
-fn write_of<'a>(values: &[FieldValue<'a>]) -> Said<'a>
+fn write_of<'a, A: Allocator>(values: &[FieldValue<'a>]) -> Said<'a, A>
     requires { AreOf (shapes 2 Word.Write (map value_text values.now)) values.now }
     ensures fields { said_fields result ≡ spelled Word.Write ∷ map value_text values.now }
     ensures fine { IsFineSaid result }
@@ -128,14 +126,13 @@ fn write_of<'a>(values: &[FieldValue<'a>]) -> Said<'a>
     else {
         unreachable!()
     };
-    let slot = slot as u8;
-    let what = What::Write {
+    let what = EventKind::Write {
         window,
         offset,
         width,
         value,
     };
-    Said { slot, what }
+    Said::plain(slot as u8, what)
 }
 
 /// The slot that the fields after its word say in a version.

@@ -11,12 +11,13 @@ ghost use Rattle.trace.specs.Words.{IsWidth, spelled};
 use crate::read::bytes::are_bytes;
 use crate::read::choice::{width_of, window_of};
 use crate::read::number::{fixed_number, number_u8, number_u32, offset_of, take_number};
-use crate::read::said::{Said, What};
+use crate::read::said::Said;
 use crate::word::Word;
-use board::DeviceKind;
+use board::{DeviceKind, EventKind};
+use std::alloc::Allocator;
 
 /// The event of a line that is spelled so.
-pub(crate) fn frequent(line: &[u8]) -> Option<Said<'_>>
+pub(crate) fn frequent<A: Allocator>(alloc: A, line: &[u8]) -> Option<Said<'_, A>>
     ensures line { IfSome result (λ e. line.now ≡ said_line e) }
     ensures fine { IfSome result IsFineSaid }
 {
@@ -24,14 +25,14 @@ pub(crate) fn frequent(line: &[u8]) -> Option<Said<'_>>
         [b'r', b' ', rest @ ..] => read_in(rest),
         [b'w', b' ', rest @ ..] => write_in(rest),
         [b'm', b'r', b' ', rest @ ..] => mem_read_in(rest),
-        [b'm', b'w', b' ', rest @ ..] => mem_write_in(rest),
+        [b'm', b'w', b' ', rest @ ..] => mem_write_in(alloc, rest),
         _ => None,
     }
 }
 
 // The event that these bytes after its word and a space say.
 #[tactic(auto, unfolding(crate::specs::Said::said_line))]
-fn read_in(rest: &[u8]) -> Option<Said<'_>>
+fn read_in<A: Allocator>(rest: &[u8]) -> Option<Said<'_, A>>
     ensures line { IfSome result (λ e. spelled Word.Read ++ 32 ∷ rest.now ≡ said_line e) }
     ensures fine { IfSome result IsFineSaid }
 {
@@ -39,16 +40,16 @@ fn read_in(rest: &[u8]) -> Option<Said<'_>>
     if !rest.is_empty() {
         return None;
     }
-    let what = What::Read {
+    let what = EventKind::Read {
         window,
         offset,
         width,
     };
-    Some(Said { slot, what })
+    Some(Said::plain(slot, what))
 }
 
 #[tactic(auto, unfolding(crate::specs::Said::said_line))]
-fn write_in(rest: &[u8]) -> Option<Said<'_>>
+fn write_in<A: Allocator>(rest: &[u8]) -> Option<Said<'_, A>>
     ensures line { IfSome result (λ e. spelled Word.Write ++ 32 ∷ rest.now ≡ said_line e) }
     ensures fine { IfSome result IsFineSaid }
 {
@@ -57,28 +58,27 @@ fn write_in(rest: &[u8]) -> Option<Said<'_>>
         return None;
     };
     let value = fixed_number(value, 2 * width as usize)?;
-    let what = What::Write {
+    let what = EventKind::Write {
         window,
         offset,
         width,
         value,
     };
-    Some(Said { slot, what })
+    Some(Said::plain(slot, what))
 }
 
 #[tactic(auto, unfolding(crate::specs::Said::said_line))]
-fn mem_read_in(rest: &[u8]) -> Option<Said<'_>>
+fn mem_read_in<A: Allocator>(rest: &[u8]) -> Option<Said<'_, A>>
     ensures line { IfSome result (λ e. spelled Word.MemRead ++ 32 ∷ rest.now ≡ said_line e) }
     ensures fine { IfSome result IsFineSaid }
 {
     let (slot, addr, len) = place(rest)?;
     let len = number_u32(len)?;
-    let what = What::MemRead { addr, len };
-    Some(Said { slot, what })
+    Some(Said::plain(slot, EventKind::MemRead { addr, len }))
 }
 
 #[tactic(auto, unfolding(crate::specs::Said::said_line))]
-fn mem_write_in(rest: &[u8]) -> Option<Said<'_>>
+fn mem_write_in<A: Allocator>(alloc: A, rest: &[u8]) -> Option<Said<'_, A>>
     ensures line { IfSome result (λ e. spelled Word.MemWrite ++ 32 ∷ rest.now ≡ said_line e) }
     ensures fine { IfSome result IsFineSaid }
 {
@@ -86,8 +86,7 @@ fn mem_write_in(rest: &[u8]) -> Option<Said<'_>>
     if !are_bytes(bytes) {
         return None;
     }
-    let what = What::MemWrite { addr, bytes };
-    Some(Said { slot, what })
+    Some(Said::mem_write(alloc, slot, addr, bytes))
 }
 
 /// The slot, the window, the offset and the width of a register access, of which the last three stand in fixed

@@ -55,7 +55,7 @@ pub fn judge<A: Allocator + Copy>(alloc: A, text: &[u8]) -> Result<Judged<'_, A>
             return Err(TraceFault { line, kind });
         };
         let begun = judged.events.len() != rest.len();
-        if let Err(kind) = judged.judge_line(line, begun, this, after) {
+        if let Err(kind) = judged.judge_line(alloc, line, begun, this, after) {
             return Err(TraceFault { line, kind });
         }
         rest = after;
@@ -64,7 +64,7 @@ pub fn judge<A: Allocator + Copy>(alloc: A, text: &[u8]) -> Result<Judged<'_, A>
     Ok(judged)
 }
 
-impl<'a, A: Allocator> Judged<'a, A> {
+impl<'a, A: Allocator + Copy> Judged<'a, A> {
     /// The fault where there is no room for the bytes of a line.
     pub fn no_room(&self) -> TraceFault
         ensures line { result.line ≡ self.now.longest_line }
@@ -80,6 +80,7 @@ impl<'a, A: Allocator> Judged<'a, A> {
     // changed.
     fn judge_line(
         &mut self,
+        alloc: A,
         line: u64,
         begun: bool,
         this: &[u8],
@@ -91,11 +92,11 @@ impl<'a, A: Allocator> Judged<'a, A> {
         ensures err { IfErr result (λ fault. fault ≢ FaultKind.NoMemory →
             RefusesLine self.old.version begun this.now fault) }
     {
-        if let Some(said) = frequent(this) {
+        if let Some(said) = frequent(alloc, this) {
             self.count(line, said.spelled_len());
             return Ok(());
         }
-        match by_fields(self.version, this, begun) {
+        match by_fields(alloc, self.version, this, begun) {
             Ok(Entry::Slot(slot)) => {
                 if self.slots.push(slot).is_err() {
                     return Err(FaultKind::NoMemory);

@@ -2,7 +2,8 @@
 //!
 //! Its bytes are left in the field that spells them, so it takes no memory.
 
-ghost use Rattle.std.specs.Prelude.{◌≡◌, ◌/◌, IfOk};
+ghost use Rattle.std.specs.Prelude.{◌≡◌, ◌/◌, [], IfOk};
+ghost use Rattle.board.specs.declared.event.EventKind.{EventKind};
 ghost use Rattle.trace.specs.Judging.{said_len};
 ghost use Rattle.trace.specs.Refusals.{IsFine};
 ghost use Rattle.trace.specs.Said.{IsFineSaid, said_fields};
@@ -10,99 +11,86 @@ ghost use Rattle.trace.specs.Text.{event_fields};
 ghost use Rattle.trace.specs.Words.{IsBytesField, Says, Bytes as ByBytes};
 
 use crate::read::bytes::{read_bytes, spelled_len};
-use board::{Bytes, DeviceKind, Event, EventKind};
-use std::alloc::{AllocError, Allocator};
+use board::{Bytes, Event, EventKind};
+use std::alloc::{AllocError, Allocator, Global};
 
 /// What a line after the slots says.
-#[derive(Clone, Copy)]
-pub struct Said<'a> {
-    pub slot: u8,
-    pub what: What<'a>,
+#[derive(Drop)]
+pub struct Said<'a, A: Allocator = Global> {
+    /// The event, with none of its bytes.
+    pub event: Event<A>,
+    /// The field that spells them, empty where an event has no bytes.
+    pub bytes: &'a [u8],
 }
 
-/// What is done, by the kinds of an event.
-#[derive(Clone, Copy)]
-pub enum What<'a> {
-    Read {
-        window: DeviceKind,
-        offset: u16,
-        width: u8,
-    },
-    Write {
-        window: DeviceKind,
-        offset: u16,
-        width: u8,
-        value: u32,
-    },
-    MemRead {
-        addr: u64,
-        len: u32,
-    },
-    MemWrite {
-        addr: u64,
-        bytes: &'a [u8],
-    },
-    Input {
-        bytes: &'a [u8],
-    },
-    Resize {
-        cols: u16,
-        rows: u16,
-    },
-}
-
-impl Said<'_> {
-    /// How many bytes it spells.
-    pub fn spelled_len(&self) -> usize
-        ensures { result ≡ said_len self.now.what }
+impl<'a, A: Allocator> Said<'a, A> {
+    /// An event without bytes.
+    pub(crate) fn plain(slot: u8, what: EventKind<A>) -> Said<'a, A>
+        ensures event { result.event ≡ record { slot = slot; what = what } }
+        ensures bytes { result.bytes.now ≡ [] }
     {
-        match self.what {
-            What::MemWrite { bytes, .. } | What::Input { bytes } => spelled_len(bytes),
-            _ => 0,
+        Said {
+            event: Event { slot, what },
+            bytes: &[],
         }
     }
 
+    /// A write to memory of the bytes that a field spells.
+    pub(crate) fn mem_write(alloc: A, slot: u8, addr: u64, bytes: &'a [u8]) -> Said<'a, A>
+        ensures event { result.event ≡ record { slot = slot; what = EventKind.MemWrite addr [] } }
+        ensures bytes { result.bytes.now ≡ bytes.now }
+    {
+        let what = EventKind::MemWrite {
+            addr,
+            bytes: Bytes::new(alloc),
+        };
+        Said {
+            event: Event { slot, what },
+            bytes,
+        }
+    }
+
+    /// Console input of the bytes that a field spells.
+    pub(crate) fn input(alloc: A, slot: u8, bytes: &'a [u8]) -> Said<'a, A>
+        ensures event { result.event ≡ record { slot = slot; what = EventKind.Input [] } }
+        ensures bytes { result.bytes.now ≡ bytes.now }
+    {
+        let what = EventKind::Input {
+            bytes: Bytes::new(alloc),
+        };
+        Said {
+            event: Event { slot, what },
+            bytes,
+        }
+    }
+
+    /// How many bytes it spells.
+    pub fn spelled_len(&self) -> usize
+        ensures { result ≡ said_len self.now }
+    {
+        spelled_len(self.bytes)
+    }
+
     /// The event, which owns its bytes.
-    pub fn event<A: Allocator>(self, alloc: A) -> Result<Event<A>, AllocError>
+    pub fn into_event(self, alloc: A) -> Result<Event<A>, AllocError>
         requires { IsFineSaid self }
         ensures fields { IfOk result (λ e. event_fields e ≡ said_fields self.entry) }
         ensures fine { IfOk result IsFine }
     {
-        let what = match self.what {
-            What::Read {
-                window,
-                offset,
-                width,
-            } => EventKind::Read {
-                window,
-                offset,
-                width,
-            },
-            What::Write {
-                window,
-                offset,
-                width,
-                value,
-            } => EventKind::Write {
-                window,
-                offset,
-                width,
-                value,
-            },
-            What::MemRead { addr, len } => EventKind::MemRead { addr, len },
-            What::MemWrite { addr, bytes } => EventKind::MemWrite {
-                addr,
-                bytes: owned(alloc, bytes)?,
-            },
-            What::Input { bytes } => EventKind::Input {
-                bytes: owned(alloc, bytes)?,
-            },
-            What::Resize { cols, rows } => EventKind::Resize { cols, rows },
-        };
-        Ok(Event {
-            slot: self.slot,
-            what,
-        })
+        let slot = self.event.slot;
+        match self.event.what {
+            EventKind::MemWrite { addr, .. } => {
+                let bytes = owned(alloc, self.bytes)?;
+                let what = EventKind::MemWrite { addr, bytes };
+                Ok(Event { slot, what })
+            }
+            EventKind::Input { .. } => {
+                let bytes = owned(alloc, self.bytes)?;
+                let what = EventKind::Input { bytes };
+                Ok(Event { slot, what })
+            }
+            what => Ok(Event { slot, what }),
+        }
     }
 }
 

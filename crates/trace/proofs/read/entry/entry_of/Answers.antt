@@ -4,4 +4,4 @@ use Rattle.trace.proofs.Saying.{cut_said}
 use Rattle.trace.proofs.read.entry.entry_of.Goals as goal
 
 pub returns-in-Some-clause-ok : goal.returns-in-Some-clause-ok
-returns-in-Some-clause-ok c = ap fields_of c.in-Some.ensures.line ∙ cut_said c.in-Some.said c.in-Some.ensures.fine
+returns-in-Some-clause-ok g c = ap fields_of c.in-Some.ensures.line ∙ cut_said c.in-Some.said c.in-Some.ensures.fine

@@ -3,4 +3,4 @@ use Rattle.trace.proofs.Sofar.{some_lines}
 use Rattle.trace.proofs.read.events.take_event.Goals as goal
 
 pub unreachable-requires : goal.unreachable-requires
-unreachable-requires c = let more = some_lines c.requires.after in omega (arith, ap length (sym c.requires.cut ∙ c.in_default.ensures.none))
+unreachable-requires g c = let more = some_lines c.requires.after in omega (arith, ap length (sym c.requires.cut ∙ c.in_default.ensures.none))

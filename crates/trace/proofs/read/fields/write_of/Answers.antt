@@ -5,17 +5,17 @@ use Rattle.trace.proofs.Values.{written}
 use Rattle.trace.proofs.read.fields.write_of.Goals as goal
 
 pub unreachable-requires : goal.unreachable-requires
-unreachable-requires c =
+unreachable-requires g c =
     let row = written c.args.values.now c.requires in
     first_of (search rules, grind (arith, common_steps))
 
 pub returns-clause-fields : goal.returns-clause-fields
-returns-clause-fields c =
+returns-clause-fields g c =
     let row = written c.args.values.now c.requires in
     let width = num_width row.width row.fine.access.wide in
     first_of (search rules, grind (arith, common_steps))
 
 pub returns-clause-fine : goal.returns-clause-fine
-returns-clause-fine c =
+returns-clause-fine g c =
     let row = written c.args.values.now c.requires in
     first_of (search rules, grind (arith, common_steps))
