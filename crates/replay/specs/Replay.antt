@@ -20,7 +20,7 @@ use Rattle.trace.specs.Sends.{AppendsFront}
 use Rattle.replay.specs.OneSlot.{IsMachine}
 use Rattle.trace.specs.Reading.{IsTraceFault, IsTraceOf}
 use Rattle.trace.specs.Records.{records_text}
-use Rattle.trace.specs.Text.{Content, text}
+use Rattle.trace.specs.Text.{Content}
 
 -- A run over these events on a new board of these slots, which found the image so and left it so. A
 -- board of one slot that met no refusal did what the one-slot machine does.

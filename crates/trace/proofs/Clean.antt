@@ -6,9 +6,9 @@ use Rattle.std.proofs.lemmas.List.Elements.{All-get_or}
 use Rattle.trace.specs.declared.fault.FaultKind.{FaultKind}
 use Rattle.trace.specs.declared.fault.FaultKind.TheVariants as kind
 use Rattle.trace.specs.declared.word.Word.{Word}
-use Rattle.trace.specs.declared.word.Word.TheVariants.{Cache, Slot, Read, Write, MemRead, MemWrite, Input, Resize}
+use Rattle.trace.specs.declared.word.Word.TheVariants.{Cache, Slot}
 use Rattle.trace.specs.Cuts.{lines_of}
-use Rattle.trace.specs.Faults.{AllSay, AreAsMany, MayStand, HasWord, IsEnded, IsHeader, IsOfVersion, Passes, first_field, line_at, other_fields}
+use Rattle.trace.specs.Faults.{AllSay, AreAsMany, HasWord, IsEnded, IsHeader, IsOfVersion, Passes, first_field, line_at, other_fields}
 use Rattle.trace.specs.Text.{header}
 use Rattle.trace.specs.Version.{IsVersion}
 use Rattle.trace.specs.Words.{spelled, shapes}

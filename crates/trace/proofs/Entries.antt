@@ -1,5 +1,5 @@
 -- The line of a slot, of an event and of the cache: its word, and fields that say what they have to.
-use Rattle.std.proofs.Common.{◌≡◌, ◌≢◌, ◌==◌, ℕ, ◌+◌, ◌*◌, ◌^◌, ◌<◌, Bool, true, false, cond, eqb, if◌then◌else◌, length, List, [], ◌∷◌, get_or, refl, sym, ap, subst, ◌∙◌, arith, MatchBool, inl, inr}
+use Rattle.std.proofs.Common.{◌≡◌, ◌≢◌, ◌==◌, ℕ, ◌+◌, ◌*◌, ◌^◌, ◌<◌, Bool, true, false, cond, eqb, if◌then◌else◌, length, List, [], ◌∷◌, get_or, map, refl, sym, ap, subst, ◌∙◌, arith, MatchBool, inl, inr}
 use Rattle.std.specs.Prelude.{⊤}
 use Rattle.mmio_window.specs.declared.device_kind.DeviceKind.{DeviceKind}
 use Rattle.mmio_window.specs.declared.device_kind.DeviceKind.TheVariants.{Block, Console}
@@ -8,6 +8,7 @@ use Rattle.board.specs.declared.event.EventKind.{EventKind}
 use Rattle.board.specs.declared.event.EventKind.TheVariants as what
 use Rattle.board.specs.declared.spec.SlotSpec.{SlotSpec}
 use Rattle.trace.specs.declared.fault.FaultKind.{FaultKind}
+use Rattle.trace.specs.declared.table.Field.TheVariants.{Identity}
 use Rattle.trace.specs.declared.word.Word.{Word}
 use Rattle.trace.specs.declared.word.Word.TheVariants.{Cache, Slot, Read, Write, MemRead, MemWrite, Input, Resize}
 use Rattle.trace.specs.Cuts.{fields_of}
@@ -17,7 +18,7 @@ use Rattle.trace.specs.Refusals.{IsFine}
 use Rattle.trace.specs.Spelling.{num, fixed, bytes, window, mode, width_digit}
 use Rattle.trace.specs.Text.{line, cache_fields, cache_line, slot_fields, slot_line, event_fields, event_line, what_fields}
 use Rattle.trace.specs.Version.{in_version_2}
-use Rattle.trace.specs.Words.{Shape, Identity, Value, Says, spelled, shapes, IsNum, IsFixed, IsWidth}
+use Rattle.trace.specs.Words.{Shape, Value, Says, shape_of, shapes, spelled, width_among, IsNum, IsFixed, IsWidth}
 use Rattle.trace.proofs.ByteFields.{bytes_digits}
 use Rattle.trace.proofs.Signs.{Above, AllAbove, above_tested, above_num, above_fixed, fields_of-line, above_line}
 
@@ -117,13 +118,13 @@ entered_cache version n lt = entered version (cache_line n) Cache (num n ∷ [])
 abbrev last_field : ℕ → SlotSpec → List (List ℕ)
 last_field version s = in_version_2 version (bytes s.identity ∷ [])
 
-last_said : (has : Bool) (s : SlotSpec) → SlotInRange s → EachSays (if has then Identity ∷ [] else []) (if has then bytes s.identity ∷ [] else [])
-last_said false s h = tt
-last_said true s h = ((s.identity, record { bytes_are = record { fits = h.identity; spelled = refl }; twenty = h.twenty }), tt)
+last_said : (has : Bool) (width : List ℕ) (s : SlotSpec) → SlotInRange s → EachSays (map (shape_of width) (if has then Identity ∷ [] else [])) (if has then bytes s.identity ∷ [] else [])
+last_said false width s h = tt
+last_said true width s h = ((s.identity, record { bytes_are = record { fits = h.identity; spelled = refl }; twenty = h.twenty }), tt)
 
-last_counted : (has : Bool) (s : SlotSpec) → length (if has then bytes s.identity ∷ [] else []) ≡ length (if has then Identity ∷ [] else [])
-last_counted false s = refl
-last_counted true s = refl
+last_counted : (has : Bool) (width : List ℕ) (s : SlotSpec) → length (if has then bytes s.identity ∷ [] else []) ≡ length (map (shape_of width) (if has then Identity ∷ [] else []))
+last_counted false width s = refl
+last_counted true width s = refl
 
 last_above : (has : Bool) (s : SlotSpec) → SlotInRange s → AllAbove 32 (if has then bytes s.identity ∷ [] else [])
 last_above false s h = tt
@@ -135,7 +136,7 @@ slot_rest version s =
 
 slot_said : (version : ℕ) (s : SlotSpec) → SlotInRange s → EachSays (shapes version Slot (slot_rest version s)) (slot_rest version s)
 slot_said version s h =
-    (number 64 s.base h.base, (number 64 s.len h.len, (number 64 s.extent.start h.start, (number 64 s.extent.count h.count, ((s.read_only, refl), (number 16 s.cols h.cols, (number 16 s.rows h.rows, last_said (version == 2) s h)))))))
+    (number 64 s.base h.base, (number 64 s.len h.len, (number 64 s.extent.start h.start, (number 64 s.extent.count h.count, ((s.read_only, refl), (number 16 s.cols h.cols, (number 16 s.rows h.rows, last_said (version == 2) (width_among (slot_rest version s)) s h)))))))
 
 slot_above : (version : ℕ) (s : SlotSpec) → SlotInRange s → AllAbove 32 (slot_rest version s)
 slot_above version s h =
@@ -144,7 +145,7 @@ slot_above version s h =
 pub entered_slot : (version : ℕ) (s : SlotSpec) → SlotInRange s → Entered version (slot_line version s) Slot
 unfolding slot_line
 entered_slot version s h =
-    entered version (slot_line version s) Slot (slot_rest version s) refl (omega (arith, last_counted (version == 2) s)) (slot_said version s h) (slot_above version s h)
+    entered version (slot_line version s) Slot (slot_rest version s) refl (omega (arith, last_counted (version == 2) (width_among (slot_rest version s)) s)) (slot_said version s h) (slot_above version s h)
 
 -- a value within a width, beside that width
 says_value : (width value : ℕ) → IsWidth width → value < 2 ^ (8 * width) → Says (Value (width_digit width)) (fixed (2 * width) value)

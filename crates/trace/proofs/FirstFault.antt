@@ -12,7 +12,7 @@ use Rattle.trace.specs.Faults.{AllSay, IsAtFault, fault_of, first_field, order, 
 use Rattle.trace.specs.declared.table.Field.{Field}
 use Rattle.trace.specs.declared.word.Word.{Word}
 use Rattle.trace.specs.Cuts.{fields_of}
-use Rattle.trace.specs.Words.{AllRight, AreRight, Says, Shape, Num, Offset, Value, Window, Width, Mode, Bytes, Identity, shape_of, shapes, spelled, width_among}
+use Rattle.trace.specs.Words.{AllRight, AreRight, Says, Shape, Num, Offset, Value, Window, Width, Mode, Bytes, Identity, fields_in, shape_of, shapes, spelled, width_among}
 use Rattle.trace.proofs.Entries.{one_way, same_word}
 use Rattle.trace.proofs.Unique.{same_kind}
 
@@ -90,14 +90,14 @@ module _ (kind : FaultKind) (width : List ℕ) where
 
 -- the fields after the word of a line
 module _ (kind : FaultKind) (version : ℕ) (line : List ℕ) (row : List Field) (width : List ℕ) (first : List ℕ) (fields : List (List ℕ)) (word : Word) where
-  row_is : (w : Word) → first_field line ≡ spelled word → fields_of line ≡ first ∷ fields → width ≡ slice_index_or fields 3 [] → ((fs : List (List ℕ)) → map (shape_of (width_among fs)) row ≡ shapes version word fs) → first_field line ≡ spelled w
+  row_is : (w : Word) → first_field line ≡ spelled word → fields_of line ≡ first ∷ fields → width ≡ slice_index_or fields 3 [] → row ≡ fields_in version word → first_field line ≡ spelled w
       → (map (shape_of width) row ≡ shapes version w (other_fields line)) × (fields ≡ other_fields line)
   row_is w is cut by table said =
       let same : w ≡ word = same_word w word (sym said ∙ is) in
       let others : fields ≡ other_fields line = sym (ap (drop 1) cut) in
-      (ap (λ (x : List ℕ). map (shape_of x) row) (by ∙ ap (λ (fs : List (List ℕ)). slice_index_or fs 3 []) others) ∙ table (other_fields line) ∙ ap (λ (v : Word). shapes version v (other_fields line)) (sym same), others)
+      (ap (λ (x : List ℕ). map (shape_of x) row) (by ∙ ap (λ (fs : List (List ℕ)). slice_index_or fs 3 []) others) ∙ ap (λ (fs : List Field). map (shape_of (width_among (other_fields line))) fs) table ∙ ap (λ (v : Word). shapes version v (other_fields line)) (sym same), others)
 
-  pub some_in : (found : Option (Field × Bor (List ℕ))) → first_field line ≡ spelled word → fields_of line ≡ first ∷ fields → width ≡ slice_index_or fields 3 [] → ((fs : List (List ℕ)) → map (shape_of (width_among fs)) row ≡ shapes version word fs)
+  pub some_in : (found : Option (Field × Bor (List ℕ))) → first_field line ≡ spelled word → fields_of line ≡ first ∷ fields → width ≡ slice_index_or fields 3 [] → row ≡ fields_in version word
       → IfSome found (λ f. IsAtFault kind (map (shape_of width) row) fields (shape_of width f.0) f.1.now)
       → IfSome found (λ f. (w : Word) → first_field line ≡ spelled w → IsAtFault kind (shapes version w (other_fields line)) (other_fields line) (shape_of (width_among (other_fields line)) f.0) f.1.now)
   some_in None is cut by table found = tt
@@ -108,7 +108,7 @@ module _ (kind : FaultKind) (version : ℕ) (line : List ℕ) (row : List Field)
       (subst (λ (fs : List (List ℕ)). IsAtFault kind (shapes version w (other_fields line)) fs (shape_of width f.0) f.1.now) same.1
       (subst (λ (ss : List Shape). IsAtFault kind ss fields (shape_of width f.0) f.1.now) same.0 found))
 
-  pub none_in : first_field line ≡ spelled word → fields_of line ≡ first ∷ fields → width ≡ slice_index_or fields 3 [] → ((fs : List (List ℕ)) → map (shape_of (width_among fs)) row ≡ shapes version word fs)
+  pub none_in : first_field line ≡ spelled word → fields_of line ≡ first ∷ fields → width ≡ slice_index_or fields 3 [] → row ≡ fields_in version word
       → AllSay kind (map (shape_of width) row) fields → (w : Word) → first_field line ≡ spelled w → AllSay kind (shapes version w (other_fields line)) (other_fields line)
   none_in is cut by table say = λ w said.
       let same = row_is w is cut by table said in
@@ -161,9 +161,9 @@ all_right (s ∷ ss) [] many n c b = absurd (omega (arith, many))
 all_right (s ∷ ss) (f ∷ fs) many n c b = (one_right s f n.0 c.0 b.0, all_right ss fs (omega (arith, many)) n.1 c.1 b.1)
 
 -- the fields after a word, which aren't right
-module _ (version : ℕ) (word : Word) (row : List Field) (width : List ℕ) (fields : List (List ℕ)) (by : width ≡ slice_index_or fields 3 []) (table : (fs : List (List ℕ)) → map (shape_of (width_among fs)) row ≡ shapes version word fs) where
+module _ (version : ℕ) (word : Word) (row : List Field) (width : List ℕ) (fields : List (List ℕ)) (by : width ≡ slice_index_or fields 3 []) (table : row ≡ fields_in version word) where
   shapes_are : map (shape_of width) row ≡ shapes version word fields
-  shapes_are = ap (λ (x : List ℕ). map (shape_of x) row) by ∙ table fields
+  shapes_are = ap (λ (x : List ℕ). map (shape_of x) row) by ∙ ap (λ (fs : List Field). map (shape_of (width_among fields)) fs) table
 
   all_of : (kind : FaultKind) → AllSay kind (map (shape_of width) row) fields → AllSay kind (shapes version word fields) fields
   all_of kind h = subst (λ (ss : List Shape). AllSay kind ss fields) shapes_are h

@@ -3,10 +3,9 @@ use Rattle.std.proofs.Common.{◌≡◌, ◌≢◌, ℕ, List, [], ◌∷◌, �
 use Rattle.std.proofs.lemmas.List.{append_assoc, append-nil}
 use Rattle.trace.specs.declared.fault.FaultKind.{FaultKind}
 use Rattle.trace.specs.declared.fault.FaultKind.TheVariants as kind
-use Rattle.trace.specs.declared.word.Word.{Word}
-use Rattle.trace.specs.declared.word.Word.TheVariants.{Cache, Slot, Read, Write, MemRead, MemWrite, Input, Resize}
+use Rattle.trace.specs.declared.word.Word.TheVariants.{Cache}
 use Rattle.trace.specs.Cuts.{lines_of}
-use Rattle.trace.specs.Faults.{MayStand, IsCleanBefore, IsEnded, IsFault, IsHeader, IsOfVersion, Passes, first_field, line_at, other_fields}
+use Rattle.trace.specs.Faults.{IsCleanBefore, IsEnded, IsFault, IsHeader, IsOfVersion, Passes, first_field, line_at, other_fields}
 use Rattle.trace.specs.Refusals.{RefusesCache, RefusesFields, RefusesHead, RefusesSecond}
 use Rattle.trace.specs.Text.{header, joined}
 use Rattle.trace.specs.Version.{IsVersion}

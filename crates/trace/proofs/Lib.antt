@@ -1,4 +1,5 @@
 pub mod Digits
+pub mod Versions
 pub mod Numbers
 pub mod Cutting
 pub mod Signs

@@ -1,13 +1,8 @@
 -- Fields written one after another, and lines.
-use Rattle.std.proofs.Common.{◌≡◌, ◌==◌, ℕ, ◌+◌, ◌<◌, Bool, true, false, if◌then◌else◌, List, [], ◌∷◌, ◌++◌, length, get_or, map, take, refl, sym, ap, ◌∙◌, arith}
-use Rattle.std.proofs.lemmas.List.{append-nil, append_assoc, get_or_default, length-map, map_more, take-map}
+use Rattle.std.proofs.Common.{◌≡◌, ℕ, ◌+◌, ◌<◌, false, List, [], ◌∷◌, ◌++◌, length, get_or, map, take, refl, sym, ap, ◌∙◌}
+use Rattle.std.proofs.lemmas.List.{append-nil, append_assoc, get_or_default, map_more}
 use Rattle.board.specs.declared.spec.SlotSpec.{SlotSpec}
-use Rattle.trace.specs.declared.value.FieldValue.{FieldValue}
-use Rattle.trace.specs.declared.table.Field.{Field}
-use Rattle.trace.specs.declared.word.Word.TheVariants.{Slot}
-use Rattle.trace.specs.Spelling.{bytes, mode, num, value_text}
 use Rattle.trace.specs.Text.{Content, cache_line, ended, event_line, front_text, header, joined, line, slot_line, text, trace_lines}
-use Rattle.trace.specs.Words.{Identity, shape_of, shapes, spelled, width_among}
 use Rattle.trace.proofs.Signs.{joined_push}
 
 line_push : (x : List ℕ) (xs : List (List ℕ)) (y : List ℕ) → line (x ∷ xs ++ y ∷ []) ≡ line (x ∷ xs) ++ 32 ∷ y
@@ -25,26 +20,6 @@ line_more f front word before spaced now xs i d lt sofar space field =
     ∙ append_assoc (front ++ so) (32 ∷ []) x
     ∙ append_assoc front so (32 ∷ x)
     ∙ ap (λ (t : List ℕ). front ++ t) (sym (line_push word (map f (take i xs)) x) ∙ ap (λ (ys : List (List ℕ)). line (word ∷ ys)) (sym (map_more f xs i d lt)))
-
--- ---- the fields of a slot, as many as the version has
-
-pub slot_counted : (version : ℕ) (fs : List Field) → ((fields : List (List ℕ)) → map (shape_of (width_among fields)) fs ≡ shapes version Slot fields) → length fs ≡ length (shapes version Slot [])
-slot_counted version fs h = sym (length-map fs (shape_of (width_among []))) ∙ ap length (h [])
-
-slot_cut : (has : Bool) (n : ℕ) (s : SlotSpec) → n ≡ 7 + length (if has then Identity ∷ [] else [])
-    → take n (num s.base ∷ num s.len ∷ num s.extent.start ∷ num s.extent.count ∷ mode s.read_only ∷ num s.cols ∷ num s.rows ∷ bytes s.identity ∷ [])
-    ≡ num s.base ∷ num s.len ∷ num s.extent.start ∷ num s.extent.count ∷ mode s.read_only ∷ num s.cols ∷ num s.rows ∷ (if has then bytes s.identity ∷ [] else [])
-slot_cut false n s e = rw e refl
-slot_cut true n s e = rw e refl
-
--- a line of so many of these values is the slot's
-pub slot_written : (front now : List ℕ) (version n : ℕ) (s : SlotSpec) (values : List FieldValue) → n ≡ length (shapes version Slot [])
-    → map value_text values ≡ num s.base ∷ num s.len ∷ num s.extent.start ∷ num s.extent.count ∷ mode s.read_only ∷ num s.cols ∷ num s.rows ∷ bytes s.identity ∷ []
-    → now ≡ front ++ ended (line (spelled Slot ∷ map value_text (take n values)))
-    → now ≡ front ++ ended (slot_line version s)
-unfolding slot_line
-slot_written front now version n s values e are is =
-    is ∙ ap (λ (fs : List (List ℕ)). front ++ ended (line (spelled Slot ∷ fs))) (sym (take-map value_text n values) ∙ ap (take n) are ∙ slot_cut (version == 2) n s (omega (arith, e)))
 
 -- ---- lines
 

@@ -3,7 +3,7 @@ use Rattle.std.proofs.Common.{◌≡◌, ◌≢◌, ◌==◌, ℕ, Bool, true, f
 use Rattle.std.proofs.lemmas.List.{append-nil, append_assoc, drop_all, drop_more, length-map, map-append, map_more, take_all}
 use Rattle.mmio_window.specs.declared.device_kind.DeviceKind.{DeviceKind}
 use Rattle.trace.specs.declared.table.Field.{Field}
-use Rattle.trace.specs.declared.table.Field.TheVariants.{Sectors}
+use Rattle.trace.specs.declared.table.Field.TheVariants.{Identity, Sectors}
 use Rattle.trace.specs.declared.value.FieldValue.{FieldValue}
 use Rattle.trace.specs.declared.value.FieldValue.TheVariants as value
 use Rattle.trace.specs.declared.word.Word.{Word}
@@ -11,8 +11,9 @@ use Rattle.trace.specs.declared.word.Word.TheVariants.{Cache, Slot, Read, Write,
 use Rattle.trace.specs.Printable.{IsWriteAccess}
 use Rattle.trace.specs.Spelling.{value_text}
 use Rattle.trace.specs.Values.{AreOf, IsOf, SaysValue, SayValues}
-use Rattle.trace.specs.Words.{AllRight, AreRight, Identity, IsWidth, Num, Offset, Says, Shape, Value, Width, Window, shape_of, shapes, width_among}
+use Rattle.trace.specs.Words.{AllRight, AreRight, IsWidth, Mode, Num, Offset, Says, Shape, Value, Width, Window, fields_in, shape_of, shapes, width_among}
 use Rattle.trace.proofs.Numbers.{num_width}
+use Rattle.trace.proofs.Versions.{map_in_version_2}
 
 -- ---- the values so far
 
@@ -71,36 +72,28 @@ last_few : (has : Bool) → length (if has then Identity ∷ [] else []) ≤ 1
 last_few false = omega arith
 last_few true = omega arith
 
-few : (version : ℕ) (word : Word) → length (shapes version word []) ≤ 8
-few version Cache = omega arith
-few version Slot = omega (arith, last_few (version == 2))
-few version Read = omega arith
-few version Write = omega arith
-few version MemRead = omega arith
-few version MemWrite = omega arith
-few version Input = omega arith
-few version Resize = omega arith
-
-pub at_most_eight : (version : ℕ) (word : Word) (row : List Field) → ((fs : List (List ℕ)) → map (shape_of (width_among fs)) row ≡ shapes version word fs) → length row ≤ 8
-at_most_eight version word row table =
-    let counted : length row ≡ length (shapes version word []) = sym (length-map row (shape_of (width_among []))) ∙ ap length (table []) in
-    omega (arith, counted, few version word)
+pub at_most_eight : (version : ℕ) (word : Word) → length (fields_in version word) ≤ 8
+at_most_eight version Cache = omega arith
+at_most_eight version Slot = omega (arith, last_few (version == 2))
+at_most_eight version Read = omega arith
+at_most_eight version Write = omega arith
+at_most_eight version MemRead = omega arith
+at_most_eight version MemWrite = omega arith
+at_most_eight version Input = omega arith
+at_most_eight version Resize = omega arith
 
 -- only a write's shapes depend on a width
-same_shapes : (version : ℕ) (word : Word) (some others : List (List ℕ)) → (word ≡ Write → width_among some ≡ width_among others) → shapes version word some ≡ shapes version word others
-same_shapes version Cache some others same = refl
-same_shapes version Slot some others same = refl
-same_shapes version Read some others same = refl
-same_shapes version Write some others same = ap (λ (width : List ℕ). Num 8 ∷ Window ∷ Offset ∷ Width ∷ Value width ∷ []) (same refl)
-same_shapes version MemRead some others same = refl
-same_shapes version MemWrite some others same = refl
-same_shapes version Input some others same = refl
-same_shapes version Resize some others same = refl
-
--- the shapes of a row by the width of a write
-pub shapes_by : (version : ℕ) (word : Word) (row : List Field) (width : List ℕ) (fields : List (List ℕ)) → ((fs : List (List ℕ)) → map (shape_of (width_among fs)) row ≡ shapes version word fs) → (word ≡ Write → width ≡ width_among fields)
-    → map (shape_of width) row ≡ shapes version word fields
-shapes_by version word row width fields table same = table ([] ∷ [] ∷ [] ∷ width ∷ []) ∙ same_shapes version word ([] ∷ [] ∷ [] ∷ width ∷ []) fields same
+pub shapes_by : (version : ℕ) (word : Word) (width : List ℕ) (fields : List (List ℕ)) → (word ≡ Write → width ≡ width_among fields) → map (shape_of width) (fields_in version word) ≡ shapes version word fields
+shapes_by version Cache width fields same = refl
+shapes_by version Slot width fields same =
+    ap (λ (last : List Shape). Num 64 ∷ Num 64 ∷ Num 64 ∷ Num 64 ∷ Mode ∷ Num 16 ∷ Num 16 ∷ last)
+    (map_in_version_2 (shape_of width) version (Identity ∷ []) ∙ sym (map_in_version_2 (shape_of (width_among fields)) version (Identity ∷ [])))
+shapes_by version Read width fields same = refl
+shapes_by version Write width fields same = ap (λ (by : List ℕ). Num 8 ∷ Window ∷ Offset ∷ Width ∷ Value by ∷ []) (same refl)
+shapes_by version MemRead width fields same = refl
+shapes_by version MemWrite width fields same = refl
+shapes_by version Input width fields same = refl
+shapes_by version Resize width fields same = refl
 
 -- the fields of an event are the same in each version
 pub same_right : (version other : ℕ) (word : Word) (fields : List (List ℕ)) → word ≢ Slot → AreRight version word fields → AreRight other word fields

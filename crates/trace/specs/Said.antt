@@ -21,15 +21,15 @@ said_fields s = what_said s.event.slot s.event.what s.bytes.now
 unfoldable pub said_line : {A : Type 0} → Said A → List ℕ
 said_line s = line (said_fields s)
 
--- the bytes are left to a field that spells some
-pub record AreLeft (bs field : List ℕ) : Type 0 where
+-- bytes that are still spelled, by this field
+pub record AreSpelled (bs field : List ℕ) : Type 0 where
   pub none : bs ≡ []
   pub said : Says Bytes field
 
 -- the same of bytes for an address
-pub record AreLeftAt (addr : ℕ) (bs field : List ℕ) : Type 0 where
+pub record AreSpelledAt (addr : ℕ) (bs field : List ℕ) : Type 0 where
   pub from : addr < 2 ^ 64
-  pub bytes : AreLeft bs field
+  pub bytes : AreSpelled bs field
 
 -- what its integers admit and has a line, and is without bytes
 pub record IsPlain {A : Type 0} (w : EventKind A) (field : List ℕ) : Type 0 where
@@ -38,8 +38,8 @@ pub record IsPlain {A : Type 0} (w : EventKind A) (field : List ℕ) : Type 0 wh
   pub none : field ≡ []
 
 abbrev pub IsFineWhat : {A : Type 0} → EventKind A → List ℕ → Type 0
-IsFineWhat (what.MemWrite addr bs) field = AreLeftAt addr bs field
-IsFineWhat (what.Input bs) field = AreLeft bs field
+IsFineWhat (what.MemWrite addr bs) field = AreSpelledAt addr bs field
+IsFineWhat (what.Input bs) field = AreSpelled bs field
 IsFineWhat w field = IsPlain w field
 
 pub record IsFineSaid {A : Type 0} (s : Said A) : Type 0 where

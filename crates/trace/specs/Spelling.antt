@@ -4,8 +4,11 @@ use Rattle.std.specs.Int.Digits.{digits_of}
 use Rattle.hex.specs.Hex.{lower_digits, encode_lower}
 use Rattle.mmio_window.specs.declared.device_kind.DeviceKind.{DeviceKind}
 use Rattle.mmio_window.specs.declared.device_kind.DeviceKind.TheVariants.{Block, Console}
+use Rattle.trace.specs.declared.print.line.LineFields.{LineFields}
+use Rattle.trace.specs.declared.table.Field.{Field}
+use Rattle.trace.specs.declared.table.Field.TheVariants as field
 use Rattle.trace.specs.declared.value.FieldValue.{FieldValue}
-use Rattle.trace.specs.declared.value.FieldValue.TheVariants.{Number, Mode, Window, Offset, Width, Value, Bytes, Identity, Spelled}
+use Rattle.trace.specs.declared.value.FieldValue.TheVariants.{Number, Mode, Window, Offset, Width, Value, Identity, Spelled}
 
 -- the lower case hexadecimal digit of a number below 16
 unfoldable pub digit : ℕ → ℕ
@@ -48,6 +51,25 @@ value_text (Window kind) = window kind
 value_text (Offset offset) = fixed 3 offset
 value_text (Width width) = num width
 value_text (Value width value) = fixed (2 * width) value
-value_text (Bytes bs) = bytes bs.now
 value_text (Identity bs) = bytes bs
 value_text (Spelled field) = field.now
+
+-- a field of a line, by what its fields say
+abbrev pub field_text : LineFields → Field → List ℕ
+field_text says field.Sectors = num says.sectors
+field_text says field.Base = num says.base
+field_text says field.Size = num says.size
+field_text says field.Start = num says.start
+field_text says field.Count = num says.count
+field_text says field.Mode = mode says.read_only
+field_text says field.Columns = num says.columns
+field_text says field.Rows = num says.rows
+field_text says field.Identity = bytes says.identity
+field_text says field.Slot = num says.slot
+field_text says field.Window = window says.window
+field_text says field.Offset = fixed 3 says.offset
+field_text says field.Width = num says.width
+field_text says field.Value = fixed (2 * says.width) says.value
+field_text says field.Address = num says.address
+field_text says field.Length = num says.length
+field_text says field.Bytes = bytes says.bytes.now

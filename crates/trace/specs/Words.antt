@@ -1,5 +1,5 @@
 -- The table of a trace's lines: the word that each begins with, and what the fields after it say.
-use Rattle.std.specs.Prelude.{◌≡◌, ℕ, ◌*◌, ◌^◌, ◌<◌, ◌⊎◌, ⊤, Bool, List, [], ◌∷◌, codes, length, slice_index_or, ◌%◌, All}
+use Rattle.std.specs.Prelude.{◌≡◌, ℕ, ◌*◌, ◌^◌, ◌<◌, ◌⊎◌, ⊤, Bool, List, [], ◌∷◌, codes, length, map, slice_index_or, ◌%◌, All}
 use Rattle.mmio_window.specs.declared.device_kind.DeviceKind.{DeviceKind}
 use Rattle.trace.specs.declared.table.Field.{Field}
 use Rattle.trace.specs.declared.table.Field.TheVariants as field
@@ -83,28 +83,17 @@ spelled MemWrite = codes "mw"
 spelled Input = codes "in"
 spelled Resize = codes "sz"
 
--- the shapes of the fields after each word, in a version, where these are the fields
-abbrev pub shapes : ℕ → Word → List (List ℕ) → List Shape
-shapes version Cache fields = Num 32 ∷ []
-shapes version Slot fields =
-    Num 64 ∷ Num 64 ∷ Num 64 ∷ Num 64 ∷ Mode ∷ Num 16 ∷ Num 16 ∷ in_version_2 version (Identity ∷ [])
-shapes version Read fields = Num 8 ∷ Window ∷ Offset ∷ Width ∷ []
-shapes version Write fields = Num 8 ∷ Window ∷ Offset ∷ Width ∷ Value (slice_index_or fields 3 []) ∷ []
-shapes version MemRead fields = Num 8 ∷ Num 64 ∷ Num 32 ∷ []
-shapes version MemWrite fields = Num 8 ∷ Num 64 ∷ Bytes ∷ []
-shapes version Input fields = Num 8 ∷ Bytes ∷ []
-shapes version Resize fields = Num 8 ∷ Num 16 ∷ Num 16 ∷ []
-
--- the fields are as many as the shapes, and each says a value of its own
-abbrev pub AllRight : List Shape → List (List ℕ) → Type 0
-AllRight [] [] = ⊤
-AllRight [] (field ∷ fields) = ⊥
-AllRight (shape ∷ more) [] = ⊥
-AllRight (shape ∷ more) (field ∷ fields) = Says shape field × AllRight more fields
-
--- the fields are those that a word has in a version
-abbrev pub AreRight : ℕ → Word → List (List ℕ) → Type 0
-AreRight version word fields = AllRight (shapes version word fields) fields
+-- the fields after each word, in a version
+abbrev pub fields_in : ℕ → Word → List Field
+fields_in version Cache = field.Sectors ∷ []
+fields_in version Slot =
+    field.Base ∷ field.Size ∷ field.Start ∷ field.Count ∷ field.Mode ∷ field.Columns ∷ field.Rows ∷ in_version_2 version (field.Identity ∷ [])
+fields_in version Read = field.Slot ∷ field.Window ∷ field.Offset ∷ field.Width ∷ []
+fields_in version Write = field.Slot ∷ field.Window ∷ field.Offset ∷ field.Width ∷ field.Value ∷ []
+fields_in version MemRead = field.Slot ∷ field.Address ∷ field.Length ∷ []
+fields_in version MemWrite = field.Slot ∷ field.Address ∷ field.Bytes ∷ []
+fields_in version Input = field.Slot ∷ field.Bytes ∷ []
+fields_in version Resize = field.Slot ∷ field.Columns ∷ field.Rows ∷ []
 
 -- of the fields of a line, the one by which a value is read
 abbrev pub width_among : List (List ℕ) → List ℕ
@@ -129,3 +118,18 @@ shape_of width field.Value = Value width
 shape_of width field.Address = Num 64
 shape_of width field.Length = Num 32
 shape_of width field.Bytes = Bytes
+
+-- the shapes of the fields after a word, in a version, where these are the fields
+abbrev pub shapes : ℕ → Word → List (List ℕ) → List Shape
+shapes version word fields = map (shape_of (width_among fields)) (fields_in version word)
+
+-- the fields are as many as the shapes, and each says a value of its own
+abbrev pub AllRight : List Shape → List (List ℕ) → Type 0
+AllRight [] [] = ⊤
+AllRight [] (field ∷ fields) = ⊥
+AllRight (shape ∷ more) [] = ⊥
+AllRight (shape ∷ more) (field ∷ fields) = Says shape field × AllRight more fields
+
+-- the fields are those that a word has in a version
+abbrev pub AreRight : ℕ → Word → List (List ℕ) → Type 0
+AreRight version word fields = AllRight (shapes version word fields) fields

@@ -3,11 +3,12 @@
 //! `line` writes a line, `push` one field, and `range` says the bounds of its numbers. `records` puts records into the
 //! `buffer` before a writer, and `write` writes whole texts.
 
-ghost use Rattle.std.specs.Prelude.{◌≡◌, ◌*◌, ◌^◌, ◌<◌, ◌↔◌, ◌++◌, All, IsTrue, IfOk, OnOk, map};
+ghost use Rattle.std.specs.Prelude.{◌≡◌, ◌*◌, ◌^◌, ◌<◌, ◌↔◌, ◌++◌, ◌∷◌, All, IsTrue, IfOk, OnOk, map};
 ghost use Rattle.trace.specs.Printable.{InRange, IsAccess, IsPrintable, IsPrintableKind, IsPrintableSlot};
-ghost use Rattle.trace.specs.Text.{content, text as text_of, ended, event_line, front_text, joined, slot_line};
+ghost use Rattle.trace.specs.Spelling.{field_text};
+ghost use Rattle.trace.specs.Text.{content, text as text_of, ended, event_fields, event_line, front_text, joined, slot_line};
 ghost use Rattle.trace.specs.Version.{IsVersion};
-ghost use Rattle.trace.specs.Words.{IsWidth};
+ghost use Rattle.trace.specs.Words.{IsWidth, fields_in, spelled};
 
 mod buffer;
 mod line;
@@ -18,13 +19,11 @@ mod write;
 
 use crate::no_memory::NoMemory;
 pub use crate::print::buffer::Buffer;
-use crate::print::line::push_line;
+use crate::print::line::{LineFields, push_line};
 use crate::print::range::in_range;
 pub use crate::print::records::{print_records, put_line, put_read};
 pub use crate::print::write::write_whole;
-use crate::table::fields_after;
 use crate::trace::Trace;
-use crate::value::FieldValue::{Bytes, Identity, Mode, Number, Offset, Value, Width, Window};
 use crate::version::{VERSION_1, VERSION_2, header_of, identity_in_version_1};
 use crate::word::Word;
 use board::{Event, EventKind, SlotSpec};
@@ -155,10 +154,15 @@ fn push_front<A: Allocator>(out: &mut Vec<u8, A>, version: u8, cache: u32) -> Re
 {
     out.extend_from_slice(header_of(version))?;
     out.push(b'\n')?;
-    push_line(out, Word::Cache, &[Number(u64::from(cache))])
+    let fields = LineFields {
+        sectors: cache,
+        ..LineFields::default()
+    };
+    push_line(out, version, Word::Cache, &fields)
 }
 
-// Appends the line of a slot, with as many fields as the version has.
+// Appends the line of a slot.
+#[tactic(auto, using(crate::proofs::Versions::map_in_version_2), unfolding(crate::specs::Text::slot_line))]
 fn push_slot<A: Allocator>(
     out: &mut Vec<u8, A>,
     version: u8,
@@ -166,41 +170,48 @@ fn push_slot<A: Allocator>(
 ) -> Result<(), AllocError>
     ensures { OnOk result (out.new.items ≡ out.old.items ++ ended (slot_line version slot.now)) }
 {
-    let values = [
-        Number(slot.base),
-        Number(slot.len),
-        Number(slot.extent.start),
-        Number(slot.extent.count),
-        Mode(slot.read_only),
-        Number(u64::from(slot.cols)),
-        Number(u64::from(slot.rows)),
-        Identity(slot.identity),
-    ];
-    let count = fields_after(version, Word::Slot).len();
-    push_line(out, Word::Slot, &values[..count])?;
-    Ok(())
+    let fields = LineFields {
+        base: slot.base,
+        size: slot.len,
+        start: slot.extent.start,
+        count: slot.extent.count,
+        read_only: slot.read_only,
+        columns: slot.cols,
+        rows: slot.rows,
+        identity: slot.identity,
+        ..LineFields::default()
+    };
+    push_line(out, version, Word::Slot, &fields)
 }
 
-// Appends the line of an event.
-#[tactic(auto, using(crate::proofs::Numbers::num_width), unfolding(crate::specs::Text::event_line))]
+// Appends the line of an event, which is the same in each version.
+#[tactic(auto, unfolding(crate::specs::Text::event_line))]
 fn push_event<A: Allocator>(out: &mut Vec<u8, A>, event: &Event<A>) -> Result<(), AllocError>
     requires { IsPrintableKind event.now.what }
     ensures { OnOk result (out.new.items ≡ out.old.items ++ ended (event_line event.now)) }
 {
-    let slot = u64::from(event.slot);
+    let (word, fields) = event_says(event);
+    push_line(out, VERSION_2, word, &fields)
+}
+
+// The word of an event, and what the fields after it say.
+#[tactic(auto, using(crate::proofs::Numbers::num_width))]
+fn event_says<A: Allocator>(event: &Event<A>) -> (Word, LineFields<'_>)
+    requires { IsPrintableKind event.now.what }
+    ensures { spelled result.0 ∷ map (field_text result.1) (fields_in 2 result.0) ≡ event_fields event.now }
+{
+    let mut fields = LineFields {
+        slot: event.slot,
+        ..LineFields::default()
+    };
     match &event.what {
         EventKind::Read {
             window,
             offset,
             width,
         } => {
-            let access = [
-                Number(slot),
-                Window(*window),
-                Offset(*offset),
-                Width(*width),
-            ];
-            push_line(out, Word::Read, &access)
+            (fields.window, fields.offset, fields.width) = (*window, *offset, *width);
+            (Word::Read, fields)
         }
         EventKind::Write {
             window,
@@ -208,35 +219,25 @@ fn push_event<A: Allocator>(out: &mut Vec<u8, A>, event: &Event<A>) -> Result<()
             width,
             value,
         } => {
-            let access = [
-                Number(slot),
-                Window(*window),
-                Offset(*offset),
-                Width(*width),
-                Value(*width, *value),
-            ];
-            push_line(out, Word::Write, &access)
+            (fields.window, fields.offset) = (*window, *offset);
+            (fields.width, fields.value) = (*width, *value);
+            (Word::Write, fields)
         }
         EventKind::MemRead { addr, len } => {
-            let values = [Number(slot), Number(*addr), Number(u64::from(*len))];
-            push_line(out, Word::MemRead, &values)
+            (fields.address, fields.length) = (*addr, *len);
+            (Word::MemRead, fields)
         }
         EventKind::MemWrite { addr, bytes } => {
-            let values = [Number(slot), Number(*addr), Bytes(bytes.as_slice())];
-            push_line(out, Word::MemWrite, &values)
+            (fields.address, fields.bytes) = (*addr, bytes.as_slice());
+            (Word::MemWrite, fields)
         }
-        EventKind::Input { bytes } => push_line(
-            out,
-            Word::Input,
-            &[Number(slot), Bytes(bytes.as_slice())],
-        ),
+        EventKind::Input { bytes } => {
+            fields.bytes = bytes.as_slice();
+            (Word::Input, fields)
+        }
         EventKind::Resize { cols, rows } => {
-            let values = [
-                Number(slot),
-                Number(u64::from(*cols)),
-                Number(u64::from(*rows)),
-            ];
-            push_line(out, Word::Resize, &values)
+            (fields.columns, fields.rows) = (*cols, *rows);
+            (Word::Resize, fields)
         }
     }
 }

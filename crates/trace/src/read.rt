@@ -2,8 +2,8 @@
 //!
 //! `cut` takes lines and fields off. `entry` and `fields` read one line, whose `values` are read over the table of its
 //! fields, and `frequent` those that come most often. `number`, `choice` and `bytes` read one field. `said` is the event
-//! that a line says, before anything owns it. `judging` goes over a whole text and keeps what stands before its events,
-//! `events` takes these one by one, and `at_fault` finds the fault of a line, and its field.
+//! that a line says, with its bytes still spelled. `judging` goes over a whole text and keeps what stands before its
+//! events, `events` takes these one by one, and `at_fault` finds the fault of a line, and its field.
 
 ghost use Rattle.std.specs.Prelude.{◌≡◌, ◌≢◌, ◌≤◌, IfOk, IfErr, OnOk};
 ghost use Rattle.trace.specs.Faults.{IsFault, IsCleanBefore};

@@ -1,7 +1,7 @@
 //! The table of a trace's lines: which fields stand after each word.
 
-ghost use Rattle.std.specs.Prelude.{◌≡◌, ℕ, List, map};
-ghost use Rattle.trace.specs.Words.{shape_of, shapes, width_among};
+ghost use Rattle.std.specs.Prelude.{◌≡◌};
+ghost use Rattle.trace.specs.Words.{fields_in};
 
 use crate::version::VERSION_2;
 use crate::word::Word;
@@ -36,7 +36,7 @@ pub enum Field {
 
 /// The fields after a word in a version, in their order.
 pub fn fields_after(version: u8, word: Word) -> &'static [Field]
-    ensures { (fields : List (List ℕ)) → map (shape_of (width_among fields)) result.now ≡ shapes version word fields }
+    ensures { result.now ≡ fields_in version word }
 {
     use Field::*;
     match word {

@@ -1,4 +1,4 @@
-//! The value of a field, as a line is read and as it is written.
+//! The value of a field, as a line is read.
 
 use board::DeviceKind;
 
@@ -15,7 +15,6 @@ pub(crate) enum FieldValue<'a> {
     Width(u8),
     /// A value of so many bytes.
     Value(u8, u32),
-    Bytes(&'a [u8]),
     Identity([u8; 20]),
     /// A field as it stands in its line.
     Spelled(&'a [u8]),

@@ -1,48 +1,111 @@
-//! The line of a trace: a word, and the values of the fields after it in the table's order.
+//! The line of a trace: a word, and the fields after it in the table's order.
 
 ghost use Rattle.std.specs.Prelude.{◌≡◌, ◌++◌, ◌∷◌, OnOk, map};
-ghost use Rattle.trace.specs.Spelling.{value_text};
+ghost use Rattle.trace.specs.Spelling.{field_text};
 ghost use Rattle.trace.specs.Text.{ended, line};
-ghost use Rattle.trace.specs.Words.{spelled};
+ghost use Rattle.trace.specs.Words.{fields_in, spelled};
 
 use crate::print::push::{push_bytes, push_fixed, push_num};
-use crate::value::FieldValue;
+use crate::table::{Field, fields_after};
 use crate::word::{Word, spelling_of};
 use board::DeviceKind;
 use std::alloc::{AllocError, Allocator};
 
-/// Appends a line.
+/// What the fields of a line say; a word has only some of them.
+#[derive(Clone, Copy)]
+pub(crate) struct LineFields<'a> {
+    pub sectors: u32,
+    pub base: u64,
+    pub size: u64,
+    pub start: u64,
+    pub count: u64,
+    pub read_only: bool,
+    pub columns: u16,
+    pub rows: u16,
+    pub identity: [u8; 20],
+    pub slot: u8,
+    pub window: DeviceKind,
+    pub offset: u16,
+    pub width: u8,
+    /// It is spelled by the width.
+    pub value: u32,
+    pub address: u64,
+    pub length: u32,
+    pub bytes: &'a [u8],
+}
+
+impl Default for LineFields<'_> {
+    fn default() -> Self {
+        LineFields {
+            sectors: 0,
+            base: 0,
+            size: 0,
+            start: 0,
+            count: 0,
+            read_only: false,
+            columns: 0,
+            rows: 0,
+            identity: [0; 20],
+            slot: 0,
+            window: DeviceKind::Block,
+            offset: 0,
+            width: 0,
+            value: 0,
+            address: 0,
+            length: 0,
+            bytes: &[],
+        }
+    }
+}
+
+/// Appends the line of a word in a version.
 pub(crate) fn push_line<A: Allocator>(
     out: &mut Vec<u8, A>,
+    version: u8,
     word: Word,
-    values: &[FieldValue<'_>],
+    fields: &LineFields<'_>,
 ) -> Result<(), AllocError>
-    ensures { OnOk result (out.new.items ≡ out.old.items ++ ended (line (spelled word ∷ map value_text values.now))) }
+    ensures { OnOk result (out.new.items ≡ out.old.items ++ ended (line (spelled word ∷ map (field_text fields.now) (fields_in version word)))) }
 {
     out.extend_from_slice(spelling_of(word))?;
-    for value in values {
+    let row = fields_after(version, word);
+    for field in row {
         out.push(b' ')?;
-        push_value(out, *value)?;
+        push_field(out, *field, fields)?;
     }
     out.push(b'\n')?;
     Ok(())
 }
 
-// Appends the spelling of a value.
-fn push_value<A: Allocator>(out: &mut Vec<u8, A>, value: FieldValue<'_>) -> Result<(), AllocError>
-    ensures { OnOk result (out.new.items ≡ out.old.items ++ value_text value.entry) }
+// Appends the spelling of a field.
+fn push_field<A: Allocator>(
+    out: &mut Vec<u8, A>,
+    field: Field,
+    fields: &LineFields<'_>,
+) -> Result<(), AllocError>
+    ensures { OnOk result (out.new.items ≡ out.old.items ++ field_text fields.now field) }
 {
-    match value {
-        FieldValue::Number(n) => push_num(out, n),
-        FieldValue::Mode(true) => out.extend_from_slice(b"ro"),
-        FieldValue::Mode(false) => out.extend_from_slice(b"rw"),
-        FieldValue::Window(DeviceKind::Block) => out.extend_from_slice(b"b"),
-        FieldValue::Window(DeviceKind::Console) => out.extend_from_slice(b"c"),
-        FieldValue::Offset(offset) => push_fixed(out, 3, u32::from(offset)),
-        FieldValue::Width(width) => push_num(out, u64::from(width)),
-        FieldValue::Value(width, value) => push_fixed(out, 2 * u16::from(width), value),
-        FieldValue::Bytes(bytes) => push_bytes(out, bytes),
-        FieldValue::Identity(identity) => push_bytes(out, &identity),
-        FieldValue::Spelled(field) => out.extend_from_slice(field),
+    match field {
+        Field::Sectors => push_num(out, u64::from(fields.sectors)),
+        Field::Base => push_num(out, fields.base),
+        Field::Size => push_num(out, fields.size),
+        Field::Start => push_num(out, fields.start),
+        Field::Count => push_num(out, fields.count),
+        Field::Mode if fields.read_only => out.extend_from_slice(b"ro"),
+        Field::Mode => out.extend_from_slice(b"rw"),
+        Field::Columns => push_num(out, u64::from(fields.columns)),
+        Field::Rows => push_num(out, u64::from(fields.rows)),
+        Field::Identity => push_bytes(out, &fields.identity),
+        Field::Slot => push_num(out, u64::from(fields.slot)),
+        Field::Window => match fields.window {
+            DeviceKind::Block => out.extend_from_slice(b"b"),
+            DeviceKind::Console => out.extend_from_slice(b"c"),
+        },
+        Field::Offset => push_fixed(out, 3, u32::from(fields.offset)),
+        Field::Width => push_num(out, u64::from(fields.width)),
+        Field::Value => push_fixed(out, 2 * u16::from(fields.width), fields.value),
+        Field::Address => push_num(out, fields.address),
+        Field::Length => push_num(out, u64::from(fields.length)),
+        Field::Bytes => push_bytes(out, fields.bytes),
     }
 }

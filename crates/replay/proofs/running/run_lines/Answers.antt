@@ -1,6 +1,5 @@
-use Rattle.std.proofs.Common.{length, sym, subst}
+use Rattle.std.proofs.Common.{length, sym}
 use Rattle.std.proofs.lemmas.Bool.{eqb-false, eqb-true}
-use Rattle.replay.specs.Running.{HasRoomFor}
 use Rattle.replay.proofs.Lines.{begins, fits, run_all, run_more, run_none}
 use Rattle.replay.proofs.running.run_lines.Goals as goal
 
