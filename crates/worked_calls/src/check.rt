@@ -1,0 +1,91 @@
+//! The rows of a file, one after another.
+
+use crate::row::{Row, row_of};
+use crate::subject::{Stuck, Subject};
+use crate::words::Words;
+use std::io::Write;
+use std::rt::Files;
+use std::{fs, io};
+
+/// Checks the rows of a file: writes how many there are, or each that answers otherwise. The answer is whether all is well.
+pub(crate) fn check_file<R: Files + AllocGlobal + Clone + Drop, W: Write>(
+    rt: &R,
+    file: &str,
+    out: &mut W,
+) -> io::Result<bool> {
+    let Ok(text) = fs::read_to_string(rt, file) else {
+        writeln!(out, "{file} can't be read")?;
+        return Ok(false);
+    };
+    let Some((first, rows)) = text.split_once('\n') else {
+        writeln!(out, "{file} names no subject")?;
+        return Ok(false);
+    };
+    match first {
+        _ => {
+            writeln!(out, "{file} names no subject")?;
+            Ok(false)
+        }
+    }
+}
+
+// Checks these rows, which stand behind the file's first line.
+fn check_rows<R: AllocGlobal, S: Subject, W: Write>(
+    rt: &R,
+    file: &str,
+    rows: &str,
+    subject: &mut S,
+    out: &mut W,
+) -> io::Result<bool> {
+    let mut count = 0u64;
+    let mut all_well = true;
+    for (at, line) in rows.lines().enumerate() {
+        let Some(row) = row_of(line) else {
+            continue;
+        };
+        count = count.saturating_add(1);
+        let number = at.saturating_add(2);
+        if !check_row(rt, subject, file, number, row, out)? {
+            all_well = false;
+        }
+    }
+    if all_well {
+        writeln!(out, "{file}: {count} calls answer as they must")?;
+    }
+    Ok(all_well)
+}
+
+// Makes a row's call. Is its answer the one that it must give? Writes where it isn't.
+fn check_row<R: AllocGlobal, S: Subject, W: Write>(
+    rt: &R,
+    subject: &mut S,
+    file: &str,
+    number: usize,
+    row: Row<'_>,
+    out: &mut W,
+) -> io::Result<bool> {
+    let mut answer = String::new(rt.alloc());
+    let Row {
+        call,
+        answer: expected,
+    } = row;
+    let mut words = Words::new(call);
+    let made = subject
+        .call(&mut words, &mut answer)
+        .and_then(|()| words.end());
+    let found = answer.as_str();
+    match made {
+        Ok(()) if found == expected => Ok(true),
+        Ok(()) => {
+            writeln!(
+                out,
+                "{file} line {number}: {call}: expected {expected}, found {found}"
+            )?;
+            Ok(false)
+        }
+        Err(stuck) => {
+            writeln!(out, "{file} line {number}: {call}: {stuck}")?;
+            Ok(false)
+        }
+    }
+}
