@@ -15,6 +15,8 @@ mod seen;
 mod service;
 mod teller;
 mod watch;
+mod weave;
+mod wording;
 mod words;
 
 use calls::start;

@@ -4,6 +4,7 @@ ghost use Rattle.std.specs.Prelude.{◌<◌, IfSome, length};
 
 use crate::page_text::{HEAD, TAIL};
 use crate::replaying::{show, try_replay};
+use crate::weave::Text;
 use calls::{Advice, refuse, told};
 use replay::ReplayFault;
 use sector_cache::{Image, MemoryImage};
@@ -12,7 +13,6 @@ use std::io::{ErrorKind, Write};
 use std::rt::Files;
 use std::{fs, io};
 use trace::write_whole;
-use weave::Text;
 
 /// Makes the file anew, and writes the page of a replay of this text to it. A replay that comes to no end leaves the file
 /// as it is.

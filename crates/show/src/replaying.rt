@@ -6,18 +6,18 @@
 ghost use Rattle.std.specs.Prelude.{OnOk, false};
 ghost use Rattle.std.specs.Io.KnownBytes.{Keeps};
 ghost use Rattle.sector_cache.specs.MemoryImage.{disk_of};
-ghost use Rattle.weave.specs.Weaver.{weaver_records};
-ghost use Rattle.weave.specs.Woven.{records_of};
+ghost use Rattle.show.specs.Weaver.{weaver_records};
+ghost use Rattle.show.specs.Woven.{records_of};
 ghost use Rattle.show.specs.Replaying.{ShowsRun};
 
 use crate::teller::Teller;
+use crate::weave::Weaver;
 use calls::replayed;
 use replay::ReplayFault;
 use sector_cache::MemoryImage;
 use std::alloc::Allocator;
 use std::io;
 use std::io::{ErrorKind, Write};
-use weave::Weaver;
 
 /// Replays a trace's text over an image, and writes the records, each behind what is said of its event and before what came
 /// of that.

@@ -1,10 +1,12 @@
 //! What is seen of a guest's devices, and said where it changes.
 
 use crate::guest::{SlotQueue, queue_of, window_of};
+use crate::weave::Text;
+use crate::wording::{
+    Change, NEW_WINDOW, Table, WindowSeen, say_changes, say_on_offer, window_seen,
+};
 use board::{Board, DeviceKind, Image};
 use std::alloc::Allocator;
-use weave::Text;
-use wording::{Change, NEW_WINDOW, Table, WindowSeen, say_changes, say_on_offer, window_seen};
 
 /// What was said last of a guest's windows, and of its queues' descriptors.
 #[derive(Drop)]

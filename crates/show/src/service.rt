@@ -1,16 +1,16 @@
 //! Serving a queue chain by chain, and saying of each what was taken and what came of it.
 
 use crate::guest::{SlotQueue, queue_of, ring_of, window_of};
+use crate::weave::Text;
+use crate::wording::{
+    Ahead, Mistake, SHOWN, fault_name, look_ahead, say_notification, say_queue_head, say_received,
+    say_request, say_site, say_used, size_of, used_entry,
+};
 use board::{Board, DeviceKind, EventKind, Image, Pause, Reply, Turn};
 use chain::{Budget, Chain, Fault};
 use mmio_window::Queue;
 use negotiation::{Flags, Status};
 use std::alloc::Allocator;
-use weave::Text;
-use wording::{
-    Ahead, Mistake, SHOWN, fault_name, look_ahead, say_notification, say_queue_head, say_received,
-    say_request, say_site, say_used, size_of, used_entry,
-};
 
 /// What a service came to.
 #[derive(Drop)]

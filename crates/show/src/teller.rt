@@ -1,11 +1,11 @@
 //! What is said of the events of a trace, one after another, by a watcher that goes along with them.
 
 use crate::watch::Watcher;
+use crate::weave::{Tell, Text, take_line};
 use board::Board;
 use sector_cache::MemoryImage;
 use std::alloc::Allocator;
 use trace::{event_of_line, read_trace};
-use weave::{Tell, Text, take_line};
 
 /// What was said last of the events of a trace, and those that are left.
 #[derive(Drop)]

@@ -3,16 +3,16 @@
 use crate::guest::{SlotQueue, ring_of, window_of};
 use crate::seen::Guest;
 use crate::service::serve;
+use crate::weave::Text;
+use crate::wording::{
+    Mistake, SHOWN, read_mistake, say_event, say_interrupts, say_place, say_value, write_mistake,
+};
 use board::{Board, DeviceKind, Event, EventKind, Image, Reply, SlotSpec};
 use chain::{Chain, Fault};
 use mmio_window::Queue;
 use negotiation::{Features, Flags};
 use std::alloc::{AllocError, Allocator};
 use trace::Trace;
-use weave::Text;
-use wording::{
-    Mistake, SHOWN, read_mistake, say_event, say_interrupts, say_place, say_value, write_mistake,
-};
 
 /// The offset of QueueNotify (4.2.2).
 const QUEUE_NOTIFY: u16 = 0x050;
