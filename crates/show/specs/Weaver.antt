@@ -4,5 +4,5 @@ use Rattle.show.specs.Woven.{woven_records}
 use Rattle.show.specs.declared.weave.weaver.Weaver.{Weaver}
 
 -- those in what went out and what waits
-abbrev pub weaver_records : {T W A : Type 0} → (W → Option (List ℕ)) → Weaver T W A → Option (List ℕ)
+abbrev pub weaver_records : {T W : Type 0} → (W → Option (List ℕ)) → Weaver T W → Option (List ℕ)
 weaver_records contents weaver = woven_records contents weaver.woven

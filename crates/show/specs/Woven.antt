@@ -36,7 +36,7 @@ records_of is_inside None = None
 records_of is_inside (Some text) = agreed is_inside (ends_inside false text) (records_in false text)
 
 -- the records in what went out and what waits
-abbrev pub woven_records : {W A : Type 0} → (W → Option (List ℕ)) → Woven W A → Option (List ℕ)
+abbrev pub woven_records : {W : Type 0} → (W → Option (List ℕ)) → Woven W → Option (List ℕ)
 woven_records contents woven = records_of woven.is_inside (append_known (contents woven.out) woven.waiting.items)
 
 -- a text that holds nothing of a record

@@ -1,15 +1,14 @@
 //! Who says what is to stand between the records.
 
 use crate::weave::text::Text;
-use std::alloc::Allocator;
 
 /// Says of events, one after another, what each was and what came of it.
-pub trait Tell<A: Allocator> {
+pub trait Tell {
     /// What the last event was.
-    fn head(&self) -> &Text<A>;
+    fn head(&self) -> &Text;
 
     /// What came of it.
-    fn tail(&self) -> &Text<A>;
+    fn tail(&self) -> &Text;
 
     /// Goes on to the next event.
     fn next(&mut self);

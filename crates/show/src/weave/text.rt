@@ -2,17 +2,17 @@
 
 ghost use Rattle.std.specs.Prelude.{◌≡◌, ◌++◌, [], false};
 
-use std::alloc::Allocator;
+use std::alloc::Global;
 use std::marker::Model;
 
 /// Text that grows. Where there is no memory for more it is full, and takes nothing from then on.
 #[derive(Drop)]
-pub struct Text<A: Allocator> {
-    bytes: Vec<u8, A>,
+pub struct Text {
+    bytes: Vec<u8>,
     is_full: bool,
 }
 
-impl<A: Allocator> Model for Text<A> {
+impl Model for Text {
     ghost use Rattle.show.specs.Text.{Said};
 
     ghost Value = { Said };
@@ -23,9 +23,9 @@ impl<A: Allocator> Model for Text<A> {
 /// The digits of numbers.
 const DIGITS: [u8; 16] = *b"0123456789abcdef";
 
-impl<A: Allocator> Text<A> {
+impl Text {
     /// No text. This takes no memory.
-    pub fn new(alloc: A) -> Text<A>
+    pub fn new(alloc: Global) -> Text
         ensures { result.bytes ≡ [] }
     {
         Text {
@@ -72,7 +72,7 @@ impl<A: Allocator> Text<A> {
     }
 
     /// Appends another text. Where that is full, so is this then.
-    pub fn take(&mut self, other: &Text<A>)
+    pub fn take(&mut self, other: &Text)
         ensures put { self.new.is_full ≡ false → self.new.bytes ≡ self.old.bytes ++ other.now.bytes }
         ensures before { self.new.is_full ≡ false → self.old.is_full ≡ false }
     {

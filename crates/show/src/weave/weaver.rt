@@ -7,20 +7,20 @@ ghost use Rattle.show.specs.Weaver.{weaver_records};
 
 use crate::weave::tell::Tell;
 use crate::weave::woven::Woven;
-use std::alloc::Allocator;
+use std::alloc::Global;
 use std::io;
 use std::io::{ErrorKind, Write};
 
 /// Such a writer. Of a record no more than a piece is held.
 #[derive(Drop)]
-pub struct Weaver<T: Tell<A> + Drop, W: Write + Drop, A: Allocator> {
-    woven: Woven<W, A>,
+pub struct Weaver<T: Tell + Drop, W: Write + Drop> {
+    woven: Woven<W>,
     teller: T,
 }
 
-impl<T: Tell<A> + Drop, W: Write + Drop, A: Allocator> Weaver<T, W, A> {
+impl<T: Tell + Drop, W: Write + Drop> Weaver<T, W> {
     /// One in front of a writer.
-    pub fn new(alloc: A, teller: T, out: W) -> Weaver<T, W, A>
+    pub fn new(alloc: Global, teller: T, out: W) -> Weaver<T, W>
         ensures { Keeps (records_of false (W.contents out)) (weaver_records W.contents result) }
     {
         Weaver {
@@ -70,7 +70,7 @@ impl<T: Tell<A> + Drop, W: Write + Drop, A: Allocator> Weaver<T, W, A> {
     }
 }
 
-impl<T: Tell<A> + Drop, W: Write + Drop, A: Allocator> Write for Weaver<T, W, A> {
+impl<T: Tell + Drop, W: Write + Drop> Write for Weaver<T, W> {
     ghost use Rattle.show.specs.Weaver.{weaver_records};
 
     ghost contents = { weaver_records W.contents };

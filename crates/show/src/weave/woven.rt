@@ -10,7 +10,7 @@ ghost use Rattle.std.specs.Io.KnownBytes.{Keeps, WriteAppends};
 ghost use Rattle.show.specs.Woven.{IsPiece, IsPlain, records_of, woven_records};
 
 use crate::weave::text::Text;
-use std::alloc::Allocator;
+use std::alloc::Global;
 use std::io;
 use std::io::{ErrorKind, Write};
 
@@ -19,16 +19,16 @@ const MOST_WAITING: usize = 65536;
 
 /// A writer that is given records and what is said between them.
 #[derive(Drop)]
-pub struct Woven<W: Write + Drop, A: Allocator> {
+pub struct Woven<W: Write + Drop> {
     out: W,
-    waiting: Vec<u8, A>,
+    waiting: Vec<u8>,
     is_inside: bool,
     is_full: bool,
 }
 
-impl<W: Write + Drop, A: Allocator> Woven<W, A> {
+impl<W: Write + Drop> Woven<W> {
     /// One in front of a writer. This takes no memory.
-    pub fn new(alloc: A, out: W) -> Woven<W, A>
+    pub fn new(alloc: Global, out: W) -> Woven<W>
         ensures { Keeps (records_of false (W.contents out)) (woven_records W.contents result) }
     {
         Woven {
@@ -61,7 +61,7 @@ impl<W: Write + Drop, A: Allocator> Woven<W, A> {
     }
 
     /// Says a text between two records. One with a tab is left out; there is none.
-    pub fn say(&mut self, said: &Text<A>) -> io::Result<()>
+    pub fn say(&mut self, said: &Text) -> io::Result<()>
         ensures { Keeps (woven_records W.contents self.old) (woven_records W.contents self.new) }
     {
         if said.is_full() {
@@ -160,7 +160,7 @@ fn piece_of(bytes: &[u8]) -> (usize, bool)
 }
 
 // Takes the first bytes out.
-fn remove_front<A: Allocator>(bytes: &mut Vec<u8, A>, count: usize)
+fn remove_front(bytes: &mut Vec<u8>, count: usize)
     requires { count ≤ vec_len bytes.old }
     ensures { bytes.new.items ≡ drop count bytes.old.items }
 {

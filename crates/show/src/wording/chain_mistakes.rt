@@ -7,11 +7,10 @@ use guest_memory::GuestMemory;
 use indirect::{INDIRECT, WRITE};
 use mmio_window::{Queue, Token};
 use packed_ring::PackedRing;
-use std::alloc::Allocator;
 
 /// What is wrong with a chain that a service takes of a queue of this size, as it stands before.
-pub fn chain_mistake<A: Allocator>(
-    mem: &GuestMemory<A>,
+pub fn chain_mistake(
+    mem: &GuestMemory,
     queue: &Queue,
     size: u16,
     token: &Token,
@@ -26,8 +25,8 @@ pub fn chain_mistake<A: Allocator>(
 }
 
 // What is wrong with the descriptors of a list.
-fn list_mistake<A: Allocator>(
-    mem: &GuestMemory<A>,
+fn list_mistake(
+    mem: &GuestMemory,
     ring: &PackedRing,
     size: u16,
     list: &packed_ring::Token,
@@ -53,7 +52,7 @@ fn list_mistake<A: Allocator>(
 }
 
 // Whether one of so many descriptors of a packed table has another flag than WRITE.
-fn has_other_flag<A: Allocator>(mem: &GuestMemory<A>, table: u64, count: u64) -> bool {
+fn has_other_flag(mem: &GuestMemory, table: u64, count: u64) -> bool {
     for number in 0..count {
         let at = table.wrapping_add(number.wrapping_mul(16)).wrapping_add(14);
         if let Some(flags) = mem.get_u16(at) {

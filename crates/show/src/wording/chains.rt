@@ -15,7 +15,6 @@ use indirect::INDIRECT;
 use mmio_window::{Queue, QueueRegisters, Token};
 use packed_ring::PackedRing;
 use split_ring::SplitRing;
-use std::alloc::Allocator;
 
 /// What stands before a service at its ring's place.
 #[derive(Clone, Copy)]
@@ -34,13 +33,13 @@ pub enum Ahead {
 
 /// Asks a copy of a queue's ring what a service takes next, which opens where `opens`. The chain is
 /// left in `chain`, and said.
-pub fn look_ahead<A: Allocator, T: Allocator>(
-    mem: &GuestMemory<A>,
+pub fn look_ahead(
+    mem: &GuestMemory,
     registers: &QueueRegisters,
     device: Option<&BlockDevice>,
     opens: bool,
     chain: &mut Chain,
-    text: &mut Text<T>,
+    text: &mut Text,
 ) -> Ahead {
     chain.clear();
     let Some(queue) = &registers.ring else {
@@ -83,13 +82,7 @@ fn parts_of(token: &Token) -> (u16, u16) {
 }
 
 // Says a chain with its buffers, and which descriptor each of them came from.
-fn say_chain<A: Allocator, T: Allocator>(
-    text: &mut Text<T>,
-    mem: &GuestMemory<A>,
-    queue: &Queue,
-    token: &Token,
-    chain: &Chain,
-) {
+fn say_chain(text: &mut Text, mem: &GuestMemory, queue: &Queue, token: &Token, chain: &Chain) {
     let (_, head) = parts_of(token);
     text.say("  chain ");
     text.count(u64::from(head));
@@ -112,7 +105,7 @@ fn say_chain<A: Allocator, T: Allocator>(
 }
 
 /// Says a buffer: whether it is read or written, its address and its length.
-pub fn say_buffer<T: Allocator>(text: &mut Text<T>, buffer: Buffer) {
+pub fn say_buffer(text: &mut Text, buffer: Buffer) {
     text.say(if buffer.writable { "writes " } else { "reads " });
     text.hex(buffer.segment.addr);
     text.say("+");
@@ -130,12 +123,7 @@ enum Origin {
 }
 
 // Says which descriptor or which table the next buffer came from, and answers that of the buffer behind it.
-fn say_origin<A: Allocator, T: Allocator>(
-    text: &mut Text<T>,
-    mem: &GuestMemory<A>,
-    queue: &Queue,
-    origin: Origin,
-) -> Origin {
+fn say_origin(text: &mut Text, mem: &GuestMemory, queue: &Queue, origin: Origin) -> Origin {
     match (origin, queue) {
         (Origin::At(index), Queue::Split(ring)) => say_split_origin(text, mem, ring, index),
         (Origin::At(position), Queue::Packed(ring)) => {
@@ -147,12 +135,7 @@ fn say_origin<A: Allocator, T: Allocator>(
 }
 
 // The same of the descriptor at an index of a split ring.
-fn say_split_origin<A: Allocator, T: Allocator>(
-    text: &mut Text<T>,
-    mem: &GuestMemory<A>,
-    ring: &SplitRing,
-    index: u16,
-) -> Origin {
+fn say_split_origin(text: &mut Text, mem: &GuestMemory, ring: &SplitRing, index: u16) -> Origin {
     if !ring.lies_in(mem) {
         return Origin::Nowhere;
     }
@@ -170,9 +153,9 @@ fn say_split_origin<A: Allocator, T: Allocator>(
 }
 
 // The same of the descriptor at a position of a packed ring.
-fn say_packed_origin<A: Allocator, T: Allocator>(
-    text: &mut Text<T>,
-    mem: &GuestMemory<A>,
+fn say_packed_origin(
+    text: &mut Text,
+    mem: &GuestMemory,
     ring: &PackedRing,
     position: u16,
 ) -> Origin {
@@ -195,14 +178,14 @@ fn say_packed_origin<A: Allocator, T: Allocator>(
 }
 
 // Says the index of a descriptor.
-fn say_index<T: Allocator>(text: &mut Text<T>, index: u16) {
+fn say_index(text: &mut Text, index: u16) {
     text.say(" (");
     text.count(u64::from(index));
     text.say(")");
 }
 
 // Says the table that a buffer came from.
-fn say_table<T: Allocator>(text: &mut Text<T>, addr: u64) -> Origin {
+fn say_table(text: &mut Text, addr: u64) -> Origin {
     text.say(" (table ");
     text.hex(addr);
     text.say(")");

@@ -4,13 +4,12 @@ use crate::weave::Text;
 use crate::wording::names::{field_name, register_name, say_interrupts, say_status};
 use board::{DeviceKind, EventKind};
 use mmio_window::{CONFIGURATION_OFFSET, Register};
-use std::alloc::Allocator;
 
 /// How many bytes of a text are shown.
 pub const SHOWN: usize = 64;
 
 /// Says the device or the memory that an event is about, between a guest and what was done.
-pub fn say_place<A: Allocator>(text: &mut Text<A>, what: &EventKind<A>) {
+pub fn say_place(text: &mut Text, what: &EventKind) {
     text.say(match what {
         EventKind::Read { window, .. } | EventKind::Write { window, .. } => match window {
             DeviceKind::Block => " block: ",
@@ -22,7 +21,7 @@ pub fn say_place<A: Allocator>(text: &mut Text<A>, what: &EventKind<A>) {
 }
 
 /// Says what an event was.
-pub fn say_event<A: Allocator>(text: &mut Text<A>, what: &EventKind<A>) {
+pub fn say_event(text: &mut Text, what: &EventKind) {
     match what {
         EventKind::Read {
             window,
@@ -73,7 +72,7 @@ pub fn register_of(offset: u16, width: u8) -> Option<Register> {
 }
 
 // Says which register or field an access is to.
-fn say_register<A: Allocator>(text: &mut Text<A>, window: DeviceKind, offset: u16, width: u8) {
+fn say_register(text: &mut Text, window: DeviceKind, offset: u16, width: u8) {
     if let Some(register) = register_of(offset, width) {
         text.say(register_name(register));
         return;
@@ -94,13 +93,7 @@ fn say_register<A: Allocator>(text: &mut Text<A>, window: DeviceKind, offset: u1
 }
 
 // Says a write to a register or a field.
-fn say_write<A: Allocator>(
-    text: &mut Text<A>,
-    window: DeviceKind,
-    offset: u16,
-    width: u8,
-    value: u32,
-) {
+fn say_write(text: &mut Text, window: DeviceKind, offset: u16, width: u8, value: u32) {
     say_register(text, window, offset, width);
     text.say(" ");
     match register_of(offset, width) {
@@ -124,7 +117,7 @@ fn say_write<A: Allocator>(
 }
 
 /// Says the value that a register read gave.
-pub fn say_value<A: Allocator>(text: &mut Text<A>, offset: u16, width: u8, value: u32) {
+pub fn say_value(text: &mut Text, offset: u16, width: u8, value: u32) {
     match register_of(offset, width) {
         Some(Register::Status) => say_status(text, value),
         Some(Register::InterruptStatus) => say_interrupts(text, value),

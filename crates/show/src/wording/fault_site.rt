@@ -15,7 +15,6 @@ use indirect::{Descriptor, INDIRECT, NEXT};
 use mmio_window::{Queue, QueueRegisters};
 use packed_ring::PackedRing;
 use split_ring::SplitRing;
-use std::alloc::Allocator;
 
 /// A table of descriptors.
 #[derive(Clone, Copy)]
@@ -25,12 +24,7 @@ struct Table {
 }
 
 /// Says what is at fault in a queue, and where.
-pub fn say_site<A: Allocator, T: Allocator>(
-    text: &mut Text<T>,
-    mem: &GuestMemory<A>,
-    registers: &QueueRegisters,
-    fault: Fault,
-) {
+pub fn say_site(text: &mut Text, mem: &GuestMemory, registers: &QueueRegisters, fault: Fault) {
     let table = Table {
         addr: registers.descriptor_area,
         size: size_of(registers),
@@ -51,12 +45,7 @@ pub fn say_site<A: Allocator, T: Allocator>(
 }
 
 // Says an available idx that a split ring of a size can't have.
-fn say_jump<A: Allocator, T: Allocator>(
-    text: &mut Text<T>,
-    mem: &GuestMemory<A>,
-    ring: &SplitRing,
-    size: u16,
-)
+fn say_jump(text: &mut Text, mem: &GuestMemory, ring: &SplitRing, size: u16)
     requires { LiesIn mem.now ring.now.setup }
 {
     text.say(": available idx ");
@@ -68,13 +57,7 @@ fn say_jump<A: Allocator, T: Allocator>(
 }
 
 // Says the first descriptor of a split ring's next chain that shows a fault.
-fn say_split_site<A: Allocator, T: Allocator>(
-    text: &mut Text<T>,
-    mem: &GuestMemory<A>,
-    ring: &SplitRing,
-    table: Table,
-    fault: Fault,
-)
+fn say_split_site(text: &mut Text, mem: &GuestMemory, ring: &SplitRing, table: Table, fault: Fault)
     requires { LiesIn mem.now ring.now.setup }
 {
     let mut index = ring.head(mem);
@@ -119,19 +102,19 @@ fn say_split_site<A: Allocator, T: Allocator>(
 }
 
 // Whether a descriptor is the one that shows a fault.
-fn shows<A: Allocator>(mem: &GuestMemory<A>, descriptor: &Descriptor, fault: Fault) -> bool {
+fn shows(mem: &GuestMemory, descriptor: &Descriptor, fault: Fault) -> bool {
     descriptor.indirect || fault == Fault::Range && !lies_in(mem, descriptor.buffer)
 }
 
 // Whether a buffer lies in memory.
-fn lies_in<A: Allocator>(mem: &GuestMemory<A>, buffer: Buffer) -> bool {
+fn lies_in(mem: &GuestMemory, buffer: Buffer) -> bool {
     mem.holds(buffer.segment.addr, u64::from(buffer.segment.len))
 }
 
 // Says the first descriptor of a packed ring's next list that shows a fault.
-fn say_packed_site<A: Allocator, T: Allocator>(
-    text: &mut Text<T>,
-    mem: &GuestMemory<A>,
+fn say_packed_site(
+    text: &mut Text,
+    mem: &GuestMemory,
     ring: &PackedRing,
     table: Table,
     fault: Fault,
@@ -161,14 +144,14 @@ fn say_packed_site<A: Allocator, T: Allocator>(
 }
 
 // Says a descriptor with its buffer.
-fn say_descriptor<T: Allocator>(text: &mut Text<T>, table: Table, index: u16, buffer: Buffer) {
+fn say_descriptor(text: &mut Text, table: Table, index: u16, buffer: Buffer) {
     say_at(text, table, index);
     text.say(" ");
     say_buffer(text, buffer);
 }
 
 // Says a descriptor and its address.
-fn say_at<T: Allocator>(text: &mut Text<T>, table: Table, index: u16) {
+fn say_at(text: &mut Text, table: Table, index: u16) {
     text.say(": descriptor ");
     text.count(u64::from(index));
     text.say(" at ");

@@ -4,7 +4,6 @@ use crate::weave::Text;
 use board::DeviceKind;
 use chain::Fault;
 use mmio_window::Register;
-use std::alloc::Allocator;
 
 /// The name of a register.
 pub fn register_name(register: Register) -> &'static str {
@@ -93,7 +92,7 @@ static STATUS_BITS: [(u32, &str); 6] = [
 ];
 
 /// Says the bits of a status by name, and those without one as a number.
-pub fn say_status<A: Allocator>(text: &mut Text<A>, status: u32) {
+pub fn say_status(text: &mut Text, status: u32) {
     if status == 0 {
         text.say("0");
         return;
@@ -125,7 +124,7 @@ static BLOCK_FEATURES: [(u32, &str); 5] = [
 static CONSOLE_FEATURES: [(u32, &str); 2] = [(0, "SIZE"), (2, "EMERG_WRITE")];
 
 /// Says features by name, and those without one by their bits.
-pub fn say_features<A: Allocator>(text: &mut Text<A>, kind: DeviceKind, features: u64) {
+pub fn say_features(text: &mut Text, kind: DeviceKind, features: u64) {
     if features == 0 {
         text.say("none");
         return;
@@ -139,7 +138,7 @@ pub fn say_features<A: Allocator>(text: &mut Text<A>, kind: DeviceKind, features
 }
 
 // Says those of the bits left that have no name.
-fn say_rest<A: Allocator>(text: &mut Text<A>, all: u64, left: u64) {
+fn say_rest(text: &mut Text, all: u64, left: u64) {
     if left != 0 {
         text.say(if left != all { " 0x" } else { "0x" });
         text.hex(left);
@@ -147,12 +146,7 @@ fn say_rest<A: Allocator>(text: &mut Text<A>, all: u64, left: u64) {
 }
 
 // Says those of the bits left that the table names, and answers the rest.
-fn say_named<A: Allocator>(
-    text: &mut Text<A>,
-    all: u64,
-    left: u64,
-    table: &[(u32, &'static str)],
-) -> u64 {
+fn say_named(text: &mut Text, all: u64, left: u64, table: &[(u32, &'static str)]) -> u64 {
     let mut left = left;
     for (bit, name) in table {
         let mask = 1u64.wrapping_shl(*bit);
@@ -168,7 +162,7 @@ fn say_named<A: Allocator>(
 }
 
 /// Says the reasons of interrupts.
-pub fn say_interrupts<A: Allocator>(text: &mut Text<A>, word: u32) {
+pub fn say_interrupts(text: &mut Text, word: u32) {
     match word {
         0 => text.say("none"),
         1 => text.say("used buffer"),

@@ -10,13 +10,12 @@ use guest_memory::GuestMemory;
 use mmio_window::{Queue, QueueRegisters};
 use packed_ring::PackedRing;
 use split_ring::SplitRing;
-use std::alloc::Allocator;
 use suppression::{packed_wants, split_wants};
 
 /// Says whether a notification was wanted of the places of a queue from one to another, and by which field.
-pub fn say_notification<A: Allocator, T: Allocator>(
-    text: &mut Text<T>,
-    mem: &GuestMemory<A>,
+pub fn say_notification(
+    text: &mut Text,
+    mem: &GuestMemory,
     registers: &QueueRegisters,
     first: u16,
     last: u16,
@@ -37,9 +36,9 @@ pub fn say_notification<A: Allocator, T: Allocator>(
 }
 
 // The same of a split ring.
-fn say_split<A: Allocator, T: Allocator>(
-    text: &mut Text<T>,
-    mem: &GuestMemory<A>,
+fn say_split(
+    text: &mut Text,
+    mem: &GuestMemory,
     ring: &SplitRing,
     area: u64,
     size: u16,
@@ -65,9 +64,9 @@ fn say_split<A: Allocator, T: Allocator>(
 }
 
 // The same of a packed ring.
-fn say_packed<A: Allocator, T: Allocator>(
-    text: &mut Text<T>,
-    mem: &GuestMemory<A>,
+fn say_packed(
+    text: &mut Text,
+    mem: &GuestMemory,
     ring: &PackedRing,
     area: u64,
     size: u16,
@@ -102,7 +101,7 @@ fn say_packed<A: Allocator, T: Allocator>(
 }
 
 // Says whether a notification was wanted.
-fn say_wanted<T: Allocator>(text: &mut Text<T>, wants: bool) {
+fn say_wanted(text: &mut Text, wants: bool) {
     text.say(if wants {
         "wanted, by "
     } else {
@@ -111,7 +110,7 @@ fn say_wanted<T: Allocator>(text: &mut Text<T>, wants: bool) {
 }
 
 // Says how many places a service passed.
-fn say_passed<T: Allocator>(text: &mut Text<T>, passed: u16) {
+fn say_passed(text: &mut Text, passed: u16) {
     text.say(", ");
     text.counted(u64::from(passed), "place");
     text.say(" passed");

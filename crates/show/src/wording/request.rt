@@ -7,7 +7,6 @@ use crate::weave::Text;
 use block_device::{BlockDevice, Request, RequestStatus};
 use chain::Chain;
 use guest_memory::GuestMemory;
-use std::alloc::Allocator;
 
 /// What a chain asks for.
 #[derive(Clone, Copy)]
@@ -20,11 +19,7 @@ pub struct RequestSeen {
 }
 
 /// What a chain asks of a device, as the device itself reads it.
-pub fn request_seen<A: Allocator>(
-    device: &BlockDevice,
-    mem: &GuestMemory<A>,
-    chain: &Chain,
-) -> RequestSeen
+pub fn request_seen(device: &BlockDevice, mem: &GuestMemory, chain: &Chain) -> RequestSeen
     requires { All (Within mem.now) chain.now }
 {
     let room = chain.writable_len().saturating_sub(1);
@@ -36,7 +31,7 @@ pub fn request_seen<A: Allocator>(
 }
 
 // The type and the sector of a header.
-fn header_of<A: Allocator>(mem: &GuestMemory<A>, chain: &Chain) -> Option<(u32, u64)>
+fn header_of(mem: &GuestMemory, chain: &Chain) -> Option<(u32, u64)>
     requires { All (Within mem.now) chain.now }
 {
     if chain.readable_len() < 16 {
@@ -61,11 +56,7 @@ fn status_of(chain: &Chain) -> Option<u64> {
 }
 
 /// Says a request, and the status that its driver then reads.
-pub fn say_request<A: Allocator, M: Allocator>(
-    text: &mut Text<A>,
-    mem: &GuestMemory<M>,
-    seen: &RequestSeen,
-) {
+pub fn say_request(text: &mut Text, mem: &GuestMemory, seen: &RequestSeen) {
     text.say("    ");
     match seen.header {
         Some((kind, sector)) => say_header(text, kind, sector, seen.request),
@@ -82,7 +73,7 @@ pub fn say_request<A: Allocator, M: Allocator>(
 }
 
 // Says what a header asks for.
-fn say_header<A: Allocator>(text: &mut Text<A>, kind: u32, sector: u64, request: Request) {
+fn say_header(text: &mut Text, kind: u32, sector: u64, request: Request) {
     match kind {
         0 => text.say("IN"),
         1 => text.say("OUT"),
@@ -114,7 +105,7 @@ fn say_header<A: Allocator>(text: &mut Text<A>, kind: u32, sector: u64, request:
 }
 
 // Says the status at an address.
-fn say_status<A: Allocator, M: Allocator>(text: &mut Text<A>, mem: &GuestMemory<M>, at: u64) {
+fn say_status(text: &mut Text, mem: &GuestMemory, at: u64) {
     match mem.part(at, 1) {
         Some([0]) => text.say("OK"),
         Some([1]) => text.say("IOERR"),

@@ -10,7 +10,6 @@ use guest_memory::GuestMemory;
 use mmio_window::{Queue, QueueRegisters, Window};
 use negotiation::Flags;
 use packed_ring::PackedRing;
-use std::alloc::Allocator;
 
 /// A window.
 #[derive(Clone, Copy, PartialEq, Eq)]
@@ -87,7 +86,7 @@ pub const NEW_WINDOW: WindowSeen = WindowSeen {
 };
 
 /// What is seen of a window over its guest's memory.
-pub fn window_seen<A: Allocator>(mem: &GuestMemory<A>, window: &Window) -> WindowSeen {
+pub fn window_seen(mem: &GuestMemory, window: &Window) -> WindowSeen {
     let negotiation = window.negotiation();
     WindowSeen {
         status: u32::from(negotiation.status().bits()),
@@ -104,7 +103,7 @@ pub fn window_seen<A: Allocator>(mem: &GuestMemory<A>, window: &Window) -> Windo
 }
 
 // What is seen of a queue.
-fn queue_seen<A: Allocator>(mem: &GuestMemory<A>, registers: Option<&QueueRegisters>) -> QueueSeen {
+fn queue_seen(mem: &GuestMemory, registers: Option<&QueueRegisters>) -> QueueSeen {
     let Some(registers) = registers else {
         return NO_QUEUE;
     };
@@ -121,7 +120,7 @@ fn queue_seen<A: Allocator>(mem: &GuestMemory<A>, registers: Option<&QueueRegist
 }
 
 // What is seen of the ring of a queue of this size. Its areas lie in the memory of its guest.
-fn ring_seen<A: Allocator>(mem: &GuestMemory<A>, queue: &Queue, size: u16) -> Option<RingSeen> {
+fn ring_seen(mem: &GuestMemory, queue: &Queue, size: u16) -> Option<RingSeen> {
     if !queue.lies_in(mem) {
         return None;
     }
@@ -150,7 +149,7 @@ fn ring_seen<A: Allocator>(mem: &GuestMemory<A>, queue: &Queue, size: u16) -> Op
 }
 
 // The first place of a packed ring of this size that isn't available.
-fn available_place<A: Allocator>(mem: &GuestMemory<A>, ring: &PackedRing, size: u16) -> u16
+fn available_place(mem: &GuestMemory, ring: &PackedRing, size: u16) -> u16
     requires { LiesIn mem.now ring.now.setup }
 {
     for step in 0..size {
@@ -164,12 +163,7 @@ fn available_place<A: Allocator>(mem: &GuestMemory<A>, ring: &PackedRing, size: 
 }
 
 /// Says what of a window isn't as it was, a line each.
-pub fn say_changes<A: Allocator>(
-    text: &mut Text<A>,
-    kind: DeviceKind,
-    old: &WindowSeen,
-    new: &WindowSeen,
-) {
+pub fn say_changes(text: &mut Text, kind: DeviceKind, old: &WindowSeen, new: &WindowSeen) {
     if old.status != new.status {
         say_head(text, kind);
         text.say(" status ");
@@ -195,13 +189,13 @@ pub fn say_changes<A: Allocator>(
 }
 
 // Begins a line on the state of a device.
-fn say_head<A: Allocator>(text: &mut Text<A>, kind: DeviceKind) {
+fn say_head(text: &mut Text, kind: DeviceKind) {
     text.say("  state ");
     text.say(device_name(kind));
 }
 
 /// Begins a line on the state of a queue.
-pub fn say_queue_head<A: Allocator>(text: &mut Text<A>, kind: DeviceKind, index: u32, what: &str) {
+pub fn say_queue_head(text: &mut Text, kind: DeviceKind, index: u32, what: &str) {
     say_head(text, kind);
     text.say(" queue ");
     text.count(u64::from(index));
@@ -209,8 +203,8 @@ pub fn say_queue_head<A: Allocator>(text: &mut Text<A>, kind: DeviceKind, index:
 }
 
 // Says what a queue holds, where it isn't as it was.
-fn say_queue_change<A: Allocator>(
-    text: &mut Text<A>,
+fn say_queue_change(
+    text: &mut Text,
     kind: DeviceKind,
     index: u32,
     old: &QueueSeen,
@@ -235,7 +229,7 @@ fn say_queue_change<A: Allocator>(
 }
 
 // Says what a ring of a size holds.
-fn say_ring<A: Allocator>(text: &mut Text<A>, size: u32, ring: RingSeen) {
+fn say_ring(text: &mut Text, size: u32, ring: RingSeen) {
     match ring {
         RingSeen::Split {
             place,
@@ -275,7 +269,7 @@ fn say_ring<A: Allocator>(text: &mut Text<A>, size: u32, ring: RingSeen) {
 }
 
 /// Says the place in an event suppression structure (2.8.10).
-pub fn say_event_place<A: Allocator>(text: &mut Text<A>, place: u16) {
+pub fn say_event_place(text: &mut Text, place: u16) {
     text.say(" at ");
     text.count(u64::from(place & 0x7fff));
     text.say(" wrap ");
@@ -283,7 +277,7 @@ pub fn say_event_place<A: Allocator>(text: &mut Text<A>, place: u16) {
 }
 
 /// Says a place of a packed ring: its position and its wrap counter.
-pub fn say_packed_place<A: Allocator>(text: &mut Text<A>, size: u32, place: u32) {
+pub fn say_packed_place(text: &mut Text, size: u32, place: u32) {
     let is_first_round = place < size;
     text.count(u64::from(if is_first_round { place } else { place - size }));
     text.say(if is_first_round { " wrap 1" } else { " wrap 0" });

@@ -13,7 +13,7 @@ use indirect::{INDIRECT, NEXT};
 use mmio_window::{Queue, QueueRegisters};
 use packed_ring::PackedRing;
 use split_ring::SplitRing;
-use std::alloc::Allocator;
+use std::alloc::Global;
 
 /// The bytes of a descriptor (2.7.5, 2.8.13).
 const DESCRIPTOR_LEN: usize = 16;
@@ -32,13 +32,13 @@ pub enum Change {
 
 /// A copy of a queue's descriptors as they were said last.
 #[derive(Drop)]
-pub struct Table<A: Allocator> {
-    bytes: Vec<u8, A>,
+pub struct Table {
+    bytes: Vec<u8>,
 }
 
-impl<A: Allocator> Table<A> {
+impl Table {
     /// One of which nothing was said. This takes no memory.
-    pub fn new(alloc: A) -> Table<A> {
+    pub fn new(alloc: Global) -> Table {
         Table {
             bytes: Vec::new(alloc),
         }
@@ -46,10 +46,10 @@ impl<A: Allocator> Table<A> {
 
     /// Says the descriptors of a queue that aren't as they were said last, and answers how they changed. A queue that isn't
     /// ready has none.
-    pub fn say_changes<M: Allocator>(
+    pub fn say_changes(
         &mut self,
-        text: &mut Text<A>,
-        mem: &GuestMemory<M>,
+        text: &mut Text,
+        mem: &GuestMemory,
         kind: DeviceKind,
         index: u32,
         registers: &QueueRegisters,
@@ -131,12 +131,7 @@ fn ahead_of(queue: &Queue, size: u16, number: u16) -> u16 {
 }
 
 // Says a descriptor of a ring.
-fn say_descriptor<A: Allocator, M: Allocator>(
-    text: &mut Text<A>,
-    mem: &GuestMemory<M>,
-    queue: &Queue,
-    index: u16,
-) {
+fn say_descriptor(text: &mut Text, mem: &GuestMemory, queue: &Queue, index: u16) {
     text.say(": ");
     match queue {
         Queue::Split(ring) => {
@@ -182,9 +177,9 @@ static PACKED_FLAGS: [(u16, &str); 4] = [
 
 /// Says the chains that are on offer in a ring, each by its head or by the position of its list, where the queue's state or
 /// its descriptors changed.
-pub fn say_on_offer<A: Allocator, M: Allocator>(
-    text: &mut Text<A>,
-    mem: &GuestMemory<M>,
+pub fn say_on_offer(
+    text: &mut Text,
+    mem: &GuestMemory,
     kind: DeviceKind,
     index: u32,
     registers: &QueueRegisters,
@@ -209,13 +204,7 @@ pub fn say_on_offer<A: Allocator, M: Allocator>(
 }
 
 // Says the heads that are on offer in a split ring.
-fn say_heads<A: Allocator, M: Allocator>(
-    text: &mut Text<A>,
-    mem: &GuestMemory<M>,
-    ring: &SplitRing,
-    driver_area: u64,
-    size: u16,
-)
+fn say_heads(text: &mut Text, mem: &GuestMemory, ring: &SplitRing, driver_area: u64, size: u16)
     requires { LiesIn mem.now ring.now.setup }
 {
     let offered = ring.available_idx(mem).wrapping_sub(ring.place());
@@ -232,12 +221,7 @@ fn say_heads<A: Allocator, M: Allocator>(
 }
 
 // Says the positions at which lists are on offer in a packed ring.
-fn say_lists<A: Allocator, M: Allocator>(
-    text: &mut Text<A>,
-    mem: &GuestMemory<M>,
-    ring: &PackedRing,
-    size: u16,
-)
+fn say_lists(text: &mut Text, mem: &GuestMemory, ring: &PackedRing, size: u16)
     requires { PackedLiesIn mem.now ring.now.setup }
 {
     let mut begins = true;

@@ -5,7 +5,6 @@ use crate::wording::event::SHOWN;
 use chain::Chain;
 use guest_memory::GuestMemory;
 use mmio_window::{Queue, QueueRegisters};
-use std::alloc::Allocator;
 
 /// A used entry.
 #[derive(Clone, Copy)]
@@ -16,11 +15,7 @@ pub struct Used {
 }
 
 /// The used entry of a place, where the queue is ready.
-pub fn used_entry<A: Allocator>(
-    mem: &GuestMemory<A>,
-    registers: &QueueRegisters,
-    place: u16,
-) -> Option<Used> {
+pub fn used_entry(mem: &GuestMemory, registers: &QueueRegisters, place: u16) -> Option<Used> {
     match &registers.ring {
         Some(Queue::Split(ring)) if ring.lies_in(mem) => {
             let (id, len) = ring.used_entry(mem, place);
@@ -38,7 +33,7 @@ pub fn used_entry<A: Allocator>(
 }
 
 /// Says a used entry, up to the end of its line.
-pub fn say_used<T: Allocator>(text: &mut Text<T>, used: Used) {
+pub fn say_used(text: &mut Text, used: Used) {
     text.count(u64::from(used.id));
     text.say(", len ");
     text.count(u64::from(used.len));
@@ -46,12 +41,7 @@ pub fn say_used<T: Allocator>(text: &mut Text<T>, used: Used) {
 }
 
 /// Says the first bytes that a chain received.
-pub fn say_received<A: Allocator, M: Allocator>(
-    text: &mut Text<A>,
-    mem: &GuestMemory<M>,
-    chain: &Chain,
-    len: u32,
-) {
+pub fn say_received(text: &mut Text, mem: &GuestMemory, chain: &Chain, len: u32) {
     text.say("    receives ");
     text.counted(u64::from(len), "byte");
     let mut left = len;
