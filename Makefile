@@ -45,9 +45,9 @@ show-check: vshow
 	@crates/show/look/rules crates/show/out/vshow
 	@crates/show/look/check --fuzz $(N) --from $(FROM) crates/show/out/vshow
 
-# The gate: every proof from nothing, the must-fail edits, the tests and the programs.
+# The gate: every proof from nothing, the must-fail edits, the tests and the programs. It shows how far it is.
 test:
-	@rt ci
+	@.ci/gate
 
 # Lists what there is to make.
 help:
