@@ -1,6 +1,6 @@
 use Rattle.std.proofs.Common.{◌≡◌, ◌*◌, ◌++◌, take, drop}
 use Rattle.hex.specs.Hex.{encode_lower}
-use Rattle.trace.proofs.pairs.spell.Given as goal
+use Rattle.trace.proofs.pairs.spell_many.Given as goal
 
 -- the bytes before the i-th are written
 abbrev pub invariant-loop-i : goal.invariant-loop-i
