@@ -2,6 +2,7 @@
 
 use crate::row::{Row, row_of};
 use crate::subject::{Stuck, Subject};
+use crate::traces::Traces;
 use crate::words::Words;
 use std::io::Write;
 use std::rt::Files;
@@ -22,6 +23,7 @@ pub(crate) fn check_file<R: Files + AllocGlobal + Clone + Drop, W: Write>(
         return Ok(false);
     };
     match first {
+        "traces" => check_rows(rt, file, rows, &mut Traces::new(rt.alloc()), out),
         _ => {
             writeln!(out, "{file} names no subject")?;
             Ok(false)

@@ -6,9 +6,11 @@
 //! no code.
 #![tactic(auto)]
 
+mod answer;
 mod check;
 mod row;
 mod subject;
+mod traces;
 mod words;
 
 use check::check_file;
