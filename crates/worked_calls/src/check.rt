@@ -32,7 +32,7 @@ pub(crate) fn check_file<R: Files + AllocGlobal + Clone + Drop, W: Write>(
     };
     let alloc = rt.alloc();
     match first {
-        "traces" => check_rows(rt, file, rows, &mut Traces::new(rt.alloc()), out),
+        "traces" => check_rows(rt, file, rows, &mut Traces::new(alloc), out),
         "chains" => check_made(rt, file, rows, Chains::new(alloc), out),
         "consoles" => {
             let heap = RefusingHeap::new(alloc);

@@ -4,7 +4,6 @@ ghost use Rattle.guest_memory.specs.Memory.{SameRange};
 
 use crate::memory::{Descriptor, put_descriptor};
 use crate::subject::Stuck;
-use chain::Chain;
 use console_device::{ConsoleDevice, NoMemory, Outlet};
 use guest_memory::GuestMemory;
 use mmio_window::{DeviceKind, Window};
@@ -76,6 +75,6 @@ impl Port {
         console: &mut ConsoleDevice<A>,
         out: &mut O,
     ) -> Result<(), NoMemory> {
-        console.serve_transmit(&mut self.mem, &mut self.window, out, &mut Chain::new())
+        console.serve_transmit(&mut self.mem, &mut self.window, out)
     }
 }
