@@ -16,8 +16,9 @@ PROGRAM = crates/vreplay/out/vreplay
 # image to replay it over, and SAVE=FILE what the image's bytes are saved to.
 run:
 	$(if $(SAVE),$(if $(IMAGE),,$(error SAVE=FILE wants IMAGE=FILE beside it)))
-	@echo "Proving and building vreplay: some 17 minutes of processor time at first, seconds after that." >&2
-	@cd crates/vreplay && mkdir -p out && rt run < stdin > out/run.log || { tail -20 out/run.log >&2; exit 1; }
+	@echo "Proving and building vreplay: some 50 minutes of processor time at first, seconds after that." >&2
+	@echo "What rt says is in crates/vreplay/out/run.log." >&2
+	@cd crates/vreplay && mkdir -p out && rt run < stdin > out/run.log 2>&1 || { tail -20 out/run.log >&2; exit 1; }
 	@echo "Replaying $(TRACE):" >&2
 	@$(if $(IMAGE),$(PROGRAM) "$(TRACE)" "$(IMAGE)" $(if $(SAVE),--save "$(SAVE)"),$(PROGRAM) < "$(TRACE)")
 
@@ -28,6 +29,7 @@ show: vshow
 
 # Proves and builds vshow.
 vshow:
+	@echo "Proving and building vshow, seconds where it was proved before. What rt says is in crates/show/out/run.log." >&2
 	@cd crates/show && mkdir -p out && rt run -- ../../examples/broken-driver.trace > out/run.log 2>&1 || { tail -20 out/run.log >&2; exit 1; }
 	@cp crates/show/out/show crates/show/out/vshow
 
@@ -45,9 +47,9 @@ show-check: vshow
 	@crates/show/look/rules crates/show/out/vshow
 	@crates/show/look/check --fuzz $(N) --from $(FROM) crates/show/out/vshow
 
-# The gate: every proof from nothing, the must-fail edits, the tests and the programs.
+# The gate: every proof from nothing, the must-fail edits, the tests and the programs. It shows how far it is.
 test:
-	@rt ci
+	@.ci/gate
 
 # Lists what there is to make.
 help:

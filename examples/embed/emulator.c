@@ -19,7 +19,9 @@ enum { PAGE = 0x1000, MEMORY_LEN = 0x20000, OUTLET = 64, GUESTS = 2, TURN = 20, 
 struct guest {
     uint8_t slot;
     uc_engine *cpu;
-    uint64_t at; /* the address of its next instruction */
+    uint64_t at;    /* the address of its next instruction */
+    uc_err ended;   /* what its CPU couldn't go on from, if anything */
+    FILE *terminal; /* what its console put out */
 };
 
 static struct kalyubos board;
@@ -51,19 +53,35 @@ static uint64_t window_load(uc_engine *cpu, uint64_t offset, unsigned width, voi
     return value;
 }
 
+/* The guest's terminal takes what its console put out, and tells whether there was any. */
+static bool show(const struct guest *guest)
+{
+    uint8_t out[OUTLET];
+    size_t taken;
+    must(kalyubos_take_output(&board, guest->slot, out, sizeof out, &taken), "take_output");
+    fwrite(out, 1, taken, guest->terminal);
+    return taken != 0;
+}
+
 /*
- * A store. Where its service pauses, it goes on at once: a host with an order of turns would end the guest's here. A machine
- * with interrupt lines sets them by the words in `pending`; these guests wait at their rings.
+ * A store. Where its service pauses, it goes on at once: a host with an order of turns would end the guest's here. Where the
+ * console has no room for what comes of it, room is made, and the same store is made again; what is longer than the whole
+ * outlet is never put out, which no other guest sees. A machine with interrupt lines sets them by the words in `pending`;
+ * these guests wait at their rings.
  */
 static void window_store(uc_engine *cpu, uint64_t offset, unsigned width, uint64_t value, void *user)
 {
     const struct guest *guest = user;
     struct kalyubos_pending pending;
+    uint32_t answer;
     (void)cpu;
-    uint32_t answer = kalyubos_write(&board, guest->slot, offset / PAGE, offset % PAGE, width, value, &pending);
-    while (answer == KALYUBOS_MORE)
-        answer = kalyubos_go_on(&board, guest->slot, &pending);
-    must(answer, "write");
+    do {
+        answer = kalyubos_write(&board, guest->slot, offset / PAGE, offset % PAGE, width, value, &pending);
+        while (answer == KALYUBOS_MORE)
+            answer = kalyubos_go_on(&board, guest->slot, &pending);
+    } while (answer == KALYUBOS_NO_ROOM && show(guest));
+    if (answer != KALYUBOS_NO_ROOM)
+        must(answer, "write");
 }
 
 /* ---- the machine */
@@ -80,19 +98,23 @@ static void map_memory(const struct guest *guest)
 
 static void power_on(struct guest *guest, uint8_t slot)
 {
-    *guest = (struct guest){ slot, NULL, PROGRAM };
+    *guest = (struct guest){ slot, NULL, PROGRAM, UC_ERR_OK, tmpfile() };
+    if (guest->terminal == NULL) {
+        perror("a terminal");
+        exit(1);
+    }
     cpu_must(uc_open(UC_ARCH_RISCV, UC_MODE_RISCV64, &guest->cpu), "a CPU");
     cpu_must(uc_mmio_map(guest->cpu, WINDOWS, 2 * PAGE, window_load, guest, window_store, guest), "the windows");
     map_memory(guest);
 }
 
-/* Some instructions of the guest; false where its program is at its end. */
+/* Some instructions of the guest; false where its program is at its end, or its CPU can't go on. */
 static bool turn(struct guest *guest)
 {
     const uint64_t end = PROGRAM + sizeof GUEST;
-    if (guest->at == end)
+    if (guest->at == end || guest->ended != UC_ERR_OK)
         return false;
-    cpu_must(uc_emu_start(guest->cpu, guest->at, end, 0, TURN), "a turn");
+    guest->ended = uc_emu_start(guest->cpu, guest->at, end, 0, TURN);
     cpu_must(uc_reg_read(guest->cpu, UC_RISCV_REG_PC, &guest->at), "the program counter");
     return true;
 }
@@ -100,21 +122,25 @@ static bool turn(struct guest *guest)
 static void report(const struct guest *guest)
 {
     uint64_t failed;
-    uint8_t out[64], block, console;
-    size_t taken;
+    uint8_t block, console;
     bool disturbed;
     cpu_must(uc_reg_read(guest->cpu, UC_RISCV_REG_A0, &failed), "a0");
-    must(kalyubos_take_output(&board, guest->slot, out, sizeof out, &taken), "take_output");
     must(kalyubos_interrupts(&board, guest->slot, &block, &console), "interrupts");
     must(kalyubos_disturbed(&board, guest->slot, &disturbed), "disturbed");
-    if (guest->at != PROGRAM + sizeof GUEST)
+    if (guest->ended != UC_ERR_OK)
+        printf("guest %u: ended: %s\n", guest->slot, uc_strerror(guest->ended));
+    else if (guest->at != PROGRAM + sizeof GUEST)
         printf("guest %u: still at %llx\n", guest->slot, (unsigned long long)guest->at);
     else if (failed != 0)
         printf("guest %u: step %u failed\n", guest->slot, (unsigned)failed);
     else
         printf("guest %u: done\n", guest->slot);
     printf("console: ");
-    fwrite(out, 1, taken, stdout);
+    while (show(guest))
+        continue;
+    rewind(guest->terminal);
+    for (int byte; (byte = getc(guest->terminal)) != EOF;)
+        putchar(byte);
     printf("interrupts: %u and %u, disturbed: %d\n", block, console, disturbed);
 }
 

@@ -3,7 +3,8 @@
  * the board's memory of a guest, so its loads and stores need no call; its windows are nobody's memory, so a load or
  * store there is an exit, which becomes one call; and its devices' lines are interrupts of the virtual CPU.
  *
- * Where /dev/kvm can't be opened it says so, with status 77.
+ * `kvm flood` gives guest 0 the program of kvm-flood.S, which puts out more than its outlet keeps; guest 1 ends as before.
+ * Where /dev/kvm can't be opened the host says so, with status 77.
  */
 #define _GNU_SOURCE
 #include <errno.h>
@@ -17,6 +18,7 @@
 #include <sys/mman.h>
 
 #include "kalyubos.h"
+#include "kvm-flood.h"
 #include "kvm-guest.h"
 
 enum { GUESTS = 2, MEMORY_LEN = 0x10000, PROGRAM = 0x1000, WINDOWS = 0xd0000, PAGE = 0x1000, OUTLET = 64, NO_KVM = 77 };
@@ -29,6 +31,7 @@ struct guest {
     uint8_t slot;
     int machine, cpu;
     struct kvm_run *run;
+    FILE *terminal;                /* what its console put out */
     struct kalyubos_pending lines; /* as the last call of this guest left them */
 };
 
@@ -55,25 +58,27 @@ static void must_do(uint32_t answer, const char *what)
 /* ---- the machine */
 
 /* A guest's memory is the board's, where it lies; heap.c aligns it to pages, as KVM wants it. */
-static void map_memory(const struct guest *guest)
+static void map_memory(const struct guest *guest, const uint8_t *program, size_t program_len)
 {
     uint8_t *bytes;
     size_t len;
     must_do(kalyubos_memory(&board, guest->slot, &bytes, &len), "memory");
-    memcpy(bytes + PROGRAM, GUEST, sizeof GUEST);
+    memcpy(bytes + PROGRAM, program, program_len);
     struct kvm_userspace_memory_region region = {
         .slot = 0, .guest_phys_addr = 0, .memory_size = len, .userspace_addr = (uintptr_t)bytes,
     };
     must(ioctl(guest->machine, KVM_SET_USER_MEMORY_REGION, &region), "KVM_SET_USER_MEMORY_REGION");
 }
 
-static void power_on(struct guest *guest, int kvm, uint8_t slot)
+static void power_on(struct guest *guest, int kvm, uint8_t slot, bool floods)
 {
     struct kvm_sregs segments;
     struct kvm_regs registers = { .rip = PROGRAM, .rflags = 2 };
     guest->slot = slot;
+    guest->terminal = tmpfile();
+    must(guest->terminal == NULL ? -1 : 0, "a terminal");
     guest->machine = must(ioctl(kvm, KVM_CREATE_VM, 0), "KVM_CREATE_VM");
-    map_memory(guest);
+    map_memory(guest, floods ? KVM_FLOOD : KVM_GUEST, floods ? sizeof KVM_FLOOD : sizeof KVM_GUEST);
     guest->cpu = must(ioctl(guest->machine, KVM_CREATE_VCPU, 0), "KVM_CREATE_VCPU");
     size_t len = (size_t)must(ioctl(kvm, KVM_GET_VCPU_MMAP_SIZE, 0), "KVM_GET_VCPU_MMAP_SIZE");
     guest->run = mmap(NULL, len, PROT_READ | PROT_WRITE, MAP_SHARED, guest->cpu, 0);
@@ -94,6 +99,32 @@ static uint32_t go_on(struct guest *guest)
     return kalyubos_go_on(&board, guest->slot, &guest->lines);
 }
 
+/* The guest's terminal takes what its console put out, and tells whether there was any. */
+static bool show(const struct guest *guest)
+{
+    uint8_t out[OUTLET];
+    size_t taken;
+    must_do(kalyubos_take_output(&board, guest->slot, out, sizeof out, &taken), "take_output");
+    fwrite(out, 1, taken, guest->terminal);
+    return taken != 0;
+}
+
+/*
+ * A store. Where the console has no room for what comes of it, room is made, and the same store is made again. What is
+ * longer than the whole outlet is never put out: no other guest sees that.
+ */
+static void store(struct guest *guest, uint8_t window, uint16_t offset, uint8_t width, uint32_t value)
+{
+    uint32_t answer;
+    do {
+        answer = kalyubos_write(&board, guest->slot, window, offset, width, value, &guest->lines);
+        while (answer == KALYUBOS_MORE)
+            answer = go_on(guest);
+    } while (answer == KALYUBOS_NO_ROOM && show(guest));
+    if (answer != KALYUBOS_NO_ROOM)
+        must_do(answer, "write");
+}
+
 /* A load or a store at a window. The CPU that made it stands still until its service has ended. */
 static void access_window(struct guest *guest)
 {
@@ -107,10 +138,7 @@ static void access_window(struct guest *guest)
     pthread_mutex_lock(&lock);
     if (guest->run->mmio.is_write) {
         memcpy(&value, data, width < 4 ? width : 4);
-        uint32_t answer = kalyubos_write(&board, guest->slot, window, place % PAGE, width, value, &guest->lines);
-        while (answer == KALYUBOS_MORE)
-            answer = go_on(guest);
-        must_do(answer, "write");
+        store(guest, window, place % PAGE, width, value);
     } else {
         must_do(kalyubos_read(&board, guest->slot, window, place % PAGE, width, &value), "read");
         memset(data, 0, sizeof guest->run->mmio.data);
@@ -129,7 +157,7 @@ static void set_lines(const struct guest *guest)
     guest->run->request_interrupt_window = high && !guest->run->ready_for_interrupt_injection;
 }
 
-/* Runs a guest until it halts with nothing left that could wake it. */
+/* Runs a guest until it halts with nothing left that could wake it, or makes an exit that this machine has no answer to. */
 static void *run(void *user)
 {
     struct guest *guest = user;
@@ -149,8 +177,7 @@ static void *run(void *user)
                 return NULL;
             break;
         default:
-            fprintf(stderr, "guest %u: exit %u\n", guest->slot, guest->run->exit_reason);
-            exit(1);
+            return NULL;
         }
     }
 }
@@ -158,25 +185,29 @@ static void *run(void *user)
 static void report(const struct guest *guest)
 {
     struct kvm_regs registers;
-    uint8_t out[OUTLET];
-    size_t taken;
     bool disturbed;
     must(ioctl(guest->cpu, KVM_GET_REGS, &registers), "KVM_GET_REGS");
-    must_do(kalyubos_take_output(&board, guest->slot, out, sizeof out, &taken), "take_output");
     must_do(kalyubos_disturbed(&board, guest->slot, &disturbed), "disturbed");
-    if (guest->run->if_flag)
+    if (guest->run->exit_reason != KVM_EXIT_HLT)
+        printf("guest %u: ended by exit %u\n", guest->slot, guest->run->exit_reason);
+    else if (guest->run->if_flag)
         printf("guest %u: waits at %llx\n", guest->slot, (unsigned long long)registers.rip);
     else if (registers.rax % 0x10000 != 0)
         printf("guest %u: step %u failed\n", guest->slot, (unsigned)(registers.rax % 0x10000));
     else
         printf("guest %u: done\n", guest->slot);
     printf("console: ");
-    fwrite(out, 1, taken, stdout);
+    while (show(guest))
+        continue;
+    rewind(guest->terminal);
+    for (int byte; (byte = getc(guest->terminal)) != EOF;)
+        putchar(byte);
     printf("interrupts: %u and %u, disturbed: %d\n", guest->lines.block, guest->lines.console, disturbed);
 }
 
-int main(void)
+int main(int words_len, char **words)
 {
+    bool floods = words_len == 2 && strcmp(words[1], "flood") == 0;
     int kvm = open("/dev/kvm", O_RDWR | O_CLOEXEC);
     if (kvm < 0) {
         perror("/dev/kvm");
@@ -196,7 +227,7 @@ int main(void)
     static struct guest guests[GUESTS];
     pthread_t threads[GUESTS];
     for (uint8_t slot = 0; slot < GUESTS; slot++)
-        power_on(&guests[slot], kvm, slot);
+        power_on(&guests[slot], kvm, slot, floods && slot == 0);
     for (unsigned i = 0; i < GUESTS; i++)
         must(-pthread_create(&threads[i], NULL, run, &guests[i]), "a thread");
     for (unsigned i = 0; i < GUESTS; i++)

@@ -13,8 +13,6 @@ mod laws;
 mod queue;
 mod request;
 mod serve;
-#[cfg(test)]
-mod tests;
 mod transfer;
 mod zeroes;
 

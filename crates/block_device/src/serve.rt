@@ -35,13 +35,12 @@ const NOTHING: Piece = Piece {
 impl BlockDevice {
     /// Serves the chains that are on offer (2.7.13, 5.2.6), in the window of this device. Answers true exactly
     /// where the number of the image's failures rose. Where the window isn't live or its queue not ready,
-    /// nothing happens. `room` is where its chains stand, one after another: what it holds before is of no account.
+    /// nothing happens.
     pub fn serve<I: Image, M: Allocator, C: Allocator + Copy>(
         &self,
         mem: &mut GuestMemory<M>,
         window: &mut Window,
         cache: &mut SectorCache<I, C>,
-        room: &mut Chain,
     ) -> bool
         requires sound { IsSound mem.old window.old }
         requires lies { IsWithin (I.disk cache.old).sector_count self.now.extent }
@@ -61,12 +60,21 @@ impl BlockDevice {
         ensures range { SameRange mem.old mem.new }
         ensures sound { IsSound mem.new window.new }
     {
-        self.serve_piece(mem, window, cache, Stage::First, Budget::UNLIMITED, room)
-            .failed
+        let mut room = Chain::new();
+        self.serve_piece(
+            mem,
+            window,
+            cache,
+            Stage::First,
+            Budget::UNLIMITED,
+            &mut room,
+        )
+        .failed
     }
 
     /// The same within a budget: where that is spent and one more chain is on offer, the service pauses, and goes on
-    /// with its next piece. In a pause its queue stands open, and no other call may be made with the window.
+    /// with its next piece. In a pause its queue stands open, and no other call may be made with the window. `room` is where
+    /// its chains stand, one after another: what it holds before is of no account.
     pub fn serve_piece<I: Image, M: Allocator, C: Allocator + Copy>(
         &self,
         mem: &mut GuestMemory<M>,

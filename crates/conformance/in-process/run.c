@@ -66,7 +66,7 @@ int main(int argc, char **argv)
     uint8_t *image = (uint8_t *)content_of(argv[2], &image_len);
     struct trace trace;
     if (!read_setup(text, text_len, &trace)) {
-        fputs("the text isn't a trace, or has more than 16 guests\n", stderr);
+        fputs("the text isn't a trace, or has more guests than its version may have\n", stderr);
         return 77;
     }
     struct setup setup = {trace.guests, trace.guests_len, image, image_len, trace.cache};

@@ -11,6 +11,20 @@ from .scenarios import SECTOR
 CANNOT = 77
 
 
+class Unusable(Exception):
+    """A device that can't be started, or that doesn't tell what is needed to go on."""
+
+
+def called(words, seconds):
+    """What a call of a device came to, or None where there is no end within so many seconds."""
+    try:
+        return subprocess.run(words, stdin=subprocess.DEVNULL, capture_output=True, timeout=seconds)
+    except subprocess.TimeoutExpired:
+        return None
+    except OSError as error:
+        raise Unusable(f"{words[0]} can't be run: {error.strerror}") from None
+
+
 @dataclasses.dataclass(frozen=True)
 class Device:
     """How a device is called: COMMAND TRACE IMAGE, and what its options are."""
@@ -41,12 +55,9 @@ class Device:
             with open(os.path.join(room, "image"), "wb") as file:
                 file.write(scenario.image)
             words, held = self.words(room, scenario.path + ".trace", scenario)
-            try:
-                ran = subprocess.run(words, stdin=subprocess.DEVNULL, capture_output=True, timeout=self.seconds)
-            except subprocess.TimeoutExpired:
+            ran = called(words, self.seconds)
+            if ran is None:
                 return Outcome(late=True)
-            except OSError as error:
-                raise SystemExit(f"{words[0]} can't be run: {error.strerror}") from None
             return Outcome(ran.returncode, ran.stdout.decode("latin-1"), ran.stderr.decode("latin-1"),
                            content_of(held), held is not None)
 

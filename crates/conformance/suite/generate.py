@@ -1,6 +1,7 @@
 """Traces of one guest from seeds, by the drivers of the folder fuzz, and by polite ones that break no rule."""
 import os
 import random
+import re
 import sys
 
 from .scenarios import CRATE
@@ -8,10 +9,11 @@ from .scenarios import CRATE
 sys.path.append(os.path.join(os.path.dirname(os.path.dirname(CRATE)), "fuzz"))
 
 import guests
-from guests import SECTOR, Guest, Offered, Slot
+from guests import IDENTITY_TEXT, SECTOR, Guest, Offered, Slot
 from scene import slot_line
 
-BASE, LENGTH, SECTORS = 0x80000000, 0x10000, 8
+SECTORS = 8
+SLOT = Slot(0x80000000, 0x10000, 0, SECTORS, False, 80, 25, IDENTITY_TEXT)
 FLUSH_FEATURE = 1 << 9
 PROBE = "".join(f"w 0 {window} 014 4 {word:08x}\nr 0 {window} 010 4\n" for window, word in [("b", 0), ("c", 0), ("b", 1)])
 
@@ -159,14 +161,18 @@ class Work:
 
 def probe():
     """A trace that reads which features are offered."""
-    slot = slot_line(Slot(BASE, LENGTH, 0, SECTORS, False, 80, 25))
-    return Work(["vreplay 1", "cache 1", slot] + PROBE.splitlines(), bytes(SECTOR * SECTORS))
+    return Work(front(1) + PROBE.splitlines(), bytes(SECTOR * SECTORS))
+
+
+def front(cache):
+    """The lines of a trace before its events."""
+    return ["vreplay 1", f"cache {cache:x}", slot_line(SLOT, 1)]
 
 
 def offered_by(replies):
-    """The features that the answers to the probe tell."""
-    words = [int(reply.split(" ")[1][2:], 16) for reply in replies if " v:" in reply]
-    return Offered(words[0], words[1], words[2])
+    """The features that the answers to the probe tell, or None where they tell other than three words."""
+    words = re.findall(r"^0 v:([0-9a-f]{8}) ", "\n".join(replies), re.MULTILINE)
+    return Offered(*(int(word, 16) for word in words)) if len(words) == len(Offered._fields) else None
 
 
 def in_common(one, other):
@@ -176,14 +182,13 @@ def in_common(one, other):
 def work(seed, offered, wildness):
     """A trace from a seed. A wildness of 0 is a polite guest, of 1 one that does mischief alone."""
     dice = random.Random(seed)
-    slot = Slot(BASE, LENGTH, 0, SECTORS, False, 80, 25)
-    guest, image = Guest(dice, slot, wildness), dice.randbytes(SECTOR * SECTORS)
+    guest, image = Guest(dice, SLOT, wildness), dice.randbytes(SECTOR * SECTORS)
     if wildness:
         guests.live(guest, offered, image, 150)
     else:
         live_politely(guest, offered, image)
     events = [f"{word} 0 {fields}" for word, fields in guest.events]
-    return Work(["vreplay 1", f"cache {dice.choice([1, 8]):x}", slot_line(slot)] + events, image)
+    return Work(front(dice.choice([1, 8])) + events, image)
 
 
 def live_politely(guest, offered, image):

@@ -22,14 +22,8 @@ use std::alloc::Allocator;
 
 impl<A: Allocator> ConsoleDevice<A> {
     /// Puts pending input into the chains on offer (5.3.6), in the window of this device. Where the window
-    /// isn't live or its receive queue not ready, nothing happens. `room` is where the chains stand, one after
-    /// another: what it holds before is of no account.
-    pub fn serve_receive<M: Allocator>(
-        &mut self,
-        mem: &mut GuestMemory<M>,
-        window: &mut Window,
-        room: &mut Chain,
-    )
+    /// isn't live or its receive queue not ready, nothing happens.
+    pub fn serve_receive<M: Allocator>(&mut self, mem: &mut GuestMemory<M>, window: &mut Window)
         requires sound { IsSound mem.old window.old }
         ensures served { IsNotified receive 0 (queue_at 0 window.old) mem.old mem.new
             window.old window.new self.old.pending self.new.pending }
@@ -37,12 +31,13 @@ impl<A: Allocator> ConsoleDevice<A> {
         ensures range { SameRange mem.old mem.new }
         ensures sound { IsSound mem.new window.new }
     {
-        let _ = self.serve_receive_piece(mem, window, Stage::First, Budget::UNLIMITED, room);
+        let mut room = Chain::new();
+        let _ = self.serve_receive_piece(mem, window, Stage::First, Budget::UNLIMITED, &mut room);
     }
 
     /// The same within a budget: where that is spent, input is still pending and one more chain is on offer, the
     /// service pauses, and goes on with its next piece. In a pause its queue stands open, and no other call may be
-    /// made with the window.
+    /// made with the window. `room` is where the chains stand, one after another: what it holds before is of no account.
     pub fn serve_receive_piece<M: Allocator>(
         &mut self,
         mem: &mut GuestMemory<M>,
@@ -67,13 +62,12 @@ impl<A: Allocator> ConsoleDevice<A> {
 
     /// Puts out the chains on offer (5.3.6), in the window of this device, behind what stands in `out`. A chain
     /// for which there is no memory stays on offer, and those before it are used. Where the window isn't live
-    /// or its transmit queue not ready, nothing happens. `room` is as in `serve_receive`.
+    /// or its transmit queue not ready, nothing happens.
     pub fn serve_transmit<M: Allocator, O: Outlet>(
         &mut self,
         mem: &mut GuestMemory<M>,
         window: &mut Window,
         out: &mut O,
-        room: &mut Chain,
     ) -> Result<(), NoMemory>
         requires sound { IsSound mem.old window.old }
         ensures ok { OnOk result (IsNotified exact_transmit 1 (queue_at 1 window.old) mem.old mem.new
@@ -91,12 +85,14 @@ impl<A: Allocator> ConsoleDevice<A> {
         ensures range { SameRange mem.old mem.new }
         ensures sound { IsSound mem.new window.new }
     {
-        self.serve_transmit_piece(mem, window, out, Stage::First, Budget::UNLIMITED, room)?;
+        let mut room = Chain::new();
+        self.serve_transmit_piece(mem, window, out, Stage::First, Budget::UNLIMITED, &mut room)?;
         Ok(())
     }
 
     /// The same within a budget: where that is spent and one more chain is on offer, the service pauses, and goes on
-    /// with its next piece. In a pause its queue stands open, and no other call may be made with the window.
+    /// with its next piece. In a pause its queue stands open, and no other call may be made with the window. `room` is as
+    /// in `serve_receive_piece`.
     pub fn serve_transmit_piece<M: Allocator, O: Outlet>(
         &mut self,
         mem: &mut GuestMemory<M>,

@@ -4,9 +4,9 @@
 //! beside the memory. A `read` or a `write` is for a caller that knows the range already, as a virtqueue
 //! knows its areas.
 
-ghost use Rattle.std.specs.Prelude.{◌≡◌, ◌+◌, ◌^◌, ◌≤◌, ◌↔◌, length, IsTrue, IsSome, IfSome};
+ghost use Rattle.std.specs.Prelude.{◌≡◌, ◌+◌, ◌^◌, ◌≤◌, ◌↔◌, IsTrue, IsSome, IfSome};
 ghost use Rattle.std.specs.Bool.{OnTrue, OnFalse};
-ghost use Rattle.guest_memory.specs.Memory.{Inside, SameRange, num, put, put_num};
+ghost use Rattle.guest_memory.specs.Memory.{Inside, SameRange, num, put_num};
 
 use crate::memory::GuestMemory;
 use byteorder::{ByteOrder, LittleEndian};
@@ -99,7 +99,11 @@ impl<A: Allocator> GuestMemory<A> {
         ensures range { SameRange self.old self.new }
         ensures fits { IsTrue result → addr + 2 ≤ 2 ^ 64 }
     {
-        self.put_bytes(addr, &v.to_le_bytes())
+        let inside = self.holds(addr, 2);
+        if inside {
+            self.write_u16(addr, v);
+        }
+        inside
     }
 
     /// Writes a 32-bit number at `addr` where it lies in the memory, and answers whether it does.
@@ -110,7 +114,11 @@ impl<A: Allocator> GuestMemory<A> {
         ensures range { SameRange self.old self.new }
         ensures fits { IsTrue result → addr + 4 ≤ 2 ^ 64 }
     {
-        self.put_bytes(addr, &v.to_le_bytes())
+        let inside = self.holds(addr, 4);
+        if inside {
+            self.write_u32(addr, v);
+        }
+        inside
     }
 
     /// Writes a 64-bit number at `addr` where it lies in the memory, and answers whether it does.
@@ -121,21 +129,9 @@ impl<A: Allocator> GuestMemory<A> {
         ensures range { SameRange self.old self.new }
         ensures fits { IsTrue result → addr + 8 ≤ 2 ^ 64 }
     {
-        self.put_bytes(addr, &v.to_le_bytes())
-    }
-
-    // Writes bytes from `addr` on where all of them lie in the memory, and answers whether they do.
-    fn put_bytes(&mut self, addr: u64, bytes: &[u8]) -> bool
-        ensures inside { IsTrue result ↔ Inside self.old addr (length bytes.now) }
-        ensures written { OnTrue result (self.new ≡ put self.old addr bytes.now) }
-        ensures refused { OnFalse result (self.new ≡ self.old) }
-        ensures range { SameRange self.old self.new }
-        ensures fits { IsTrue result → addr + length bytes.now ≤ 2 ^ 64 }
-    {
-        let len = bytes.len() as u64;
-        let inside = self.holds(addr, len);
+        let inside = self.holds(addr, 8);
         if inside {
-            self.part_mut(addr, len).copy_from_slice(bytes);
+            self.write_u64(addr, v);
         }
         inside
     }

@@ -1,11 +1,15 @@
 -- What is kept stays what the image tells, through each call of the image.
-use Rattle.std.proofs.Common.{◌≡◌, ℕ, ◌*◌, ◌<◌, ◌⊎◌, inl, inr, List, length, Bool, true, false, Option, Some, None, IfSome, cond, ◌==◌, refl, sym, ◌∙◌, ap, arith}
+use Rattle.std.proofs.Common.{◌≡◌, ℕ, ◌*◌, ◌<◌, ◌≢◌, inl, inr, List, [], ◌∷◌, length, Some, None, IfSome, Contains, nat_eq, sym, ◌∙◌, ap, subst, refl, take, ◌-◌, arith}
 use Rattle.std.specs.Option.{option_map}
-use Rattle.std.specs.Prelude.{Result, Ok, Err, OnOk, OnErr}
-use Rattle.std.proofs.lemmas.Bool.{eq-eqb, cases_eq}
-use Rattle.sector_cache.specs.Disk.{Disk, IsWhole, IsAsTold, IsTorn, written}
-use Rattle.sector_cache.specs.Kept.{kept_of, IsCoherent, KeepsAllBut, MayKeep}
-use Rattle.sector_cache.specs.declared.kept.Kept.{Kept}
+use Rattle.std.specs.Map.{lookup, remove_entry}
+use Rattle.std.specs.Prelude.{Result, Ok, Err, OnOk, OnErr, true, false}
+use Rattle.std.proofs.lemmas.Map.Views.{Contains-from_lookup}
+use Rattle.std.proofs.lemmas.Bool.{eqb-true, eq-eqb}
+use Rattle.lru.specs.LruCache.{LruCache, lru_cache, promoted}
+use Rattle.lru.proofs.CallerLemmas.{Contains-take, Contains-promoted, Contains-remove_entry}
+use Rattle.lru.proofs.Splits.{Contains-cons, Contains-nil}
+use Rattle.sector_cache.specs.Disk.{Disk, IsWhole, IsAsTold, IsTorn, failed, written}
+use Rattle.sector_cache.specs.Kept.{IsCoherent, MayKeep, with_first}
 use Rattle.sector_cache.specs.Sector.{sector_of, with_sector}
 use Rattle.sector_cache.proofs.Sectors.{sector_of-with_sector, sector_of-with_sector_other}
 
@@ -23,78 +27,80 @@ IsAsTold-itself disk sector new whole within long = (elim disk.told as (λ t. If
   | Some b ↦ λ full. sym (sector_of-with_sector b sector new (omega arith) long)
 ]) whole
 
-IfSome-other : (disk : Disk) (sector : ℕ) (new : List ℕ) → IsWhole disk → sector < disk.sector_count → length new ≡ 512 → (other : ℕ) (kept : Option (List ℕ)) → (sector ≡ other → ⊥) → IfSome kept (IsAsTold disk other) → IfSome kept (IsAsTold (written sector new disk) other)
-IfSome-other disk sector new whole within long other None apart told = tt
-IfSome-other disk sector new whole within long other (Some bytes) apart told = IsAsTold-other disk sector new whole within long other bytes apart told
+-- a sector that isn't found has no entry
+none_of : (sector : ℕ) (entries : List (ℕ × List ℕ)) → lookup (nat_eq sector) entries ≡ None → (entry : ℕ × List ℕ) → Contains entries entry → entry.0 ≢ sector
+none_of sector [] none entry within same = absurd (Contains-nil entry within)
+none_of sector (first ∷ rest) none entry within same = (elim (nat_eq sector first.0) as (λ b. nat_eq sector first.0 ≡ b → ⊥) [
+  | true ↦ λ is. let never = rw is at none in cc
+  | false ↦ λ is. elim (Contains-cons first rest entry within) [
+    | inl here ↦ let never : false ≡ true = sym is ∙ eq-eqb sector first.0 (sym (ap (λ e. e.0) here ∙ same)) in cc
+    | inr there ↦ none_of sector rest (rw is at none) entry there same
+  ]
+]) refl
 
-module _ {A : Type 0} where
-  -- what is kept is as told, and nothing of this sector is
-  pub record IsBeside (sector : ℕ) (disk : Disk) (kept : Kept A) : Type 0 where
-    pub others : IsCoherent disk kept
-    pub none : kept_of kept sector ≡ None
+-- nothing is as told
+pub coherent_none : (disk : Disk) (kept : LruCache ℕ (List ℕ)) (cap : ℕ) → kept ≡ lru_cache [] cap → IsCoherent disk kept
+coherent_none disk kept cap is = rw is (record { told = λ entry within. absurd (Contains-nil entry within) })
 
-  -- what is kept is as told, and so are these bytes of this sector
-  pub record IsWritten (sector : ℕ) (bytes : List ℕ) (disk : Disk) (kept : Kept A) : Type 0 where
-    pub others : IsCoherent disk kept
-    pub told : IsAsTold disk sector bytes
+-- what is found is as told
+pub told_found : (disk : Disk) (kept : LruCache ℕ (List ℕ)) (sector : ℕ) (bytes : List ℕ) → IsCoherent disk kept → lookup (nat_eq sector) kept.entries ≡ Some bytes → IsAsTold disk sector bytes
+told_found disk kept sector bytes coherent found = coherent.told (sector, bytes) (Contains-from_lookup eqb-true sector bytes kept.entries found)
 
-  -- less that is kept is coherent too
-  coherent_less : (sector : ℕ) (disk : Disk) (old new : Kept A) → IsCoherent disk old → KeepsAllBut sector old new → IsCoherent disk new
-  coherent_less sector disk old new coherent dropped = record { told = λ other. rw (dropped.each other) (less other (sector == other)) }
-    where
-      less : (other : ℕ) (b : Bool) → IfSome (cond b None (kept_of old other)) (IsAsTold disk other)
-      less other true = tt
-      less other false = coherent.told other
+module _ (sector : ℕ) (disk : Disk) (old new : LruCache ℕ (List ℕ)) where
+  -- the order doesn't matter
+  pub coherent_used : new ≡ lru_cache (promoted (nat_eq sector) old.entries) old.cap → IsCoherent disk old → IsCoherent disk new
+  coherent_used is coherent = rw is (record { told = λ entry within. coherent.told entry (Contains-promoted (nat_eq sector) old.entries entry within) })
 
-  -- once a sector is kept no more
-  pub coherent_beside : (sector : ℕ) (disk : Disk) (old new : Kept A) → KeepsAllBut sector old new → IsCoherent disk old → IsBeside sector disk new
-  coherent_beside sector disk old new dropped coherent = record {
-    others = coherent_less sector disk old new coherent dropped;
-    none = dropped.each sector ∙ ap (λ b. cond b None (kept_of old sector)) (eq-eqb sector sector refl);
-  }
+  -- less that is kept is as told too
+  pub coherent_forgotten : new ≡ lru_cache (remove_entry (nat_eq sector) old.entries) old.cap → IsCoherent disk old → IsCoherent disk new
+  coherent_forgotten is coherent = rw is (record { told = λ entry within. coherent.told entry (Contains-remove_entry (nat_eq sector) old.entries entry within) })
 
-  -- a write of a sector of which nothing is kept
-  coherent_apart : (sector : ℕ) (new : List ℕ) (disk : Disk) (kept : Kept A) → IsWhole disk → sector < disk.sector_count → length new ≡ 512 → IsBeside sector disk kept → IsCoherent (written sector new disk) kept
-  coherent_apart sector new disk kept whole within long beside = record {
-    told = λ other. elim (cases_eq sector other) [
-      | inl same ↦ let none : kept_of kept other ≡ None = ap (kept_of kept) (sym same) ∙ beside.none in rw none tt
-      | inr apart ↦ IfSome-other disk sector new whole within long other (kept_of kept other) apart (beside.others.told other)
+  coherent_first : (bytes : List ℕ) → IsAsTold disk sector bytes → IsCoherent disk old → IsCoherent disk (with_first sector bytes old)
+  coherent_first bytes told coherent = record {
+    told = λ entry within. elim (Contains-cons (sector, bytes) (take (old.cap - 1) old.entries) entry within) [
+      | inl here ↦ subst (λ e. IsAsTold disk e.0 e.1) here told
+      | inr there ↦ coherent.told entry (Contains-take (old.cap - 1) old.entries entry there)
     ];
   }
 
-  -- such a write that succeeds
-  coherent_written : (sector : ℕ) (new : List ℕ) (disk after : Disk) (kept : Kept A) → after ≡ written sector new disk → IsBeside sector disk kept → IsWhole disk → sector < disk.sector_count → length new ≡ 512 → IsWritten sector new after kept
-  coherent_written sector new disk after kept is beside whole within long = rw is (record {
-    others = coherent_apart sector new disk kept whole within long beside;
-    told = IsAsTold-itself disk sector new whole within long;
+  -- these bytes of a sector are kept too, or aren't
+  pub coherent_kept : (bytes : List ℕ) → MayKeep sector bytes old new → IsAsTold disk sector bytes → IsCoherent disk old → IsCoherent disk new
+  coherent_kept bytes may told coherent = elim may.either [
+    | inl is ↦ rw is (coherent_first bytes told coherent)
+    | inr is ↦ rw is coherent
+  ]
+
+module _ (disk after : Disk) (kept : LruCache ℕ (List ℕ)) where
+  -- a read that succeeds, and one that fails
+  pub coherent_read : after ≡ disk → IsCoherent disk kept → IsCoherent after kept
+  coherent_read is coherent = rw is coherent
+
+  pub coherent_failed : after ≡ failed disk → IsCoherent disk kept → IsCoherent after kept
+  coherent_failed is coherent = rw is (record { told = coherent.told })
+
+module _ (sector : ℕ) (disk after : Disk) (kept : LruCache ℕ (List ℕ)) where
+  -- a write of a sector of which nothing is kept, that succeeds, and one that fails
+  pub coherent_written : (new : List ℕ) → after ≡ written sector new disk → lookup (nat_eq sector) kept.entries ≡ None → IsCoherent disk kept → IsWhole disk → sector < disk.sector_count → length new ≡ 512 → IsCoherent after kept
+  coherent_written new is none coherent whole within long = rw is (record {
+    told = λ entry there.
+        IsAsTold-other disk sector new whole within long entry.0 entry.1 (λ same. none_of sector kept.entries none entry there (sym same)) (coherent.told entry there);
   })
 
-  -- such a write that fails
-  coherent_torn : (sector : ℕ) (disk after : Disk) (kept : Kept A) → IsTorn sector disk after → IsBeside sector disk kept → IsWhole disk → sector < disk.sector_count → IsCoherent after kept
-  coherent_torn sector disk after kept torn beside whole within =
-      rw torn.torn (record { told = (coherent_apart sector torn.left disk kept whole within torn.whole beside).told })
+  pub coherent_torn : IsTorn sector disk after → lookup (nat_eq sector) kept.entries ≡ None → IsCoherent disk kept → IsWhole disk → sector < disk.sector_count → IsCoherent after kept
+  coherent_torn torn none coherent whole within = rw torn.torn (record {
+    told = λ entry there.
+        IsAsTold-other disk sector torn.left whole within torn.whole entry.0 entry.1 (λ same. none_of sector kept.entries none entry there (sym same)) (coherent.told entry there);
+  })
 
-  -- such a write, whichever way it ends
-  pub coherent_unkept : {X E : Type 0} (result : Result X E) (sector : ℕ) (new : List ℕ) (disk after : Disk) (kept : Kept A) → OnOk result (after ≡ written sector new disk) → OnErr result (IsTorn sector disk after)
-      → IsBeside sector disk kept → IsWhole disk → sector < disk.sector_count → length new ≡ 512 → IsCoherent after kept
-  coherent_unkept (Ok _) sector new disk after kept ok err beside whole within long = (coherent_written sector new disk after kept ok beside whole within long).others
-  coherent_unkept (Err _) sector new disk after kept ok err beside whole within long = coherent_torn sector disk after kept err beside whole within
+  -- whichever way it ends
+  pub coherent_unkept : {X E : Type 0} (result : Result X E) (new : List ℕ) → OnOk result (after ≡ written sector new disk) → OnErr result (IsTorn sector disk after) → lookup (nat_eq sector) kept.entries ≡ None → IsCoherent disk kept → IsWhole disk → sector < disk.sector_count → length new ≡ 512 → IsCoherent after kept
+  coherent_unkept (Ok _) new ok err none coherent whole within long = coherent_written new ok none coherent whole within long
+  coherent_unkept (Err _) new ok err none coherent whole within long = coherent_torn err none coherent whole within
 
-  -- what is put is as told
-  coherent_put : (sector : ℕ) (bytes : List ℕ) (disk : Disk) (old new : Kept A) → MayKeep sector bytes old new → IsWritten sector bytes disk old → IsCoherent disk new
-  coherent_put sector bytes disk old new may as_written = record {
-    told = λ other.
-        (elim (kept_of new other) as (λ o. IfSome o (λ kept. (kept_of old other ≡ Some kept) ⊎ ((other ≡ sector) × (kept ≡ bytes))) → IfSome o (IsAsTold disk other)) [
-          | None ↦ λ _. tt
-          | Some kept ↦ λ from. elim from [
-            | inl was ↦ let before = as_written.others.told other in rw was at before
-            | inr put ↦ rw (put.0, put.1) as_written.told
-          ]
-        ]) (may.each other);
-  }
+-- a sector is told as it was written
+pub told_written : (sector : ℕ) (disk after : Disk) (new : List ℕ) → after ≡ written sector new disk → IsWhole disk → sector < disk.sector_count → length new ≡ 512 → IsAsTold after sector new
+told_written sector disk after new is whole within long = rw is (IsAsTold-itself disk sector new whole within long)
 
-  -- what was written is put
-  pub coherent_kept : (sector : ℕ) (new : List ℕ) (disk after : Disk) (old kept : Kept A) → after ≡ written sector new disk → IsWhole disk → sector < disk.sector_count → length new ≡ 512
-      → IsCoherent after old → MayKeep sector new old kept → IsCoherent after kept
-  coherent_kept sector new disk after old kept is whole within long coherent may =
-      coherent_put sector new after old kept may (record { others = coherent; told = rw is (IsAsTold-itself disk sector new whole within long) })
+-- and as it was read
+pub told_read : (sector : ℕ) (disk after : Disk) (bytes : List ℕ) → after ≡ disk → IsAsTold disk sector bytes → IsAsTold after sector bytes
+told_read sector disk after bytes is told = rw is told

@@ -1,3 +1,4 @@
 pub mod Coherence
 pub mod Filed
+pub mod Keeping
 pub mod Sectors

@@ -1,8 +1,9 @@
 //! A cache of sectors over an image.
 
-ghost use Rattle.std.specs.Prelude.{◌≡◌, ◌<◌, ◌↔◌, IfOk, IfErr, OnOk, OnErr, IsTrue, replicate};
+ghost use Rattle.std.specs.Prelude.{◌≡◌, ◌<◌, ◌↔◌, IfOk, IfErr, OnOk, OnErr, IsSome, IfSome, replicate};
 ghost use Rattle.std.specs.Borrow.{sem};
 ghost use Rattle.std.specs.Io.BufRead.{Rests};
+ghost use Rattle.std.specs.NonZero.{non_zero_usize_get};
 ghost use Rattle.sector_cache.specs.contracts.cache.SectorCache.{the_row};
 ghost use Rattle.sector_cache.specs.Disk.{IsAsTold, IsTorn, failed, written, flushed};
 ghost use Rattle.sector_cache.specs.Fault.{IsCapacity, RefusesCapacity};
@@ -13,6 +14,7 @@ use crate::image::{Image, ImageError};
 use crate::kept::Kept;
 use std::alloc::{Allocator, Global};
 use std::marker::Model;
+use std::num::NonZeroUsize;
 
 /// How many sectors a cache may keep at most.
 const MOST_SECTORS: u32 = 65536;
@@ -24,6 +26,8 @@ const MOST_SECTORS: u32 = 65536;
 pub struct SectorCache<I: Image, A: Allocator = Global> {
     image: I,
     kept: Kept<A>,
+    // The bytes of the sector that was lent last.
+    lent: [u8; 512],
 }
 
 impl<I: Image, A: Allocator> Model for SectorCache<I, A> {
@@ -34,7 +38,7 @@ impl<I: Image, A: Allocator> Model for SectorCache<I, A> {
     ghost view = { λ cache. cache.image };
 
     // what is kept is what the image tells
-    ghost invariant = { λ cache. IsCoherent (I.disk cache.image) cache.kept };
+    ghost invariant = { λ cache. IsCoherent (I.disk cache.image) cache.kept.sectors };
 }
 
 impl<I: Image, A: Allocator + Copy> SectorCache<I, A> {
@@ -45,21 +49,26 @@ impl<I: Image, A: Allocator + Copy> SectorCache<I, A> {
         ensures fault { IfErr result (λ refused. RefusesCapacity capacity refused.why) }
         ensures returned { IfErr result (λ refused. refused.image ≡ image) }
     {
-        if !is_admitted(capacity) {
+        let Some(most) = admitted(capacity) else {
             return Err(Refused {
                 image,
                 why: CacheFault::BadCapacity,
             });
-        }
-        let Ok(kept) = Kept::new(alloc, room_for(capacity, &image)) else {
+        };
+        let Ok(kept) = Kept::new(alloc, most) else {
             return Err(Refused {
                 image,
                 why: CacheFault::NoMemory,
             });
         };
-        Ok(SectorCache { image, kept })
+        Ok(SectorCache {
+            image,
+            kept,
+            lent: [0; 512],
+        })
     }
 
+    #[tactic(auto, using(crate::proofs::Coherence::told_found, crate::proofs::Coherence::coherent_used, crate::proofs::Coherence::coherent_failed, crate::proofs::Coherence::coherent_read, crate::proofs::Coherence::coherent_kept, crate::proofs::Coherence::told_read))]
     /// Lends the bytes of a sector: where they lie in the image, else those that are kept, else what the image reads
     /// just now.
     pub fn lend(&mut self, sector: u64) -> Result<&[u8; 512], ImageError>
@@ -71,14 +80,12 @@ impl<I: Image, A: Allocator + Copy> SectorCache<I, A> {
         if self.image.lend_sector(sector).is_some() {
             return self.image.lend_sector(sector).ok_or(ImageError);
         }
-        let place = match self.kept.touch(sector) {
-            Some(place) => place,
-            None => {
-                self.image.read_sector(sector, &mut self.kept.last)?;
-                self.kept.keep_last(sector)
-            }
-        };
-        Ok(self.kept.bytes(place))
+        if self.kept.copy(sector, &mut self.lent) {
+            return Ok(&self.lent);
+        }
+        self.image.read_sector(sector, &mut self.lent)?;
+        self.kept.keep(sector, &self.lent);
+        Ok(&self.lent)
     }
 
     /// Reads a sector. After an `Err` `into` may hold any bytes.
@@ -92,13 +99,15 @@ impl<I: Image, A: Allocator + Copy> SectorCache<I, A> {
         Ok(())
     }
 
+    #[tactic(auto, using(crate::proofs::Coherence::coherent_forgotten, crate::proofs::Coherence::coherent_written, crate::proofs::Coherence::coherent_torn))]
     /// Writes a sector. After an `Err` that sector may hold any 512 bytes.
     pub fn write(&mut self, sector: u64, from: &[u8; 512]) -> Result<(), ImageError>
         requires { sector < (I.disk self.old).sector_count }
         ensures ok { OnOk result (I.disk self.new ≡ written sector from.now (I.disk self.old)) }
         ensures err { OnErr result (IsTorn sector (I.disk self.old) (I.disk self.new)) }
     {
-        self.write_unkept(sector, from)?;
+        self.kept.forget(sector);
+        self.image.write_sector(sector, from)?;
         if self.image.lend_sector(sector).is_none() {
             self.kept.keep(sector, from);
         }
@@ -112,17 +121,8 @@ impl<I: Image, A: Allocator + Copy> SectorCache<I, A> {
             (I.disk self.new ≡ written sector (replicate 512 0) (I.disk self.old)) }
         ensures err { OnErr result (IsTorn sector (I.disk self.old) (I.disk self.new)) }
     {
-        self.write_unkept(sector, &[0; 512])
-    }
-
-    // Writes a sector, of which nothing is kept from before the image is called.
-    fn write_unkept(&mut self, sector: u64, from: &[u8; 512]) -> Result<(), ImageError>
-        requires { sector < (I.disk self.old).sector_count }
-        ensures ok { OnOk result (I.disk self.new ≡ written sector from.now (I.disk self.old)) }
-        ensures err { OnErr result (IsTorn sector (I.disk self.old) (I.disk self.new)) }
-    {
         self.kept.forget(sector);
-        self.image.write_sector(sector, from)
+        self.image.write_sector(sector, &[0; 512])
     }
 }
 
@@ -146,24 +146,22 @@ impl<I: Image, A: Allocator> SectorCache<I, A> {
     pub fn into_image(self) -> I
         ensures { result ≡ self }
     {
-        let SectorCache { image, kept: _ } = self;
+        let SectorCache {
+            image,
+            kept: _,
+            lent: _,
+        } = self;
         image
     }
 }
 
-/// Whether a cache may have this capacity.
-fn is_admitted(capacity: u32) -> bool
-    ensures { IsTrue result ↔ IsCapacity capacity }
+/// How many sectors a cache of this capacity may keep, if there may be such a cache.
+fn admitted(capacity: u32) -> Option<NonZeroUsize>
+    ensures some { IsSome result ↔ IsCapacity capacity }
+    ensures same { IfSome result (λ most. non_zero_usize_get most ≡ capacity) }
 {
-    (1..=MOST_SECTORS).contains(&capacity)
-}
-
-/// How many sectors of an image can be kept: no more than it has, and at least one. Of one that lends them none is
-/// kept, so there is room for one.
-fn room_for<I: Image>(capacity: u32, image: &I) -> usize {
-    let sectors = image.sectors();
-    if sectors > 0 && image.lend_sector(0).is_some() {
-        return 1;
+    if capacity > MOST_SECTORS {
+        return None;
     }
-    sectors.min(capacity as u64).max(1) as usize
+    NonZeroUsize::new(capacity as usize)
 }

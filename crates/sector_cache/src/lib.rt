@@ -13,7 +13,6 @@ mod image;
 mod kept;
 mod laws;
 mod memory;
-mod order;
 mod scripted;
 mod sector;
 

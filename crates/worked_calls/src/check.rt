@@ -1,8 +1,17 @@
 //! The rows of a file, one after another.
 
+use crate::chains::Chains;
+use crate::consoles::Consoles;
+use crate::memory::Memory;
+use crate::requests::Requests;
+use crate::rings::Rings;
 use crate::row::{Row, row_of};
 use crate::subject::{Stuck, Subject};
+use crate::traces::Traces;
+use crate::wants::Wants;
+use crate::windows::Windows;
 use crate::words::Words;
+use refusing::RefusingHeap;
 use std::io::Write;
 use std::rt::Files;
 use std::{fs, io};
@@ -21,9 +30,38 @@ pub(crate) fn check_file<R: Files + AllocGlobal + Clone + Drop, W: Write>(
         writeln!(out, "{file} names no subject")?;
         return Ok(false);
     };
+    let alloc = rt.alloc();
     match first {
+        "traces" => check_rows(rt, file, rows, &mut Traces::new(alloc), out),
+        "chains" => check_made(rt, file, rows, Chains::new(alloc), out),
+        "consoles" => {
+            let heap = RefusingHeap::new(alloc);
+            check_made(rt, file, rows, Consoles::new(alloc, &heap), out)
+        }
+        "memory" => check_made(rt, file, rows, Memory::new(alloc), out),
+        "requests" => check_made(rt, file, rows, Requests::new(alloc), out),
+        "rings" => check_made(rt, file, rows, Rings::new(alloc), out),
+        "wants" => check_made(rt, file, rows, Wants::new(alloc), out),
+        "windows" => check_made(rt, file, rows, Windows::new(alloc), out),
         _ => {
             writeln!(out, "{file} names no subject")?;
+            Ok(false)
+        }
+    }
+}
+
+// Checks these rows of a subject, if that could be made.
+fn check_made<R: AllocGlobal, S: Subject + Drop, W: Write>(
+    rt: &R,
+    file: &str,
+    rows: &str,
+    made: Result<S, Stuck>,
+    out: &mut W,
+) -> io::Result<bool> {
+    match made {
+        Ok(mut subject) => check_rows(rt, file, rows, &mut subject, out),
+        Err(stuck) => {
+            writeln!(out, "{file}: {stuck}")?;
             Ok(false)
         }
     }

@@ -6,9 +6,19 @@
 //! no code.
 #![tactic(auto)]
 
+mod answer;
+mod chains;
 mod check;
+mod consoles;
+mod memory;
+mod port;
+mod requests;
+mod rings;
 mod row;
 mod subject;
+mod traces;
+mod wants;
+mod windows;
 mod words;
 
 use check::check_file;

@@ -23,6 +23,20 @@ fn descriptor(addr: u64, len: u32, flags: u16, next: u16) -> Vec<u8> {
     bytes
 }
 
+/// The terminal: it takes what the console put out, and tells whether there was any.
+fn show(board: &mut Board) -> Result<bool, Error> {
+    let mut out = [0; 64];
+    let mut any = false;
+    loop {
+        let taken = board.take_output(0, &mut out)?;
+        if taken == 0 {
+            return Ok(any);
+        }
+        print!("{}", String::from_utf8_lossy(&out[..taken]));
+        any = true;
+    }
+}
+
 /// A guest's driver: what a virtual CPU does in its place are loads and stores.
 struct Driver<'board> {
     board: &'board mut Board,
@@ -41,12 +55,24 @@ impl Driver<'_> {
     }
 
     /// A store. Where its service pauses, it goes on at once: a host with more guests would first let them have their turn.
-    fn set(&mut self, offset: u16, value: u32) -> Result<(), Error> {
+    fn try_to_set(&mut self, offset: u16, value: u32) -> Result<(), Error> {
         let mut pending = self.board.write(0, self.window, offset, 4, value)?;
         while pending.more {
             pending = self.board.go_on(0)?;
         }
         Ok(())
+    }
+
+    /// A store. Where the console has no room for what comes of it, room is made, and the same store is made again. What
+    /// is longer than the whole outlet is never put out, which no other guest sees.
+    fn set(&mut self, offset: u16, value: u32) -> Result<(), Error> {
+        loop {
+            match self.try_to_set(offset, value) {
+                Err(Error::NoRoom) if show(self.board)? => {}
+                Err(Error::NoRoom) => return Ok(()),
+                answer => return answer,
+            }
+        }
     }
 
     fn store(&mut self, addr: u64, from: &[u8]) -> Result<(), Error> {
@@ -151,9 +177,8 @@ fn main() -> Result<(), Box<dyn error::Error>> {
             .join()
             .expect("the guest's thread ends")
     })?;
-    let mut out = [0; 64];
-    let taken = board.take_output(0, &mut out)?;
-    print!("console: {}", String::from_utf8_lossy(&out[..taken]));
+    print!("console: ");
+    show(&mut board)?;
     let lines = board.interrupts(0)?;
     let disturbed = u8::from(board.disturbed(0)?);
     println!(

@@ -1,5 +1,0 @@
-use Rattle.mmio_window.specs.Soundness.{IsSound}
-use Rattle.block_device.proofs.tests.pieces.write_all.Given as goal
-
-abbrev pub invariant-loop-offset : goal.invariant-loop-offset
-invariant-loop-offset g l = IsSound l.mem l.fn.window → IsSound l.mem l.window
