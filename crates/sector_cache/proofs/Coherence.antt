@@ -52,7 +52,7 @@ module _ (sector : ℕ) (disk : Disk) (old new : LruCache ℕ (List ℕ)) where
   coherent_used is coherent = rw is (record { told = λ entry within. coherent.told entry (Contains-promoted (nat_eq sector) old.entries entry within) })
 
   -- less that is kept is as told too
-  coherent_forgotten : new ≡ lru_cache (remove_entry (nat_eq sector) old.entries) old.cap → IsCoherent disk old → IsCoherent disk new
+  pub coherent_forgotten : new ≡ lru_cache (remove_entry (nat_eq sector) old.entries) old.cap → IsCoherent disk old → IsCoherent disk new
   coherent_forgotten is coherent = rw is (record { told = λ entry within. coherent.told entry (Contains-remove_entry (nat_eq sector) old.entries entry within) })
 
   coherent_first : (bytes : List ℕ) → IsAsTold disk sector bytes → IsCoherent disk old → IsCoherent disk (with_first sector bytes old)
@@ -64,33 +64,43 @@ module _ (sector : ℕ) (disk : Disk) (old new : LruCache ℕ (List ℕ)) where
   }
 
   -- these bytes of a sector are kept too, or aren't
-  coherent_kept : (bytes : List ℕ) → MayKeep sector bytes old new → IsAsTold disk sector bytes → IsCoherent disk old → IsCoherent disk new
-  coherent_kept bytes (inl is) told coherent = rw is (coherent_first bytes told coherent)
-  coherent_kept bytes (inr is) told coherent = rw is coherent
+  pub coherent_kept : (bytes : List ℕ) → MayKeep sector bytes old new → IsAsTold disk sector bytes → IsCoherent disk old → IsCoherent disk new
+  coherent_kept bytes may told coherent = elim may.either [
+    | inl is ↦ rw is (coherent_first bytes told coherent)
+    | inr is ↦ rw is coherent
+  ]
 
--- a read of a sector of which nothing is kept
-module _ (sector : ℕ) (disk after : Disk) (old used : LruCache ℕ (List ℕ)) (order : used ≡ lru_cache (promoted (nat_eq sector) old.entries) old.cap) (coherent : IsCoherent disk old) where
-  pub coherent_failed : after ≡ failed disk → IsCoherent after used
-  coherent_failed is = rw is (record { told = (coherent_used sector disk old used order coherent).told })
+module _ (disk after : Disk) (kept : LruCache ℕ (List ℕ)) where
+  -- a read that succeeds, and one that fails
+  pub coherent_read : after ≡ disk → IsCoherent disk kept → IsCoherent after kept
+  coherent_read is coherent = rw is coherent
 
-  pub coherent_read : after ≡ disk → (new : LruCache ℕ (List ℕ)) (bytes : List ℕ) → IsAsTold disk sector bytes → MayKeep sector bytes used new → IsCoherent after new
-  coherent_read is new bytes told may = rw is (coherent_kept sector disk used new bytes may told (coherent_used sector disk old used order coherent))
+  pub coherent_failed : after ≡ failed disk → IsCoherent disk kept → IsCoherent after kept
+  coherent_failed is coherent = rw is (record { told = coherent.told })
 
--- a write of a sector, of which nothing is kept from before it
-module _ (sector : ℕ) (disk after : Disk) (old kept : LruCache ℕ (List ℕ)) (whole : IsWhole disk) (within : sector < disk.sector_count)
-    (rest : kept ≡ lru_cache (remove_entry (nat_eq sector) old.entries) old.cap) (none : lookup (nat_eq sector) kept.entries ≡ None) (coherent : IsCoherent disk old) where
-  coherent_apart : (new : List ℕ) → length new ≡ 512 → IsCoherent (written sector new disk) kept
-  coherent_apart new long = record {
+module _ (sector : ℕ) (disk after : Disk) (kept : LruCache ℕ (List ℕ)) where
+  -- a write of a sector of which nothing is kept, that succeeds, and one that fails
+  pub coherent_written : (new : List ℕ) → after ≡ written sector new disk → lookup (nat_eq sector) kept.entries ≡ None → IsCoherent disk kept → IsWhole disk → sector < disk.sector_count → length new ≡ 512 → IsCoherent after kept
+  coherent_written new is none coherent whole within long = rw is (record {
     told = λ entry there.
-        IsAsTold-other disk sector new whole within long entry.0 entry.1 (λ same. none_of sector kept.entries none entry there (sym same))
-        ((coherent_forgotten sector disk old kept rest coherent).told entry there);
-  }
+        IsAsTold-other disk sector new whole within long entry.0 entry.1 (λ same. none_of sector kept.entries none entry there (sym same)) (coherent.told entry there);
+  })
+
+  pub coherent_torn : IsTorn sector disk after → lookup (nat_eq sector) kept.entries ≡ None → IsCoherent disk kept → IsWhole disk → sector < disk.sector_count → IsCoherent after kept
+  coherent_torn torn none coherent whole within = rw torn.torn (record {
+    told = λ entry there.
+        IsAsTold-other disk sector torn.left whole within torn.whole entry.0 entry.1 (λ same. none_of sector kept.entries none entry there (sym same)) (coherent.told entry there);
+  })
 
   -- whichever way it ends
-  pub coherent_written : {X E : Type 0} (result : Result X E) (new : List ℕ) → length new ≡ 512 → OnOk result (after ≡ written sector new disk) → OnErr result (IsTorn sector disk after) → IsCoherent after kept
-  coherent_written (Ok _) new long ok err = rw ok (coherent_apart new long)
-  coherent_written (Err _) new long ok err = rw err.torn (record { told = (coherent_apart err.left err.whole).told })
+  pub coherent_unkept : {X E : Type 0} (result : Result X E) (new : List ℕ) → OnOk result (after ≡ written sector new disk) → OnErr result (IsTorn sector disk after) → lookup (nat_eq sector) kept.entries ≡ None → IsCoherent disk kept → IsWhole disk → sector < disk.sector_count → length new ≡ 512 → IsCoherent after kept
+  coherent_unkept (Ok _) new ok err none coherent whole within long = coherent_written new ok none coherent whole within long
+  coherent_unkept (Err _) new ok err none coherent whole within long = coherent_torn err none coherent whole within
 
-  -- where it succeeds and its bytes are kept
-  pub coherent_kept_after : (put : LruCache ℕ (List ℕ)) (new : List ℕ) → length new ≡ 512 → after ≡ written sector new disk → MayKeep sector new kept put → IsCoherent after put
-  coherent_kept_after put new long is may = rw is (coherent_kept sector (written sector new disk) kept put new may (IsAsTold-itself disk sector new whole within long) (coherent_apart new long))
+-- a sector is told as it was written
+pub told_written : (sector : ℕ) (disk after : Disk) (new : List ℕ) → after ≡ written sector new disk → IsWhole disk → sector < disk.sector_count → length new ≡ 512 → IsAsTold after sector new
+told_written sector disk after new is whole within long = rw is (IsAsTold-itself disk sector new whole within long)
+
+-- and as it was read
+pub told_read : (sector : ℕ) (disk after : Disk) (bytes : List ℕ) → after ≡ disk → IsAsTold disk sector bytes → IsAsTold after sector bytes
+told_read sector disk after bytes is told = rw is told

@@ -29,5 +29,5 @@ module _ (sector : ℕ) (old new : LruCache ℕ (List ℕ)) where
 
   -- a put of what isn't there
   pub kept_by_put : {X E : Type 0} (result : Result X E) (bytes : List ℕ) → OnOk result (new ≡ lru_cache (put_entries nat_eq old sector bytes) old.cap) → OnErr result (new ≡ old) → lookup (nat_eq sector) old.entries ≡ None → MayKeep sector bytes old new
-  kept_by_put (Ok _) bytes ok err none = inl (ok ∙ ap (λ found. lru_cache (option_map_or (λ e. (e.0, bytes) ∷ remove_entry (nat_eq sector) old.entries) found ((sector, bytes) ∷ take (old.cap - 1) old.entries)) old.cap) (entry_of_none sector old.entries none))
-  kept_by_put (Err _) bytes ok err none = inr err
+  kept_by_put (Ok _) bytes ok err none = record { either = inl (ok ∙ ap (λ found. lru_cache (option_map_or (λ e. (e.0, bytes) ∷ remove_entry (nat_eq sector) old.entries) found ((sector, bytes) ∷ take (old.cap - 1) old.entries)) old.cap) (entry_of_none sector old.entries none)) }
+  kept_by_put (Err _) bytes ok err none = record { either = inr err }

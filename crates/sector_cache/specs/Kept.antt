@@ -12,5 +12,5 @@ abbrev pub with_first : ℕ → List ℕ → LruCache ℕ (List ℕ) → LruCach
 with_first sector bytes kept = lru_cache ((sector, bytes) ∷ take (kept.cap - 1) kept.entries) kept.cap
 
 -- these bytes of a sector are kept; or there was no memory for them, and nothing changes
-abbrev pub MayKeep : ℕ → List ℕ → (old new : LruCache ℕ (List ℕ)) → Type 0
-MayKeep sector bytes old new = (new ≡ with_first sector bytes old) ⊎ (new ≡ old)
+pub record MayKeep (sector : ℕ) (bytes : List ℕ) (old new : LruCache ℕ (List ℕ)) : Type 0 where
+  pub either : (new ≡ with_first sector bytes old) ⊎ (new ≡ old)

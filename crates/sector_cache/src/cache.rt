@@ -68,6 +68,7 @@ impl<I: Image, A: Allocator + Copy> SectorCache<I, A> {
         })
     }
 
+    #[tactic(auto, using(crate::proofs::Coherence::told_found, crate::proofs::Coherence::coherent_used, crate::proofs::Coherence::coherent_failed, crate::proofs::Coherence::coherent_read, crate::proofs::Coherence::coherent_kept, crate::proofs::Coherence::told_read))]
     /// Lends the bytes of a sector: where they lie in the image, else those that are kept, else what the image reads
     /// just now.
     pub fn lend(&mut self, sector: u64) -> Result<&[u8; 512], ImageError>
@@ -98,6 +99,7 @@ impl<I: Image, A: Allocator + Copy> SectorCache<I, A> {
         Ok(())
     }
 
+    #[tactic(auto, using(crate::proofs::Coherence::coherent_forgotten, crate::proofs::Coherence::coherent_written, crate::proofs::Coherence::coherent_torn))]
     /// Writes a sector. After an `Err` that sector may hold any 512 bytes.
     pub fn write(&mut self, sector: u64, from: &[u8; 512]) -> Result<(), ImageError>
         requires { sector < (I.disk self.old).sector_count }

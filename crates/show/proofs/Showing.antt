@@ -5,8 +5,8 @@ use Rattle.std.proofs.KnownBytes.{Appends-kept}
 use Rattle.sector_cache.specs.Disk.{Disk}
 use Rattle.calls.specs.Replayed.{HasRun}
 use Rattle.show.specs.Replaying.{ShowsRun}
-use Rattle.weave.specs.Woven.{records_of}
-use Rattle.weave.proofs.Weaving.{then_more}
+use Rattle.show.specs.Woven.{records_of}
+use Rattle.show.proofs.Weaving.{then_more}
 
 shown : {A : Type 0} (input old first last new : Option (List ℕ)) (before after : Disk) → Keeps old first → HasRun A input first last before after
     → Keeps last new → HasRun A input old new before after

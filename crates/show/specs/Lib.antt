@@ -1,1 +1,4 @@
+pub mod Text
+pub mod Woven
+pub mod Weaver
 pub mod Replaying

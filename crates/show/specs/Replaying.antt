@@ -2,7 +2,7 @@
 use Rattle.std.specs.Prelude.{ℕ, false, List, Option, Some}
 use Rattle.sector_cache.specs.Disk.{Disk}
 use Rattle.calls.specs.Replayed.{HasRun}
-use Rattle.weave.specs.Woven.{records_of}
+use Rattle.show.specs.Woven.{records_of}
 
 -- The records in what was put out are those of a replay of this text that came to its end: of a run on the board of the
 -- one trace with that text.

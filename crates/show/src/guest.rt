@@ -1,9 +1,9 @@
 //! Reaching a slot's windows and queues by the kind of the device.
 
-use board::{Board, DeviceKind, Image};
+use board::{Board, DeviceKind};
 use guest_memory::GuestMemory;
 use mmio_window::{Queue, QueueRegisters, Window};
-use std::alloc::Allocator;
+use sector_cache::MemoryImage;
 
 /// A queue of a slot.
 #[derive(Clone, Copy)]
@@ -21,11 +21,7 @@ impl SlotQueue {
 }
 
 /// A window of a slot.
-pub fn window_of<I: Image, A: Allocator>(
-    board: &Board<I, A>,
-    slot: u8,
-    kind: DeviceKind,
-) -> Option<&Window> {
+pub fn window_of(board: &Board<MemoryImage>, slot: u8, kind: DeviceKind) -> Option<&Window> {
     match kind {
         DeviceKind::Block => board.block_window(slot),
         DeviceKind::Console => board.console_window(slot),
@@ -33,10 +29,10 @@ pub fn window_of<I: Image, A: Allocator>(
 }
 
 /// The registers of a queue, beside the memory of its slot.
-pub fn queue_of<I: Image, A: Allocator>(
-    board: &Board<I, A>,
+pub fn queue_of(
+    board: &Board<MemoryImage>,
     at: SlotQueue,
-) -> Option<(&GuestMemory<A>, &QueueRegisters)> {
+) -> Option<(&GuestMemory, &QueueRegisters)> {
     let mem = board.memory(at.slot)?;
     let window = window_of(board, at.slot, at.kind)?;
     let registers = window.registers(at.queue)?;
@@ -44,7 +40,7 @@ pub fn queue_of<I: Image, A: Allocator>(
 }
 
 /// The ring of a queue, where it is ready.
-pub fn ring_of<I: Image, A: Allocator>(board: &Board<I, A>, at: SlotQueue) -> Option<&Queue> {
+pub fn ring_of(board: &Board<MemoryImage>, at: SlotQueue) -> Option<&Queue> {
     let (_, registers) = queue_of(board, at)?;
     registers.ring.as_ref()
 }

@@ -4,23 +4,23 @@ ghost use Rattle.std.specs.Prelude.{◌<◌, IfSome, length};
 
 use crate::page_text::{HEAD, TAIL};
 use crate::replaying::{show, try_replay};
+use crate::weave::Text;
 use calls::{Advice, refuse, told};
 use replay::ReplayFault;
 use sector_cache::{Image, MemoryImage};
-use std::alloc::Allocator;
+use std::alloc::Global;
 use std::io::{ErrorKind, Write};
 use std::rt::Files;
 use std::{fs, io};
 use trace::write_whole;
-use weave::Text;
 
 /// Makes the file anew, and writes the page of a replay of this text to it. A replay that comes to no end leaves the file
 /// as it is.
-pub fn save_page<A: Allocator + Copy, R: Eprint + Files>(
+pub fn save_page<R: Eprint + Files>(
     rt: &R,
-    alloc: A,
+    alloc: Global,
     text: &[u8],
-    image: MemoryImage<A>,
+    image: MemoryImage,
     path: &str,
 ) -> Result<(), ReplayFault> {
     let sectors = image.sectors();
@@ -39,10 +39,10 @@ pub fn save_page<A: Allocator + Copy, R: Eprint + Files>(
 }
 
 // Writes the page of a replay of this text.
-fn write_page<A: Allocator + Copy, W: Write + Drop>(
-    alloc: A,
+fn write_page<W: Write + Drop>(
+    alloc: Global,
     text: &[u8],
-    image: MemoryImage<A>,
+    image: MemoryImage,
     out: W,
 ) -> Result<(), ReplayFault> {
     let mut page = Page::new(alloc, out);
@@ -70,14 +70,14 @@ fn take_to_sign(text: &[u8]) -> Option<(&[u8], u8, &[u8])>
 
 /// A writer of text into a page: signs that mean something there are written by their names.
 #[derive(Drop)]
-struct Page<W: Write + Drop, A: Allocator> {
+struct Page<W: Write + Drop> {
     out: W,
-    text: Text<A>,
+    text: Text,
 }
 
-impl<W: Write + Drop, A: Allocator> Page<W, A> {
+impl<W: Write + Drop> Page<W> {
     // One in front of a writer.
-    fn new(alloc: A, out: W) -> Page<W, A> {
+    fn new(alloc: Global, out: W) -> Page<W> {
         Page {
             out,
             text: Text::new(alloc),
@@ -90,7 +90,7 @@ impl<W: Write + Drop, A: Allocator> Page<W, A> {
     }
 }
 
-impl<W: Write + Drop, A: Allocator> Write for Page<W, A> {
+impl<W: Write + Drop> Write for Page<W> {
     fn write(&mut self, bytes: &[u8]) -> io::Result<usize> {
         self.text.clear();
         let mut rest = bytes;

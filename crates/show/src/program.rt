@@ -6,7 +6,7 @@ use crate::words::{Call, read_words};
 use calls::{Advice, Fault, end, image_in, refuse, text_in, told, zero_image};
 use replay::ReplayFault;
 use sector_cache::{Image, MemoryImage};
-use std::alloc::Allocator;
+use std::alloc::Global;
 use std::io;
 use std::rt::Files;
 
@@ -32,9 +32,9 @@ fn carry_out<R: Print + Eprint + Files + AllocGlobal>(
 }
 
 // Shows the call's trace over its image.
-fn show_files<A: Allocator + Copy, R: Print + Eprint + Files>(
+fn show_files<R: Print + Eprint + Files>(
     rt: &R,
-    alloc: A,
+    alloc: Global,
     call: &Call<'_>,
 ) -> Result<(), ReplayFault> {
     let image = image_of(rt, alloc, call)?;
@@ -50,11 +50,11 @@ fn show_files<A: Allocator + Copy, R: Print + Eprint + Files>(
 }
 
 // The image of a call.
-fn image_of<A: Allocator + Copy, R: Eprint + Files>(
+fn image_of<R: Eprint + Files>(
     rt: &R,
-    alloc: A,
+    alloc: Global,
     call: &Call<'_>,
-) -> Result<MemoryImage<A>, ReplayFault> {
+) -> Result<MemoryImage, ReplayFault> {
     if let Some(path) = call.image {
         return image_in(rt, alloc, path);
     }

@@ -4,30 +4,31 @@
 //! along with them, event by event, to say what each was.
 
 ghost use Rattle.std.specs.Prelude.{OnOk, false};
+ghost use Rattle.std.specs.Global.{Global};
 ghost use Rattle.std.specs.Io.KnownBytes.{Keeps};
 ghost use Rattle.sector_cache.specs.MemoryImage.{disk_of};
-ghost use Rattle.weave.specs.Weaver.{weaver_records};
-ghost use Rattle.weave.specs.Woven.{records_of};
+ghost use Rattle.show.specs.Weaver.{weaver_records};
+ghost use Rattle.show.specs.Woven.{records_of};
 ghost use Rattle.show.specs.Replaying.{ShowsRun};
 
 use crate::teller::Teller;
+use crate::weave::Weaver;
 use calls::replayed;
 use replay::ReplayFault;
 use sector_cache::MemoryImage;
-use std::alloc::Allocator;
+use std::alloc::Global;
 use std::io;
 use std::io::{ErrorKind, Write};
-use weave::Weaver;
 
 /// Replays a trace's text over an image, and writes the records, each behind what is said of its event and before what came
 /// of that.
-pub fn show<A: Allocator + Copy, W: Write + Drop>(
-    alloc: A,
+pub fn show<W: Write + Drop>(
+    alloc: Global,
     text: &[u8],
-    image: MemoryImage<A>,
+    image: MemoryImage,
     out: W,
 ) -> (W, Result<(), ReplayFault>)
-    ensures { OnOk result.1 (ShowsRun A text.now (W.contents out) (W.contents result.0) (disk_of image)) }
+    ensures { OnOk result.1 (ShowsRun Global text.now (W.contents out) (W.contents result.0) (disk_of image)) }
 {
     let Some(before) = copied(alloc, &image) else {
         return (out, Err(ReplayFault::NoMemory));
@@ -44,9 +45,7 @@ pub fn show<A: Allocator + Copy, W: Write + Drop>(
 }
 
 // Ends what was woven of a replay that came to its end.
-fn end<A: Allocator + Copy, W: Write + Drop>(
-    weaver: Weaver<Teller<'_, A>, W, A>,
-) -> (W, Result<(), ReplayFault>)
+fn end<W: Write + Drop>(weaver: Weaver<Teller<'_>, W>) -> (W, Result<(), ReplayFault>)
     ensures { OnOk result.1 (Keeps (weaver_records W.contents weaver.entry) (records_of false (W.contents result.0))) }
 {
     let (out, outcome) = weaver.end();
@@ -59,10 +58,7 @@ fn end<A: Allocator + Copy, W: Write + Drop>(
 
 // The writer after a replay that didn't come to its end, and the fault: where it is that of the output, but there was no
 // memory for that, it is that.
-fn give_up<A: Allocator + Copy, W: Write + Drop>(
-    weaver: Weaver<Teller<'_, A>, W, A>,
-    fault: ReplayFault,
-) -> (W, ReplayFault) {
+fn give_up<W: Write + Drop>(weaver: Weaver<Teller<'_>, W>, fault: ReplayFault) -> (W, ReplayFault) {
     let (out, is_full) = weaver.give_up();
     match fault {
         ReplayFault::Write if is_full => (out, ReplayFault::NoMemory),
@@ -71,11 +67,7 @@ fn give_up<A: Allocator + Copy, W: Write + Drop>(
 }
 
 /// Replays a trace's text over a copy of the image, and keeps nothing: whether there is anything to show.
-pub fn try_replay<A: Allocator + Copy>(
-    alloc: A,
-    text: &[u8],
-    image: &MemoryImage<A>,
-) -> Result<(), ReplayFault> {
+pub fn try_replay(alloc: Global, text: &[u8], image: &MemoryImage) -> Result<(), ReplayFault> {
     let Some(copy) = copied(alloc, image) else {
         return Err(ReplayFault::NoMemory);
     };
@@ -84,7 +76,7 @@ pub fn try_replay<A: Allocator + Copy>(
 }
 
 // The same image once more.
-fn copied<A: Allocator + Copy>(alloc: A, image: &MemoryImage<A>) -> Option<MemoryImage<A>> {
+fn copied(alloc: Global, image: &MemoryImage) -> Option<MemoryImage> {
     let Ok(bytes) = image.bytes().to_vec(alloc) else {
         return None;
     };

@@ -1,27 +1,27 @@
 //! What is seen of a guest's devices, and said where it changes.
 
 use crate::guest::{SlotQueue, queue_of, window_of};
-use board::{Board, DeviceKind, Image};
-use std::alloc::Allocator;
-use weave::Text;
-use wording::{Change, NEW_WINDOW, Table, WindowSeen, say_changes, say_on_offer, window_seen};
+use crate::weave::Text;
+use crate::wording::{
+    Change, NEW_WINDOW, Table, WindowSeen, say_changes, say_on_offer, window_seen,
+};
+use board::{Board, DeviceKind};
+use sector_cache::MemoryImage;
+use std::alloc::Global;
 
 /// What was said last of a guest's windows, and of its queues' descriptors.
 #[derive(Drop)]
-pub struct Guest<A: Allocator> {
+pub struct Guest {
     pub block: WindowSeen,
     pub console: WindowSeen,
-    requests: Table<A>,
-    receive: Table<A>,
-    transmit: Table<A>,
+    requests: Table,
+    receive: Table,
+    transmit: Table,
 }
 
-impl<A: Allocator> Guest<A> {
+impl Guest {
     /// A slot's guest, of which nothing was said. This takes no memory.
-    pub fn new<I: Image>(alloc: A, board: &Board<I, A>, slot: u8) -> Guest<A>
-    where
-        A: Copy,
-    {
+    pub fn new(alloc: Global, board: &Board<MemoryImage>, slot: u8) -> Guest {
         Guest {
             block: seen(board, slot, DeviceKind::Block),
             console: seen(board, slot, DeviceKind::Console),
@@ -33,12 +33,7 @@ impl<A: Allocator> Guest<A> {
 
     /// Says what of the windows and of the queues isn't as it was, and answers whether a descriptor isn't that was available
     /// in a packed ring.
-    pub fn say_changes<I: Image>(
-        &mut self,
-        board: &Board<I, A>,
-        slot: u8,
-        text: &mut Text<A>,
-    ) -> bool {
+    pub fn say_changes(&mut self, board: &Board<MemoryImage>, slot: u8, text: &mut Text) -> bool {
         let (block, console) = (self.block, self.console);
         self.block = seen(board, slot, DeviceKind::Block);
         self.console = seen(board, slot, DeviceKind::Console);
@@ -56,11 +51,11 @@ impl<A: Allocator> Guest<A> {
 
 // Says what is on offer in a queue, and its descriptors, where they aren't as they were. It answers whether one of these
 // was available in a packed ring.
-fn say_queue<I: Image, A: Allocator>(
-    text: &mut Text<A>,
-    board: &Board<I, A>,
+fn say_queue(
+    text: &mut Text,
+    board: &Board<MemoryImage>,
     at: SlotQueue,
-    table: &mut Table<A>,
+    table: &mut Table,
     old: &WindowSeen,
     new: &WindowSeen,
 ) -> bool {
@@ -79,7 +74,7 @@ fn say_queue<I: Image, A: Allocator>(
 }
 
 // What is seen of a slot's window.
-fn seen<I: Image, A: Allocator>(board: &Board<I, A>, slot: u8, kind: DeviceKind) -> WindowSeen {
+fn seen(board: &Board<MemoryImage>, slot: u8, kind: DeviceKind) -> WindowSeen {
     let window = window_of(board, slot, kind);
     match (board.memory(slot), window) {
         (Some(mem), Some(window)) => window_seen(mem, window),

@@ -1,21 +1,22 @@
 //! Serving a queue chain by chain, and saying of each what was taken and what came of it.
 
 use crate::guest::{SlotQueue, queue_of, ring_of, window_of};
-use board::{Board, DeviceKind, EventKind, Image, Pause, Reply, Turn};
-use chain::{Budget, Chain, Fault};
-use mmio_window::Queue;
-use negotiation::{Flags, Status};
-use std::alloc::Allocator;
-use weave::Text;
-use wording::{
+use crate::weave::Text;
+use crate::wording::{
     Ahead, Mistake, SHOWN, fault_name, look_ahead, say_notification, say_queue_head, say_received,
     say_request, say_site, say_used, size_of, used_entry,
 };
+use board::{Board, DeviceKind, EventKind, Pause, Reply, Turn};
+use chain::{Budget, Chain, Fault};
+use mmio_window::Queue;
+use negotiation::{Flags, Status};
+use sector_cache::MemoryImage;
+use std::alloc::Global;
 
 /// What a service came to.
 #[derive(Drop)]
-pub struct Service<A: Allocator> {
-    pub reply: Reply<A>,
+pub struct Service {
+    pub reply: Reply,
     /// What ended it, where that is a fault.
     pub fault: Option<Fault>,
     /// What its chains have that the standard forbids a driver.
@@ -32,15 +33,15 @@ const ONE_CHAIN: Budget = Budget {
 const MOST_CHAINS: usize = 256;
 
 /// Handles an event that serves a queue, and says of each chain what came of it. `output` gets what the console puts out.
-pub fn serve<I: Image, A: Allocator + Copy>(
-    board: &mut Board<I, A>,
+pub fn serve(
+    board: &mut Board<MemoryImage>,
     served: SlotQueue,
-    what: &EventKind<A>,
+    what: &EventKind,
     chain: &mut Chain,
-    output: &mut Vec<u8, A>,
-    alloc: A,
-    text: &mut Text<A>,
-) -> Service<A> {
+    output: &mut Vec<u8>,
+    alloc: Global,
+    text: &mut Text,
+) -> Service {
     let mut said = Text::new(alloc);
     let mut pause = None;
     let mut mistake = None;
@@ -89,14 +90,14 @@ pub fn serve<I: Image, A: Allocator + Copy>(
 }
 
 // The next piece of the event.
-fn turn_of<I: Image, A: Allocator + Copy>(
-    board: &mut Board<I, A>,
+fn turn_of(
+    board: &mut Board<MemoryImage>,
     slot: u8,
-    what: &EventKind<A>,
+    what: &EventKind,
     pause: Option<Pause>,
     budget: Budget,
-    output: &mut Vec<u8, A>,
-) -> Turn<A> {
+    output: &mut Vec<u8>,
+) -> Turn {
     match pause {
         None => board.begin(slot, what, budget, output).turn,
         Some(pause) => board.go_on(slot, pause, budget, output).turn,
@@ -104,12 +105,12 @@ fn turn_of<I: Image, A: Allocator + Copy>(
 }
 
 // What the service takes next.
-fn ahead_of<I: Image, A: Allocator>(
-    board: &Board<I, A>,
+fn ahead_of(
+    board: &Board<MemoryImage>,
     served: SlotQueue,
     opens: bool,
     chain: &mut Chain,
-    text: &mut Text<A>,
+    text: &mut Text,
 ) -> Ahead {
     let Some((mem, registers)) = queue_of(board, served) else {
         return Ahead::Nothing;
@@ -131,7 +132,7 @@ fn mistake_of(ahead: Ahead) -> Option<Mistake> {
 }
 
 // The place of a queue, where it is ready.
-fn place_of<I: Image, A: Allocator>(board: &Board<I, A>, served: SlotQueue) -> Option<u16> {
+fn place_of(board: &Board<MemoryImage>, served: SlotQueue) -> Option<u16> {
     match ring_of(board, served)? {
         Queue::Split(ring) => Some(ring.place()),
         Queue::Packed(ring) => Some(ring.place()),
@@ -139,7 +140,7 @@ fn place_of<I: Image, A: Allocator>(board: &Board<I, A>, served: SlotQueue) -> O
 }
 
 // Whether the service went past the chain that was ahead.
-fn is_past<I: Image, A: Allocator>(board: &Board<I, A>, served: SlotQueue, ahead: Ahead) -> bool {
+fn is_past(board: &Board<MemoryImage>, served: SlotQueue, ahead: Ahead) -> bool {
     match ahead {
         Ahead::Chain { place, .. } => place_of(board, served) != Some(place),
         _ => false,
@@ -148,12 +149,12 @@ fn is_past<I: Image, A: Allocator>(board: &Board<I, A>, served: SlotQueue, ahead
 
 // The fault that ended a service, where one did: that of what was ahead, or that of the chain behind it. A window that is
 // served doesn't need a reset before.
-fn fault_of<I: Image, A: Allocator>(
-    board: &Board<I, A>,
+fn fault_of(
+    board: &Board<MemoryImage>,
     served: SlotQueue,
     ahead: Ahead,
     chain: &mut Chain,
-    said: &mut Text<A>,
+    said: &mut Text,
 ) -> Option<Fault> {
     if !needs_reset(board, served) {
         return None;
@@ -170,13 +171,13 @@ fn fault_of<I: Image, A: Allocator>(
 }
 
 // Says what came of a chain: what its device did, and the used entry.
-fn say_outcome<I: Image, A: Allocator>(
-    board: &Board<I, A>,
+fn say_outcome(
+    board: &Board<MemoryImage>,
     served: SlotQueue,
     ahead: Ahead,
     chain: &Chain,
     put_out: Option<&[u8]>,
-    text: &mut Text<A>,
+    text: &mut Text,
 ) {
     let Some((mem, registers)) = queue_of(board, served) else {
         return;
@@ -209,13 +210,13 @@ fn say_outcome<I: Image, A: Allocator>(
 }
 
 // Says why a service ended, and whether a notification was wanted.
-fn say_end<I: Image, A: Allocator>(
-    board: &Board<I, A>,
+fn say_end(
+    board: &Board<MemoryImage>,
     served: SlotQueue,
-    reply: &Reply<A>,
+    reply: &Reply,
     first: Option<u16>,
     fault: Option<Fault>,
-    text: &mut Text<A>,
+    text: &mut Text,
 ) {
     let Some((mem, registers)) = queue_of(board, served) else {
         return;
@@ -246,7 +247,7 @@ fn say_end<I: Image, A: Allocator>(
 }
 
 // Whether the device of a queue asks to be reset.
-fn needs_reset<I: Image, A: Allocator>(board: &Board<I, A>, served: SlotQueue) -> bool {
+fn needs_reset(board: &Board<MemoryImage>, served: SlotQueue) -> bool {
     match window_of(board, served.slot, served.kind) {
         Some(window) => {
             let status = window.negotiation().status();
@@ -257,7 +258,7 @@ fn needs_reset<I: Image, A: Allocator>(board: &Board<I, A>, served: SlotQueue) -
 }
 
 // How many bytes are typed to a slot's console and not yet taken.
-fn pending_of<I: Image, A: Allocator>(board: &Board<I, A>, slot: u8) -> usize {
+fn pending_of(board: &Board<MemoryImage>, slot: u8) -> usize {
     match board.console_device(slot) {
         Some(console) => console.pending_len(),
         None => 0,

@@ -1,29 +1,29 @@
 //! What is said of the events of a trace, one after another, by a watcher that goes along with them.
 
 use crate::watch::Watcher;
+use crate::weave::{Tell, Text, take_line};
 use board::Board;
 use sector_cache::MemoryImage;
-use std::alloc::Allocator;
+use std::alloc::Global;
 use trace::{event_of_line, read_trace};
-use weave::{Tell, Text, take_line};
 
 /// What was said last of the events of a trace, and those that are left.
 #[derive(Drop)]
-pub struct Teller<'t, A: Allocator> {
-    alloc: A,
-    watcher: Option<Watcher<MemoryImage<A>, A>>,
+pub struct Teller<'t> {
+    alloc: Global,
+    watcher: Option<Watcher>,
     /// The lines of the events that are left, and the number of the first.
     lines: &'t [u8],
     number: u64,
     /// What the last event was, and what came of it.
-    head: Text<A>,
-    tail: Text<A>,
+    head: Text,
+    tail: Text,
 }
 
-impl<'t, A: Allocator + Copy> Teller<'t, A> {
+impl<'t> Teller<'t> {
     /// One for a trace's text, over the image as it is before. It has said the board. Of a text that isn't a trace's it says
     /// nothing, and wants memory at its first event.
-    pub fn new(alloc: A, text: &'t [u8], before: MemoryImage<A>) -> Teller<'t, A> {
+    pub fn new(alloc: Global, text: &'t [u8], before: MemoryImage) -> Teller<'t> {
         let (front, lines, number) = cut(text);
         let mut tail = Text::new(alloc);
         let watcher = watcher_of(alloc, front, before, &mut tail);
@@ -38,12 +38,12 @@ impl<'t, A: Allocator + Copy> Teller<'t, A> {
     }
 }
 
-impl<A: Allocator + Copy> Tell<A> for Teller<'_, A> {
-    fn head(&self) -> &Text<A> {
+impl Tell for Teller<'_> {
+    fn head(&self) -> &Text {
         &self.head
     }
 
-    fn tail(&self) -> &Text<A> {
+    fn tail(&self) -> &Text {
         &self.tail
     }
 
@@ -77,12 +77,12 @@ impl<A: Allocator + Copy> Tell<A> for Teller<'_, A> {
 }
 
 // A watcher on the board of what stands before a trace's events, where there is one. It says that board.
-fn watcher_of<A: Allocator + Copy>(
-    alloc: A,
+fn watcher_of(
+    alloc: Global,
     front: &[u8],
-    before: MemoryImage<A>,
-    text: &mut Text<A>,
-) -> Option<Watcher<MemoryImage<A>, A>> {
+    before: MemoryImage,
+    text: &mut Text,
+) -> Option<Watcher> {
     let trace = read_trace(alloc, front).ok()?;
     let board = Board::new(alloc, &trace.slots, before, trace.cache).ok()?;
     let watcher = Watcher::new(alloc, board).ok()?;

@@ -3,16 +3,17 @@
 use crate::guest::{SlotQueue, ring_of, window_of};
 use crate::seen::Guest;
 use crate::service::serve;
-use board::{Board, DeviceKind, Event, EventKind, Image, Reply, SlotSpec};
+use crate::weave::Text;
+use crate::wording::{
+    Mistake, SHOWN, read_mistake, say_event, say_interrupts, say_place, say_value, write_mistake,
+};
+use board::{Board, DeviceKind, Event, EventKind, Reply, SlotSpec};
 use chain::{Chain, Fault};
 use mmio_window::Queue;
 use negotiation::{Features, Flags};
-use std::alloc::{AllocError, Allocator};
+use sector_cache::MemoryImage;
+use std::alloc::{AllocError, Global};
 use trace::Trace;
-use weave::Text;
-use wording::{
-    Mistake, SHOWN, read_mistake, say_event, say_interrupts, say_place, say_value, write_mistake,
-};
 
 /// The offset of QueueNotify (4.2.2).
 const QUEUE_NOTIFY: u16 = 0x050;
@@ -22,22 +23,22 @@ const MOST_LISTED: u64 = 1000;
 
 /// A board that goes along, and what was seen of it.
 #[derive(Drop)]
-pub struct Watcher<I: Image + Drop, A: Allocator> {
-    board: Board<I, A>,
-    alloc: A,
-    guests: Vec<Guest<A>, A>,
+pub struct Watcher {
+    board: Board<MemoryImage>,
+    alloc: Global,
+    guests: Vec<Guest>,
     chain: Chain,
-    output: Vec<u8, A>,
+    output: Vec<u8>,
     /// The list of mistakes.
-    list: Text<A>,
+    list: Text,
     events: u64,
     mistakes: u64,
     faults: u64,
 }
 
-impl<I: Image + Drop, A: Allocator + Copy> Watcher<I, A> {
+impl Watcher {
     /// One over a new board.
-    pub fn new(alloc: A, board: Board<I, A>) -> Result<Watcher<I, A>, AllocError> {
+    pub fn new(alloc: Global, board: Board<MemoryImage>) -> Result<Watcher, AllocError> {
         let mut guests = Vec::with_capacity(alloc, board.slots())?;
         for slot in 0..board.slots().min(64) {
             guests.push(Guest::new(alloc, &board, slot as u8))?;
@@ -56,7 +57,7 @@ impl<I: Image + Drop, A: Allocator + Copy> Watcher<I, A> {
     }
 
     /// Says the board of a trace, a line for each of the trace's.
-    pub fn say_board(&self, trace: &Trace<A>, text: &mut Text<A>) {
+    pub fn say_board(&self, trace: &Trace, text: &mut Text) {
         text.say("1 version ");
         text.count(u64::from(trace.version));
         text.say("\n2 cache of ");
@@ -68,7 +69,7 @@ impl<I: Image + Drop, A: Allocator + Copy> Watcher<I, A> {
     }
 
     /// Handles the event of a line. What it was goes to `head`, and what came of it to `tail`.
-    pub fn event(&mut self, line: u64, event: &Event<A>, head: &mut Text<A>, tail: &mut Text<A>) {
+    pub fn event(&mut self, line: u64, event: &Event, head: &mut Text, tail: &mut Text) {
         self.events = self.events.saturating_add(1);
         let slot = event.slot;
         head.count(line);
@@ -94,7 +95,7 @@ impl<I: Image + Drop, A: Allocator + Copy> Watcher<I, A> {
     }
 
     // A read of memory, of which the bytes stand in the record.
-    fn read_memory(&self, slot: u8, addr: u64, len: u32, head: &mut Text<A>) {
+    fn read_memory(&self, slot: u8, addr: u64, len: u32, head: &mut Text) {
         if let Some(mem) = self.board.memory(slot) {
             if !mem.holds(addr, u64::from(len)) {
                 head.say(" -> outside memory");
@@ -106,10 +107,10 @@ impl<I: Image + Drop, A: Allocator + Copy> Watcher<I, A> {
     fn change(
         &mut self,
         line: u64,
-        event: &Event<A>,
+        event: &Event,
         words: (u8, u8),
-        head: &mut Text<A>,
-        tail: &mut Text<A>,
+        head: &mut Text,
+        tail: &mut Text,
     ) {
         self.output.clear();
         let slot = event.slot;
@@ -144,7 +145,7 @@ impl<I: Image + Drop, A: Allocator + Copy> Watcher<I, A> {
     }
 
     // Says the answer of an event, the interrupts that it raised and what the console put out.
-    fn say_answer(&mut self, slot: u8, reply: &Reply<A>, words: (u8, u8), head: &mut Text<A>) {
+    fn say_answer(&mut self, slot: u8, reply: &Reply, words: (u8, u8), head: &mut Text) {
         match reply {
             Reply::Took(count) => {
                 head.say(" -> took ");
@@ -166,7 +167,7 @@ impl<I: Image + Drop, A: Allocator + Copy> Watcher<I, A> {
     }
 
     // Says what of the slot's windows isn't as it was said last, and what was wrong with a write to one.
-    fn say_states(&mut self, slot: u8, event: &Event<A>, line: u64, tail: &mut Text<A>) {
+    fn say_states(&mut self, slot: u8, event: &Event, line: u64, tail: &mut Text) {
         let Some(guest) = self.guests.get_mut(usize::from(slot)) else {
             return;
         };
@@ -192,7 +193,7 @@ impl<I: Image + Drop, A: Allocator + Copy> Watcher<I, A> {
     }
 
     // Says a mistake where it was made, and puts it into the list.
-    fn note(&mut self, line: u64, slot: u8, mistake: Option<Mistake>, tail: &mut Text<A>) {
+    fn note(&mut self, line: u64, slot: u8, mistake: Option<Mistake>, tail: &mut Text) {
         let Some(mistake) = mistake else {
             return;
         };
@@ -216,7 +217,7 @@ impl<I: Image + Drop, A: Allocator + Copy> Watcher<I, A> {
     }
 
     /// Says how many events there were, and the list of mistakes.
-    pub fn say_end(&self, text: &mut Text<A>) {
+    pub fn say_end(&self, text: &mut Text) {
         text.say("end: ");
         text.counted(self.events, "event");
         text.say(", ");
@@ -234,7 +235,7 @@ impl<I: Image + Drop, A: Allocator + Copy> Watcher<I, A> {
 }
 
 // Says a slot of a trace.
-fn say_slot<A: Allocator>(text: &mut Text<A>, number: u64, slot: &SlotSpec) {
+fn say_slot(text: &mut Text, number: u64, slot: &SlotSpec) {
     text.count(number.wrapping_add(3));
     text.say(" guest ");
     text.count(number);
@@ -259,7 +260,7 @@ fn say_slot<A: Allocator>(text: &mut Text<A>, number: u64, slot: &SlotSpec) {
 }
 
 // The queue that an event serves, where it may serve one.
-fn served_of<I: Image, A: Allocator>(board: &Board<I, A>, event: &Event<A>) -> Option<SlotQueue> {
+fn served_of(board: &Board<MemoryImage>, event: &Event) -> Option<SlotQueue> {
     let slot = event.slot;
     let (kind, queue) = match &event.what {
         EventKind::Write {
@@ -281,12 +282,7 @@ fn served_of<I: Image, A: Allocator>(board: &Board<I, A>, event: &Event<A>) -> O
 }
 
 // The queue that a value of QueueNotify names (4.2.3.3).
-fn queue_named<I: Image, A: Allocator>(
-    board: &Board<I, A>,
-    slot: u8,
-    kind: DeviceKind,
-    value: u32,
-) -> Option<u32> {
+fn queue_named(board: &Board<MemoryImage>, slot: u8, kind: DeviceKind, value: u32) -> Option<u32> {
     let window = window_of(board, slot, kind)?;
     let features = window.negotiation().negotiated();
     if features.contains(Features::NOTIFICATION_DATA) {
@@ -297,7 +293,7 @@ fn queue_named<I: Image, A: Allocator>(
 }
 
 // Whether a queue's ring is packed.
-fn is_packed_queue<I: Image, A: Allocator>(board: &Board<I, A>, served: SlotQueue) -> bool {
+fn is_packed_queue(board: &Board<MemoryImage>, served: SlotQueue) -> bool {
     matches!(ring_of(board, served), Some(Queue::Packed(_)))
 }
 
@@ -307,7 +303,7 @@ fn fault_mistake(fault: Option<Fault>, is_packed: bool) -> Option<Mistake> {
 }
 
 // Says the reasons of interrupts that an event raised.
-fn say_raised<A: Allocator>(text: &mut Text<A>, device: &str, old: u8, new: u8) {
+fn say_raised(text: &mut Text, device: &str, old: u8, new: u8) {
     let raised = new & !old;
     if raised != 0 {
         text.say("; raises ");

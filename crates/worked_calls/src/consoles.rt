@@ -35,7 +35,10 @@ impl<'h> Consoles<'h> {
 
     // Tries to make another console.
     fn try_new(&self, answer: &mut String) -> Result<(), Stuck> {
-        put_result(answer, ConsoleDevice::new(self.heap, 80, 25).map(|_| ()))
+        match ConsoleDevice::new(self.heap, 80, 25) {
+            Ok(_) => put_word(answer, "ok"),
+            Err(refusal) => put_result(answer, Err(refusal)),
+        }
     }
 
     // Types the same byte so many times.

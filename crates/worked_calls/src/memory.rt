@@ -119,14 +119,19 @@ impl Memory {
 
     // Tries to make a memory on the heap that may refuse.
     fn try_new(&self, words: &mut Words<'_>, answer: &mut String) -> Result<(), Stuck> {
-        let made = GuestMemory::new(&self.heap, words.u64()?, words.u64()?);
-        put_result(answer, made.map(|_| ()))
+        match GuestMemory::new(&self.heap, words.u64()?, words.u64()?) {
+            Ok(_) => put_word(answer, "ok"),
+            Err(fault) => put_result(answer, Err(fault)),
+        }
     }
 }
 
 /// A memory of so many bytes from this address on.
 fn memory_of(alloc: Global, base: u64, len: u64) -> Result<GuestMemory, Stuck> {
-    GuestMemory::new(alloc, base, len).map_err(|_| Stuck::Conditions)
+    match GuestMemory::new(alloc, base, len) {
+        Ok(mem) => Ok(mem),
+        Err(_) => Err(Stuck::Conditions),
+    }
 }
 
 /// A descriptor of either kind of queue: its buffer, and two numbers of 16 bits.

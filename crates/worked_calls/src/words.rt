@@ -58,7 +58,9 @@ impl<'a> Words<'a> {
 
     /// The next word as a hexadecimal number.
     pub(crate) fn u64(&mut self) -> Result<u64, Stuck> {
-        u64::from_str_radix(self.word()?, 16).map_err(|_| Stuck::Words)
+        u64::from_str_radix(self.word()?, 16)
+            .ok()
+            .ok_or(Stuck::Words)
     }
 
     /// The next word as a limit: `-` is none.
@@ -73,17 +75,17 @@ impl<'a> Words<'a> {
 
     /// The same of 32 bits.
     pub(crate) fn u32(&mut self) -> Result<u32, Stuck> {
-        u32::try_from(self.u64()?).map_err(|_| Stuck::Words)
+        u32::try_from(self.u64()?).ok().ok_or(Stuck::Words)
     }
 
     /// The same of 16 bits.
     pub(crate) fn u16(&mut self) -> Result<u16, Stuck> {
-        u16::try_from(self.u64()?).map_err(|_| Stuck::Words)
+        u16::try_from(self.u64()?).ok().ok_or(Stuck::Words)
     }
 
     /// The same of 8 bits.
     pub(crate) fn u8(&mut self) -> Result<u8, Stuck> {
-        u8::try_from(self.u64()?).map_err(|_| Stuck::Words)
+        u8::try_from(self.u64()?).ok().ok_or(Stuck::Words)
     }
 
     /// The next word as bytes: `-` for none, else two hexadecimal digits a byte.
@@ -92,7 +94,7 @@ impl<'a> Words<'a> {
         if word == "-" {
             return Ok(Vec::new(alloc));
         }
-        hex::decode(alloc, word).map_err(|_| Stuck::Words)
+        hex::decode(alloc, word).ok().ok_or(Stuck::Words)
     }
 
     /// `Stuck::Words` where a word is left.

@@ -1,5 +1,5 @@
 use Rattle.sector_cache.specs.MemoryImage.{disk_of}
-use Rattle.weave.specs.Weaver.{weaver_records}
+use Rattle.show.specs.Weaver.{weaver_records}
 use Rattle.show.proofs.Showing.{shows}
 use Rattle.show.proofs.replaying.show.Goals as goal
 use Rattle.show.proofs.replaying.show.Goals.{in-Ok, in-Err}

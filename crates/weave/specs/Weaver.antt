@@ -1,8 +1,0 @@
--- The records that a weaver was given.
-use Rattle.std.specs.Prelude.{ℕ, List, Option}
-use Rattle.weave.specs.Woven.{woven_records}
-use Rattle.weave.specs.declared.weaver.Weaver.{Weaver}
-
--- those in what went out and what waits
-abbrev pub weaver_records : {T W A : Type 0} → (W → Option (List ℕ)) → Weaver T W A → Option (List ℕ)
-weaver_records contents weaver = woven_records contents weaver.woven
