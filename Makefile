@@ -84,9 +84,11 @@ fuzz:
 broken:
 	@fuzz/broken
 
-# Calls the program with its standard streams closed and over files of all kinds, and replays N traces in place over a
-# file of which one call goes wrong, from the seed FROM on.
+# Calls the program by all kinds of words, with its standard streams closed, over files of all kinds, and with each call of the
+# system and each request for memory going wrong; and replays N traces in place over a file of which one call goes wrong, from
+# the seed FROM on.
 trouble:
+	@fuzz/calls
 	@fuzz/streams
 	@fuzz/files
 	@fuzz/trouble $(N) --from $(FROM)

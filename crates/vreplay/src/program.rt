@@ -1,4 +1,4 @@
-//! The program's work, over a runtime that tests can replace.
+//! The program's work, over any runtime.
 
 ghost use Rattle.std.specs.Prelude.{◌≡◌, ◌<◌, ◌⊎◌, Err, length};
 ghost use Rattle.vreplay.specs.Words.{NamesNoCall, texts_of};

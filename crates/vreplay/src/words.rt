@@ -11,7 +11,7 @@ use replay::ReplayFault;
 use std::alloc::Global;
 
 /// The files that a call with words names, and what is to become of the image.
-#[derive(Clone, Copy, Debug, PartialEq, Eq)]
+#[derive(Clone, Copy)]
 pub struct Call<'a> {
     /// The trace that is replayed.
     pub trace: &'a str,
@@ -21,7 +21,7 @@ pub struct Call<'a> {
 }
 
 /// What is to become of an image.
-#[derive(Clone, Copy, Debug, PartialEq, Eq)]
+#[derive(Clone, Copy)]
 pub enum Keeping<'a> {
     /// It is read whole, and isn't changed.
     Unchanged,
