@@ -1,7 +1,7 @@
 -- A device writes parts of the writable list one after another: what they amount to, as one partial map.
 use Rattle.std.proofs.Common.{◌≡◌, ℕ, zero, suc, ◌+◌, false, Option, Some, None, List, [], ◌∷◌, ◌++◌, length, map, drop, replicate, refl, sym, ap, ◌∙◌, arith}
 use Rattle.std.specs.Prelude.{◌||◌}
-use Rattle.std.proofs.lemmas.List.{append-nil, length-replicate, length-append}
+use Rattle.std.proofs.lemmas.List.{length-replicate, length-append}
 use Rattle.guest_memory.specs.Memory.{Memory, put}
 use Rattle.chain.specs.Bytes.{scatter}
 use Rattle.chain.specs.Service.{scattered, used_len, wrote}
@@ -59,12 +59,6 @@ scattered-then_byte m addrs front x n place e =
 pub used_len-run : (bytes : List ℕ) (rest : List (Option ℕ)) → used_len (map Some bytes ++ rest) ≡ length bytes + used_len rest
 used_len-run [] rest = omega arith
 used_len-run (x ∷ bytes) rest = let e = used_len-run bytes rest in omega (arith, e)
-
-pub used_len-gap : (bytes : List ℕ) (rest : List (Option ℕ)) → used_len (map Some bytes ++ None ∷ rest) ≡ length bytes
-used_len-gap bytes rest = used_len-run bytes (None ∷ rest) ∙ (omega arith)
-
-pub used_len-whole : (bytes : List ℕ) → used_len (map Some bytes) ≡ length bytes
-used_len-whole bytes = ap used_len (sym (append-nil (map Some bytes))) ∙ used_len-run bytes [] ∙ (omega arith)
 
 pub wrote-append : (front back : List (Option ℕ)) → wrote (front ++ back) ≡ (wrote front || wrote back)
 wrote-append [] back = refl

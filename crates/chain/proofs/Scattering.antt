@@ -1,7 +1,7 @@
 -- Bytes put at addresses one after another.
-use Rattle.std.proofs.Common.{◌≡◌, ℕ, ◌+◌, ◌<◌, ◌≤◌, List, [], ◌∷◌, length, get_or, drop, refl, ap, ◌∙◌, arith, ◌++◌}
+use Rattle.std.proofs.Common.{◌≡◌, ℕ, ◌+◌, ◌≤◌, List, [], ◌∷◌, length, drop, refl, ap, ◌∙◌, arith, ◌++◌}
 use Rattle.std.specs.Prelude.{All}
-use Rattle.std.proofs.lemmas.List.{drop_more, drop_all}
+use Rattle.std.proofs.lemmas.List.{drop_all}
 use Rattle.std.proofs.lemmas.List.Elements.{All-weaker}
 use Rattle.guest_memory.specs.Memory.{Memory, SameRange, put}
 use Rattle.guest_memory.proofs.Ranges.{inside_same}
@@ -12,13 +12,6 @@ use Rattle.chain.specs.Bytes.{scatter}
 -- buffers stay inside a memory of the same addresses
 pub within_same : (old new : Memory) (xs : List Buffer) → SameRange old new → All (Within old) xs → All (Within new) xs
 within_same old new xs s h = All-weaker (Within old) (Within new) (λ b i. inside_same old new b.segment.addr b.segment.len s i) xs h
-
--- what is left to put is one byte and the rest
-pub scatter_step : (m new : Memory) (addrs bytes : List ℕ) (place i : ℕ) → place < length addrs → i < length bytes
-    → new ≡ put m (get_or addrs place 0) (get_or bytes i 0 ∷ [])
-    → scatter new (drop (place + 1) addrs) (drop (i + 1) bytes) ≡ scatter m (drop place addrs) (drop i bytes)
-scatter_step m new addrs bytes place i p l e =
-    rw (drop_more addrs place 0 p, drop_more bytes i 0 l, e) refl
 
 -- no byte is left
 pub scatter_none : (m : Memory) (addrs : List ℕ) → scatter m addrs [] ≡ m

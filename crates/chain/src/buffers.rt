@@ -19,7 +19,7 @@ const MOST_BUFFERS: usize = 256;
 const MOST_BYTES: u32 = u32::MAX;
 
 /// How many bytes of each direction come before a buffer.
-#[derive(Clone, Copy, Debug, Default, PartialEq, Eq)]
+#[derive(Clone, Copy, Default)]
 struct Start {
     readable: u32,
     writable: u32,

@@ -1,6 +1,6 @@
 -- Readable bytes of a chain on their way out.
 use Rattle.std.proofs.Common.{◌≡◌, ℕ, ◌+◌, ◌≤◌, arith, false, List, ◌++◌, length, take, drop, Option, None, refl, sym, ap, ◌∙◌, append_assoc}
-use Rattle.std.proofs.lemmas.List.{length-replicate, length-take, length-drop, take_all}
+use Rattle.std.proofs.lemmas.List.{length-replicate, length-take, length-drop}
 use Rattle.guest_memory.specs.Memory.{Memory}
 use Rattle.guest_memory.proofs.Ranges.{take-plus}
 use Rattle.chain.specs.declared.segment.Buffer.{Buffer}
@@ -48,7 +48,3 @@ module _ (list : List ℕ) (done : ℕ) (before now : List ℕ) (room : ℕ) (h 
         ∙ ap (λ l. before ++ l) (ap (λ l. take done list ++ l) is ∙ sym (take-plus done (length part) list));
     holds = omega (arith, h.holds, leaves);
   }
-
--- all are out
-pub put_out_all : (list : List ℕ) (done : ℕ) (before now : List ℕ) (room : ℕ) → IsPuttingOut list done before now room → length list ≤ done → now ≡ before ++ list
-put_out_all list done before now room h all = h.out ∙ ap (λ l. before ++ l) (take_all done list all)

@@ -13,7 +13,7 @@ use mmio_window::{Queue, Stage};
 use std::alloc::Allocator;
 
 /// Why no more chains are served.
-#[derive(Clone, Copy, Debug, PartialEq, Eq)]
+#[derive(Clone, Copy)]
 pub(crate) enum Stop {
     /// The budget is spent, and a chain is on offer.
     Pause,
@@ -22,7 +22,7 @@ pub(crate) enum Stop {
 }
 
 /// How a queue is left.
-#[derive(Clone, Copy, Debug, PartialEq, Eq)]
+#[derive(Clone, Copy)]
 pub(crate) enum Left {
     /// Its service pauses.
     Open,

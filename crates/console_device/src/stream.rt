@@ -12,7 +12,7 @@ use guest_memory::GuestMemory;
 use std::alloc::Allocator;
 
 /// What the used entry of a chain says.
-#[derive(Clone, Copy, Debug, PartialEq, Eq)]
+#[derive(Clone, Copy)]
 pub(crate) struct Answer {
     /// How many of the first writable bytes were written without a gap.
     pub len: u32,

@@ -18,11 +18,11 @@ use Rattle.mmio_window.specs.declared.queue.Queue.{Queue}
 use Rattle.mmio_window.specs.declared.queue_registers.QueueRegisters.{QueueRegisters}
 use Rattle.mmio_window.specs.declared.register.Register.{Register}
 use Rattle.mmio_window.specs.declared.register.Register.TheVariants.{QueueReady}
-use Rattle.mmio_window.specs.Queue.{LiesIn, made_as}
+use Rattle.mmio_window.specs.Queue.{made_as}
 use Rattle.mmio_window.specs.QueueRegisters.{queue_written, ring_of, set_up, with_ready_written}
 use Rattle.mmio_window.specs.Soundness.{HasItsRing, IsRingOf, IsSound, ReadyQueueIsItsRing, ServingKeepsSound, SoundForTheRange}
 use Rattle.mmio_window.specs.DeviceKind.{queue_of}
-use Rattle.mmio_window.specs.Window.{WindowState, queue_at, registers_in, reset, with_registers_in}
+use Rattle.mmio_window.specs.Window.{WindowState, registers_in, reset, with_registers_in}
 use Rattle.mmio_window.specs.Writing.{register_written, with_queue_written}
 use Rattle.mmio_window.proofs.Writes.{written_by_cases}
 use Rattle.mmio_window.proofs.Rings.{LiesIn-same, is_made, ring_of-same}
@@ -217,15 +217,3 @@ its_ring_by_cases m w (Some Queue1) registers ring sound e ready =
 
 pub ready_queue_is_its_ring : ReadyQueueIsItsRing
 ready_queue_is_its_ring m w q registers ring sound e ready = its_ring_by_cases m w (queue_of w.kind q) registers ring sound e ready
-
-lies_by_cases : (m : Memory) (w : WindowState) (live : Bool) (queue : Option QueueIndex) (ring : Queue) → IsSound m w
-    → cond live (option_and_then (λ registers. registers.ring) (registers_in queue w)) None ≡ Some ring
-    → LiesIn m ring
-lies_by_cases m w false queue ring sound e = cc
-lies_by_cases m w true None ring sound e = cc
-lies_by_cases m w true (Some Queue0) ring sound e = (ready_has m w.negotiation w.queue_0 ring e sound.queue_0).lies
-lies_by_cases m w true (Some Queue1) ring sound e = (ready_has m w.negotiation w.queue_1 ring e sound.queue_1).lies
-
--- a queue that may be served lies in the memory
-pub LiesIn-queue_at : (m : Memory) (w : WindowState) (q : ℕ) (ring : Queue) → IsSound m w → queue_at q w ≡ Some ring → LiesIn m ring
-LiesIn-queue_at m w q ring sound e = lies_by_cases m w (is_live w.negotiation) (queue_of w.kind q) ring sound e

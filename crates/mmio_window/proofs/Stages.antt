@@ -6,7 +6,7 @@ use Rattle.chain.specs.declared.budget.Budget.{Budget}
 use Rattle.chain.specs.declared.budget.Progress.TheVariants.{More, Done}
 use Rattle.chain.specs.declared.fault.Fault.{Fault}
 use Rattle.chain.specs.Pieces.{EndsWithin, Pauses}
-use Rattle.chain.specs.Service.{Device, Ending, Faulted, Refused, Site, Spent, Works, IsExactUnless}
+use Rattle.chain.specs.Service.{Device, Ending, Faulted, Refused, Site, Works, IsExactUnless}
 use Rattle.chain.proofs.Budgets.{fault_within}
 use Rattle.chain.proofs.Likewise.{begins_exact, ends_exact, pauses_exact, service_within_exact}
 use Rattle.mmio_window.specs.declared.queue.Queue.{Queue}
@@ -81,11 +81,6 @@ module _ {State : Type 0} (device : Device State) (budget : Budget) (q : ℕ) (q
       → IsRefusedAt stage device budget q (Some queue) m m' w (after_service Refused wanted (with_ring q w last)) s s'
   refused_to First wanted h = record { last = last; wanted = wanted; service = h; window = refl }
   refused_to Next wanted h = record { last = last; wanted = wanted; ends = h; window = refl }
-
--- where there is no queue nothing happens
-pub nothing_to : {State : Type 0} (device : Device State) (budget : Budget) (q : ℕ) (m : Memory) (w : WindowState) (s : State) (stage : Stage) → ServesTo stage device budget q None Done m m w w s s
-nothing_to device budget q m w s First = record { ending = Spent; notified = (refl, record { memory = refl; window = refl; state = refl }) }
-nothing_to device budget q m w s Next = record { ending = Spent; finished = (refl, record { memory = refl; window = refl; state = refl }) }
 
 -- ---- where the count of failures stayed
 

@@ -13,7 +13,7 @@ pub enum DeviceKind {
 }
 
 /// A queue that some device has.
-#[derive(Clone, Copy, PartialEq, Eq, Debug)]
+#[derive(Clone, Copy)]
 pub(crate) enum QueueIndex {
     Queue0,
     Queue1,
