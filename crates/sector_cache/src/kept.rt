@@ -25,6 +25,7 @@ impl<A: Allocator + Copy> Kept<A> {
         Ok(Kept { sectors })
     }
 
+    #[tactic(auto, using(crate::proofs::Keeping::none_used))]
     /// Copies what is kept of a sector, which becomes the most recently used. Answers whether there is any.
     pub(crate) fn copy(&mut self, sector: u64, into: &mut [u8; 512]) -> bool
         ensures copied { IsTrue result → lookup (nat_eq sector) self.old.sectors.entries ≡ Some into.new }
@@ -41,6 +42,7 @@ impl<A: Allocator + Copy> Kept<A> {
         }
     }
 
+    #[tactic(auto, using(crate::proofs::Keeping::kept_by_put))]
     /// Keeps these bytes of a sector of which nothing is kept, as the most recently used. Where no more may be kept the
     /// least recently used gives way. Where there is no memory for them nothing changes.
     pub(crate) fn keep(&mut self, sector: u64, bytes: &[u8; 512])
@@ -50,6 +52,7 @@ impl<A: Allocator + Copy> Kept<A> {
         let _ = self.sectors.put(sector, *bytes);
     }
 
+    #[tactic(auto, using(crate::proofs::Keeping::none_left))]
     /// Keeps nothing of a sector.
     pub(crate) fn forget(&mut self, sector: u64)
         ensures none { lookup (nat_eq sector) self.new.sectors.entries ≡ None }
