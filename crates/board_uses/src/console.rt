@@ -1,6 +1,10 @@
 //! What is typed to a guest, and what its console puts out.
 
-ghost use Rattle.std.specs.Prelude.{◌≡◌, ◌≤◌, None, length, IfOk};
+ghost use Rattle.std.specs.Prelude.{◌≡◌, ◌≤◌, None, length, IfOk, IfSome};
+ghost use Rattle.board.specs.declared.event.EventKind.{EventKind};
+ghost use Rattle.board.specs.declared.reply.Reply.{Reply};
+ghost use Rattle.board.specs.Image.{Tells};
+ghost use Rattle.board.specs.World.{Answers, world_of};
 
 use board::{Board, Bytes, Event, EventKind, Image, Reply};
 use std::alloc::{AllocError, Allocator};
@@ -14,7 +18,11 @@ pub fn type_in<I: Image, A: Allocator + Copy>(
     typed: &[u8],
     out: &mut Vec<u8, A>,
 ) -> Result<Option<usize>, AllocError>
-    ensures { length board.old.slots ≤ slot → IfOk result (λ taken. taken ≡ None) }
+    ensures missing { length board.old.slots ≤ slot → IfOk result (λ taken. taken ≡ None) }
+    ensures typed { Tells (I.disk board.old.image) → IfOk result (λ taken. IfSome taken (λ count.
+        Answers {A = A} (world_of I.disk board.old)
+        (record { slot = slot; what = EventKind.Input typed.now }) (Reply.Took count)
+        out.old.items out.new.items (world_of I.disk board.new))) }
 {
     let event = Event {
         slot,

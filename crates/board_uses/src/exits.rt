@@ -2,7 +2,9 @@
 
 ghost use Rattle.std.specs.Prelude.{◌≡◌, ◌⊎◌, ◌+◌, ◌<◌, ◌≤◌, ℕ, Some, None};
 ghost use Rattle.mmio_window.specs.declared.device_kind.DeviceKind.{DeviceKind};
-ghost use Rattle.board_uses.specs.Exits.{access_at, windows_base};
+ghost use Rattle.board.specs.Image.{Tells};
+ghost use Rattle.board.specs.World.{world_of};
+ghost use Rattle.board_uses.specs.Exits.{IsAccess, access_at, windows_base};
 
 use board::{Board, DeviceKind, Event, EventKind, Image, Reply};
 use std::alloc::Allocator;
@@ -72,6 +74,14 @@ pub fn access<I: Image, A: Allocator + Copy>(
     ensures nowhere { (exit.address < windows_base) ⊎ (windows_base + 8192 ≤ exit.address) → result ≡ None }
     ensures kept { (exit.address < windows_base) ⊎ (windows_base + 8192 ≤ exit.address) →
         board.new ≡ board.old }
+    ensures block { Tells (I.disk board.old.image) → (offset : ℕ) → offset < 4096 →
+        exit.address ≡ windows_base + offset →
+        IsAccess {A = A} (world_of I.disk board.old) slot (access_at DeviceKind.Block offset exit.width exit.stored)
+        result out.old.items out.new.items (world_of I.disk board.new) }
+    ensures console { Tells (I.disk board.old.image) → (offset : ℕ) → offset < 4096 →
+        exit.address ≡ windows_base + 4096 + offset →
+        IsAccess {A = A} (world_of I.disk board.old) slot (access_at DeviceKind.Console offset exit.width exit.stored)
+        result out.old.items out.new.items (world_of I.disk board.new) }
 {
     let event = event_of(slot, exit)?;
     match board.step(&event, out) {

@@ -1,6 +1,9 @@
 //! A run that stops where there is no memory for its next record, and goes on.
 
-ghost use Rattle.std.specs.Prelude.{◌≤◌, length};
+ghost use Rattle.std.specs.Prelude.{◌≤◌, length, take};
+ghost use Rattle.board.specs.Image.{Tells};
+ghost use Rattle.board.specs.Line.{IsRun};
+ghost use Rattle.board.specs.World.{world_of};
 
 use board::{Board, Event, Image, Record};
 use std::alloc::Allocator;
@@ -12,7 +15,10 @@ pub fn run_some<I: Image, A: Allocator + Copy>(
     events: &[Event<A>],
     records: &mut Vec<Record<A>, A>,
 ) -> usize
-    ensures { result ≤ length events.now }
+    ensures count { result ≤ length events.now }
+    ensures run { Tells (I.disk board.old.image) →
+        IsRun (world_of I.disk board.old) (world_of I.disk board.new) (take result events.now)
+        records.old.items records.new.items }
 {
     match board.run(events, records) {
         Ok(()) => events.len(),

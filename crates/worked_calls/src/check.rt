@@ -2,6 +2,7 @@
 
 use crate::chains::Chains;
 use crate::consoles::Consoles;
+use crate::guests::Guests;
 use crate::memory::Memory;
 use crate::requests::Requests;
 use crate::rings::Rings;
@@ -11,10 +12,14 @@ use crate::traces::Traces;
 use crate::wants::Wants;
 use crate::windows::Windows;
 use crate::words::Words;
+use linked_list_allocator::LocalHeap;
 use refusing::RefusingHeap;
 use std::io::Write;
 use std::rt::Files;
 use std::{fs, io};
+
+/// How much memory the guests of a file have at most.
+const HEAP: usize = 0x400_0000;
 
 /// Checks the rows of a file: writes how many there are, or each that answers otherwise. The answer is whether all is well.
 pub(crate) fn check_file<R: Files + AllocGlobal + Clone + Drop, W: Write>(
@@ -37,6 +42,11 @@ pub(crate) fn check_file<R: Files + AllocGlobal + Clone + Drop, W: Write>(
         "consoles" => {
             let heap = RefusingHeap::new(alloc);
             check_made(rt, file, rows, Consoles::new(alloc, &heap), out)
+        }
+        "guests" => {
+            let local = LocalHeap::new(alloc, HEAP)?;
+            let heap = RefusingHeap::new(&local);
+            check_rows(rt, file, rows, &mut Guests::new(alloc, &local, &heap), out)
         }
         "memory" => check_made(rt, file, rows, Memory::new(alloc), out),
         "requests" => check_made(rt, file, rows, Requests::new(alloc), out),

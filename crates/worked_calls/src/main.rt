@@ -10,6 +10,7 @@ mod answer;
 mod chains;
 mod check;
 mod consoles;
+mod guests;
 mod memory;
 mod port;
 mod requests;
