@@ -2,15 +2,15 @@
 use Rattle.std.proofs.Common.{◌≡◌, ◌≢◌, ℕ, ◌+◌, ◌<◌, ◌≤◌, List, [], ◌∷◌, ◌++◌, length, take, Option, Some, None, Result, Ok, Err, false, get_or, refl, sym, ◌∙◌, ap, subst, append_assoc, append-nil, arith}
 use Rattle.std.specs.Prelude.{MatchOption, All, OnOk, is_err}
 use Rattle.std.specs.List.{slice_get}
-use Rattle.std.proofs.lemmas.List.{map-append, take_more, take_all, take-take, get_or-take, length-take-le}
+use Rattle.std.proofs.lemmas.List.{length-map, map-append, take_more, take_all, take-take, get_or-take, length-take-le}
 use Rattle.std.proofs.lemmas.List.Elements.{All-head, All-tail, All-push, All-same, All-take}
 use Rattle.board.specs.declared.event.Event.{Event}
 use Rattle.board.specs.declared.reply.Reply.{Reply}
-use Rattle.board.specs.declared.reply.Reply.TheVariants.{NoMemory}
+use Rattle.board.specs.declared.reply.Reply.TheVariants.{BadSlot, NoMemory}
 use Rattle.board.specs.declared.reply.Record.{Record}
 use Rattle.board.specs.Slot.{SlotState, BoardSlot}
-use Rattle.board.specs.World.{World, SlotStep, MissingStep, Step, Handles, Answers, KeepsOthers}
-use Rattle.board.specs.Line.{Move, IsLine, IsQuiet, HadMemory, HasInterruptWords, IsRun, KeepsIdle, events_of, records_of}
+use Rattle.board.specs.World.{World, SlotStep, MissingStep, Step, Handles, Answers, KeepsOthers, bad_slot, extents_of}
+use Rattle.board.specs.Line.{AnswersMissing, Move, IsLine, IsQuiet, HadMemory, HasInterruptWords, IsRun, KeepsIdle, events_of, records_of}
 use Rattle.board.proofs.Alone.{alone, recorded_slot}
 use Rattle.board.proofs.Failures.{given_failures}
 use Rattle.board.proofs.Noted.{line_noted}
@@ -102,6 +102,22 @@ pub words_more : {A : Type 0} (so_far after : List (Record A)) (entry : Record A
 words_more {A} so_far after entry added words block console =
     let P : Record A → Type 0 = λ w. HasInterruptWords w in
     subst (λ (rs : List (Record A)). All P rs) (sym added) (All-push P so_far entry words (record { block = block; console = console }))
+
+-- the record of an event of a slot that isn't there joins those of other such events
+pub missing_more : {A : Type 0} (slots now : List BoardSlot) (so_far after : List (Record A)) (h : ℕ) (reply : Reply A) (out : List ℕ) (block console : ℕ) →
+    after ≡ so_far ++ record { slot = h; reply = reply; output = out; block_irq = block; console_irq = console } ∷ [] →
+    extents_of now ≡ extents_of slots → All (AnswersMissing (length slots)) so_far →
+    (length now ≤ h → reply ≡ BadSlot) → (length now ≤ h → (out ≡ []) × (block ≡ 0) × (console ≡ 0)) →
+    All (AnswersMissing (length slots)) after
+missing_more {A} slots now so_far after h reply out block console added many before bad rest =
+    let P : Record A → Type 0 = λ w. AnswersMissing (length slots) w in
+    subst (λ (rs : List (Record A)). All P rs) (sym added) (All-push P so_far _ before is)
+  where
+    as_many : length now ≡ length slots
+    as_many = sym (length-map now (λ (s : BoardSlot). s.extent)) ∙ (ap length many ∙ length-map slots (λ (s : BoardSlot). s.extent))
+
+    is : length slots ≤ h → record { slot = h; reply = reply; output = out; block_irq = block; console_irq = console } ≡ bad_slot {A = A} h
+    is past = let away : length now ≤ h = omega (arith, as_many, past) in rw (bad away, (rest away).0, (rest away).1, (rest away).2) refl
 
 -- what was reached is a run
 pub run_of : {A : Type 0} (old new : World) (events : List (Event A)) (before after : List (Record A)) → Reached old new events before after → IsRun old new events before after

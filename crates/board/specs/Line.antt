@@ -8,7 +8,7 @@ use Rattle.board.specs.declared.reply.Record.{Record}
 use Rattle.board.specs.declared.reply.RunStop.{RunStop}
 use Rattle.board.specs.Machine.{RunsOnItsOwn}
 use Rattle.board.specs.Slot.{SlotState, BoardSlot}
-use Rattle.board.specs.World.{World, Step}
+use Rattle.board.specs.World.{World, Step, bad_slot}
 
 -- One event that was handled: the event, its record, and what can be seen of the board after it.
 pub record Move (A : Type 0) : Type 0 where
@@ -81,6 +81,10 @@ HadMemory g written = All (λ entry. entry.slot ≡ g → entry.reply ≢ NoMemo
 pub record HasInterruptWords {A : Type 0} (written : Record A) : Type 0 where
   pub block : written.block_irq ≤ 3
   pub console : written.console_irq ≤ 3
+
+-- a record of a slot that isn't one of so many is that of an event of a slot that isn't there
+abbrev pub AnswersMissing : {A : Type 0} → ℕ → Record A → Type 0
+AnswersMissing slots written = slots ≤ written.slot → written ≡ bad_slot written.slot
 
 -- A run from one world to another over these events, whose records were added to those before it.
 -- Every guest whose own events met no refusal sees what it would see alone. Which guests those are is

@@ -4,7 +4,7 @@ ghost use Rattle.std.specs.Prelude.{◌≡◌, ◌≢◌, ◌↔◌, ◌≤◌, 
 ghost use Rattle.std.specs.List.{slice_get};
 ghost use Rattle.board.specs.declared.fault.BoardFault.{BoardFault};
 ghost use Rattle.board.specs.Fault.{IsAccepted, Refuses, cache_refusal};
-ghost use Rattle.board.specs.Line.{IsRun, HasInterruptWords, KeepsIdle, events_done};
+ghost use Rattle.board.specs.Line.{AnswersMissing, IsRun, HasInterruptWords, KeepsIdle, events_done};
 ghost use Rattle.board.specs.Slot.{BoardSlot, opened, state_of};
 ghost use Rattle.board.specs.Image.{Tells, bytes_of};
 ghost use Rattle.board.specs.World.{Handles, Answers, KeepsOthers, MayLackMemory, StaysInExtents, disturbed_of, met_refusal, noted, world_of};
@@ -128,6 +128,7 @@ impl<I: Image, A: Allocator + Copy> Board<I, A> {
         // find no memory
         ensures bad_slot { (result ≡ Reply.BadSlot) ↔ (length self.old.slots ≤ event.now.slot) }
         ensures bad_slot_keeps { result ≡ Reply.BadSlot → self.new ≡ self.old }
+        ensures missing { length self.old.slots ≤ event.now.slot → O.bytes out.new ≡ O.bytes out.old }
         ensures bad_range_keeps { result ≡ Reply.BadRange → self.new ≡ self.old }
         ensures others { KeepsOthers event.now.slot self.old.slots self.new.slots }
         ensures no_memory { result ≡ Reply.NoMemory →
@@ -151,6 +152,8 @@ impl<I: Image, A: Allocator + Copy> Board<I, A> {
         ensures others { KeepsIdle (events_done result events.now) self.old.slots self.new.slots }
         ensures words { All HasInterruptWords records.old.items →
             All HasInterruptWords records.new.items }
+        ensures missing { All (AnswersMissing (length self.old.slots)) records.old.items →
+            All (AnswersMissing (length self.old.slots)) records.new.items }
         ensures stays { StaysInExtents I.disk self.old self.new }
     {
         for (done, event) in events.iter().enumerate() {
@@ -193,6 +196,8 @@ impl<I: Image, A: Allocator + Copy> Board<I, A> {
             (disturbed_of self.old.slots) }
         ensures bad_slot { (result.reply ≡ Reply.BadSlot) ↔ (length self.old.slots ≤ slot) }
         ensures bad_slot_keeps { result.reply ≡ Reply.BadSlot → self.new ≡ self.old }
+        ensures missing { length self.old.slots ≤ slot → (O.bytes out.new ≡ O.bytes out.old)
+            × (result.block_irq ≡ 0) × (result.console_irq ≡ 0) }
         ensures bad_range_keeps { result.reply ≡ Reply.BadRange → self.new ≡ self.old }
         ensures others { KeepsOthers slot self.old.slots self.new.slots }
         ensures no_memory { result.reply ≡ Reply.NoMemory →

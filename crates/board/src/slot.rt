@@ -162,6 +162,8 @@ impl<A: Allocator + Copy> Slot<A> {
         ensures noted { self.new.disturbed ≡ (self.old.disturbed ||
             met_in result (I.disk cache.old).failures (I.disk cache.new).failures) }
         ensures stays { StaysInSlot self.old self.new (I.disk cache.old) (I.disk cache.new) }
+        ensures limited { (next : Pause) → result ≡ Turn.More next → HasLimit budget }
+        ensures there { result ≢ Turn.Answered Reply.BadSlot }
     {
         let answer = self.serve_piece(pause, Stage::Next, budget, cache, out);
         self.note(answer)

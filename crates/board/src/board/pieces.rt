@@ -111,6 +111,9 @@ impl<I: Image, A: Allocator + Copy> Board<I, A> {
             result.block_irq result.console_irq [] [] (world_of I.disk self.new) }
         ensures image { self.new.image ≡ self.old.image }
         ensures extents { extents_of self.new.slots ≡ extents_of self.old.slots }
+        ensures disturbed { disturbed_of self.new.slots ≡ disturbed_of self.old.slots }
+        ensures block_word { result.block_irq ≤ 3 }
+        ensures console_word { result.console_irq ≤ 3 }
         ensures limited { (next : Pause) → result.turn ≡ Turn.More next → HasLimit budget }
         ensures bad_slot { (result.turn ≡ Turn.Answered Reply.BadSlot) ↔ (length self.old.slots ≤ slot) }
         ensures missing { length self.old.slots ≤ slot → (self.new ≡ self.old)
@@ -141,12 +144,16 @@ impl<I: Image, A: Allocator + Copy> Board<I, A> {
             (state_of (bytes_of (I.disk self.new.image)) after)
             (O.bytes out.old) (O.bytes out.new) result.turn }
         ensures limit { O.limit out.new ≡ O.limit out.old }
+        ensures block_word { result.block_irq ≤ 3 }
+        ensures console_word { result.console_irq ≤ 3 }
         ensures stays { StaysInExtents I.disk self.old self.new }
         ensures noted { disturbed_of self.new.slots ≡ noted slot
             (met_in result.turn (I.disk self.old.image).failures (I.disk self.new.image).failures)
             (disturbed_of self.old.slots) }
-        ensures missing { length self.old.slots ≤ slot →
-            (self.new ≡ self.old) × (O.bytes out.new ≡ O.bytes out.old) × (result.turn ≡ Turn.Answered Reply.BadSlot) }
+        ensures limited { (next : Pause) → result.turn ≡ Turn.More next → HasLimit budget }
+        ensures bad_slot { (result.turn ≡ Turn.Answered Reply.BadSlot) ↔ (length self.old.slots ≤ slot) }
+        ensures missing { length self.old.slots ≤ slot → (self.new ≡ self.old) × (O.bytes out.new ≡ O.bytes out.old)
+            × (result.block_irq ≡ 0) × (result.console_irq ≡ 0) }
         ensures others { KeepsOthers slot self.old.slots self.new.slots }
     {
         let Some(slot) = self.slots.get_mut(slot as usize) else {

@@ -38,6 +38,8 @@ impl<I: Image, A: Allocator> Board<I, A> {
             IsSomeAnd (slice_get self.now.slots slot) (λ found. device.extent ≡ found.extent)) }
         ensures read_only { IfSome result (λ device.
             IsSomeAnd (slice_get self.now.slots slot) (λ found. device.read_only ≡ found.read_only)) }
+        ensures identity { IfSome result (λ device.
+            IsSomeAnd (slice_get self.now.slots slot) (λ found. device.identity ≡ found.identity)) }
     {
         let slot = self.slot(slot)?;
         Some(slot.block_device())
@@ -48,6 +50,8 @@ impl<I: Image, A: Allocator> Board<I, A> {
         ensures there { IsSome result ↔ (slot < length self.now.slots) }
         ensures pending { IfSome result (λ device.
             IsSomeAnd (slice_get self.now.slots slot) (λ found. device.now.pending ≡ found.pending)) }
+        ensures size { IfSome result (λ device. IsSomeAnd (slice_get self.now.slots slot)
+            (λ found. (device.now.cols ≡ found.cols) × (device.now.rows ≡ found.rows))) }
     {
         let slot = self.slot(slot)?;
         Some(slot.console_device())

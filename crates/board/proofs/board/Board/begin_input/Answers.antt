@@ -2,8 +2,8 @@ use Rattle.std.proofs.Common.{◌≡◌, [], Some, length, refl, ◌∙◌, ap, 
 use Rattle.std.specs.List.{slice_get}
 use Rattle.std.proofs.lemmas.Option.{slice_get_read}
 use Rattle.board.specs.Image.{bytes_of, health_of}
-use Rattle.board.specs.World.{extents_of}
-use Rattle.board.proofs.Access.{unmet_turn}
+use Rattle.board.specs.World.{disturbed_of, extents_of}
+use Rattle.board.proofs.Access.{disturbed_kept, unmet_turn}
 use Rattle.board.proofs.Seats.{extents_of-set, others_kept, takes}
 use Rattle.board.proofs.board.Board.begin_input.Goals as goal
 
@@ -31,3 +31,8 @@ returns-clause-extents g c = extents_of-set c.self.inside.slots.items c.args.slo
 pub returns-clause-others : goal.returns-clause-others
 returns-clause-others g c other differ =
     others_kept c.self.inside.slots.items c.args.slot c.input-turn.new.self other differ ∙ ap (λ b. slice_get b.slots other) c.self.view_is
+
+pub returns-clause-disturbed : goal.returns-clause-disturbed
+returns-clause-disturbed g c =
+    disturbed_kept c.self.inside.slots.items c.args.slot c.in-Some.slot.now c.input-turn.new.self (there g c) c.input-turn.ensures.disturbed
+    ∙ ap (λ b. disturbed_of b.slots) c.self.view_is

@@ -30,3 +30,6 @@ returns-clause-handles g c tells = either (cases_lt c.args.slot (length c.args.s
 pub returns-clause-within : goal.returns-clause-within
 returns-clause-within g c limit limited found after here now =
     ended_within limit c.args.what.now _ _ _ _ _ c.in-Answered.reply (rw c.in-Answered.is at (c.begin-turn.ensures.within limit limited found after here now))
+
+pub returns-clause-missing : goal.returns-clause-missing
+returns-clause-missing g c past = let kept = c.begin-turn.ensures.missing past in (kept.1, kept.2, kept.3)

@@ -1,6 +1,6 @@
 use Rattle.std.proofs.Common.{◌+◌, ◌≤◌, vec_len, vec_capacity, sym, ◌∙◌, arith}
 use Rattle.board.specs.World.{world_of}
-use Rattle.board.proofs.Runs.{idle_next, idle_whole, reached_next, run_of, run_whole, where_ok, words_more}
+use Rattle.board.proofs.Runs.{idle_next, idle_whole, missing_more, reached_next, run_of, run_whole, where_ok, words_more}
 use Rattle.board.proofs.Seats.{stays_still}
 use Rattle.board.proofs.board.Board.run.Goals as goal
 
@@ -9,6 +9,9 @@ returns-then-is_err-clause-run g c tells = rw c.reserve.ensures.items (run_of _ 
 
 pub returns-then-is_err-clause-words : goal.returns-then-is_err-clause-words
 returns-then-is_err-clause-words g c = λ before. rw c.reserve.ensures.items (c.loop-done.invariant.words before)
+
+pub returns-then-is_err-clause-missing : goal.returns-then-is_err-clause-missing
+returns-then-is_err-clause-missing g c = λ before. rw c.reserve.ensures.items (c.loop-done.invariant.missing before)
 
 pub put-requires : goal.put-requires
 put-requires g c =
@@ -27,6 +30,9 @@ loop-done-preserved g c =
           (rw c.new-output.ensures.items at (c.handle-handled.ensures.handles (c.loop-done.invariant.stays.told tells)))
           (rw (c.reserve.ensures.items, c.from.ensures) at c.put.ensures);
       words = λ before. words_more c.loop-done.records.items c.put.new.records.items _ (rw (c.reserve.ensures.items, c.from.ensures) at c.put.ensures) (c.loop-done.invariant.words before) c.handle-handled.ensures.block_word c.handle-handled.ensures.console_word;
+      missing = λ before. missing_more c.args.self.now.slots c.loop-done.self.slots c.loop-done.records.items c.put.new.records.items c.index-events-done.result.slot
+          handled.reply c.handle-handled.new.out.items handled.block_irq handled.console_irq (rw (c.reserve.ensures.items, c.from.ensures) at c.put.ensures)
+          c.loop-done.invariant.stays.extents (c.loop-done.invariant.missing before) c.handle-handled.ensures.bad_slot.1 (rw c.new-output.ensures.items at c.handle-handled.ensures.missing);
       others = idle_next c.args.events.now c.loop-done.done c.index-events-done.result _ _ _ (omega arith) c.index-events-done.is c.loop-done.invariant.others c.handle-handled.ensures.others;
       stays = stays_still g.I.Image.disk c.args.self.now c.loop-done.self c.handle-handled.new.self c.loop-done.invariant.stays c.handle-handled.ensures.stays;
     }
