@@ -21,8 +21,8 @@ pub use action::Action;
 pub use configuration::{CONFIGURATION_LEN, CONFIGURATION_OFFSET};
 pub use device_kind::DeviceKind;
 pub use laws::{
-    generation_stays, one_chain_or_fault_at_a_place, ready_queue_is_its_ring, ready_queue_stays,
-    serving_keeps_sound, sound_for_the_range,
+    generation_stays, next_place_is_ignored, one_chain_or_fault_at_a_place,
+    ready_queue_is_its_ring, ready_queue_stays, serving_keeps_sound, sound_for_the_range,
 };
 pub use queue::{Queue, Token};
 pub use queue_registers::QueueRegisters;
