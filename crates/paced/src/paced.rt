@@ -142,6 +142,9 @@ impl<I: Image, A: Allocator + Copy> Paced<I, A> {
         ensures limit { O.limit out.new ≡ O.limit out.old }
         ensures extents { extents_of self.new.board.slots ≡ extents_of self.old.board.slots }
         ensures others { KeepsOthers slot self.old.board.slots self.new.board.slots }
+        ensures limited { result ≡ Response.More → HasLimit self.old.budget }
+        ensures bad_slot { (result ≡ Response.Answered Reply.BadSlot) ↔ (length self.old.board.slots ≤ slot) }
+        ensures bad_slot_keeps { result ≡ Response.Answered Reply.BadSlot → self.new ≡ self.old }
     {
         match self.waiting(slot) {
             None => Response::Answered(Reply::BadSlot),

@@ -8,7 +8,7 @@ ghost use Rattle.board.specs.declared.event.EventKind.{EventKind};
 ghost use Rattle.board.specs.declared.reply.Reply.{Reply};
 ghost use Rattle.board.specs.Image.{Tells};
 ghost use Rattle.board.specs.Pausing.{HasLimit};
-ghost use Rattle.board.specs.World.{KeepsOthers, extents_of};
+ghost use Rattle.board.specs.World.{KeepsOthers, disturbed_of, extents_of};
 ghost use Rattle.paced.specs.Pacing.{Handle, Responds, paced_world, paused_at, with_slot_bytes};
 ghost use Rattle.paced.specs.contracts.paced.Paced.{the_row};
 
@@ -30,6 +30,7 @@ impl<I: Image, A: Allocator + Copy> Paced<I, A> {
         ensures not_idle { result ≡ Response.Idle → ⊥ }
         ensures extents { extents_of self.new.board.slots ≡ extents_of self.old.board.slots }
         ensures others { KeepsOthers slot self.old.board.slots self.new.board.slots }
+        ensures disturbed { disturbed_of self.new.board.slots ≡ disturbed_of self.old.board.slots }
         ensures limited { result ≡ Response.More → HasLimit self.old.budget }
         ensures bad_slot { (result ≡ Response.Answered Reply.BadSlot) ↔ (length self.old.board.slots ≤ slot) }
         ensures bad_slot_keeps { result ≡ Response.Answered Reply.BadSlot → self.new ≡ self.old }
