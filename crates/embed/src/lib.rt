@@ -20,8 +20,8 @@ pub use board::{
 pub use fault::SessionFault;
 pub use guest::GuestSpec;
 pub use laws::{
-    a_guest_with_room_runs_alone, a_write_in_place_is_an_event, each_guest_is_alone,
-    the_outlet_decides,
+    a_guest_with_room_runs_alone, a_guest_with_room_runs_alone_where_services_pause,
+    a_write_in_place_is_an_event, each_guest_is_alone, the_outlet_decides,
 };
 pub use paced::Progress;
 pub use refusal::Refusal;
