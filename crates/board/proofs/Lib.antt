@@ -18,3 +18,6 @@ pub mod Pieces
 pub mod Turns
 pub mod Whole
 pub mod Answered
+pub mod Belonging
+pub mod Saving
+pub mod GoingOn

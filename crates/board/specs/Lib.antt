@@ -9,6 +9,7 @@ pub mod Task
 pub mod Machine
 pub mod World
 pub mod Line
+pub mod Saved
 pub mod Fault
 pub mod Pausing
 pub mod Within

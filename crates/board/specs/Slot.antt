@@ -89,13 +89,6 @@ pub record KeepsBesideTransmit (old new : SlotState) : Type 0 where
   pub rows : new.rows ≡ old.rows
   pub memory : SameRange old.memory new.memory
 
--- Both windows are sound for the memory: their ready queues lie in it. And no more input is pending than may
--- be.
-pub record IsSoundSlot (memory : Memory) (block console : WindowState) (pending : List ℕ) : Type 0 where
-  pub block_sound : IsSound memory block
-  pub console_sound : IsSound memory console
-  pub pending_fits : length pending ≤ 4096
-
 -- the features that every device offers (6)
 abbrev pub device_features : ℕ
 device_features = indirect_desc + event_idx + version_1 + ring_packed + notification_data
@@ -108,6 +101,17 @@ block_features read_only =
 -- the features that a console offers (5.3.3): it tells its size, and takes emergency writes
 abbrev pub console_features : ℕ
 console_features = console_size + console_emerg_write + device_features
+
+-- Each window is that of its device, of its kind and offering what it offers. Both are sound for the memory: their ready
+-- queues lie in it. And no more input is pending than may be.
+pub record IsSoundSlot (memory : Memory) (read_only : Bool) (block console : WindowState) (pending : List ℕ) : Type 0 where
+  pub block_kind : block.kind ≡ Block
+  pub block_offers : block.negotiation.offered ≡ block_features read_only
+  pub console_kind : console.kind ≡ Console
+  pub console_offers : console.negotiation.offered ≡ console_features
+  pub block_sound : IsSound memory block
+  pub console_sound : IsSound memory console
+  pub pending_fits : length pending ≤ 4096
 
 -- a slot of a new board: its memory is all zeros, its windows are as after a reset, nothing is pending or met
 -- a refusal yet, and the rest is as it was asked for

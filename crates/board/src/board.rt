@@ -12,6 +12,7 @@ ghost use Rattle.board.specs.Within.{TakesWithin};
 
 mod access;
 mod pieces;
+mod saved;
 mod view;
 
 pub use crate::board::pieces::Taken;

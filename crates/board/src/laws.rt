@@ -16,7 +16,8 @@ ghost use Rattle.board.specs.declared.reply.Record.{Record};
 ghost use Rattle.board.specs.Line.{Move, IsLine, IsNoted, IsQuiet, IsAlone, IsRun, SeesTheSame, events_of, own_events};
 ghost use Rattle.board.specs.Machine.{IsNext, RunsOnItsOwn};
 ghost use Rattle.board.specs.Outcome.{Outcome};
-ghost use Rattle.board.specs.Slot.{SlotState, KeepsBesideDisk, KeepsBesideTransmit};
+ghost use Rattle.board.specs.Saved.{HasBytesOf, IsAs, RanOnBoth};
+ghost use Rattle.board.specs.Slot.{BoardSlot, SlotState, KeepsBesideDisk, KeepsBesideTransmit, state_of};
 ghost use Rattle.board.specs.Task.{emergency_write};
 ghost use Rattle.board.specs.World.{World, KeepsBoard, Step, identities_of};
 ghost use Rattle.board.specs.Within.{Seat, IsNextWithin};
@@ -121,4 +122,15 @@ pub fn one_outcome_within<A: Allocator>()
     ensures { (limit : ℕ) (old one other : Seat) (what : EventKind A) (reply reply' : Reply A) →
         IsNextWithin limit old what reply one → IsNextWithin limit old what reply' other →
         (reply ≡ reply') × (one ≡ other) }
+{}
+
+/// A guest that was saved on one board and restored on another goes on there as if it had never left: it is in the
+/// state that it was in, and what it sees on both is one run of it on its own.
+pub fn a_restored_guest_goes_on<A: Allocator>()
+    ensures state { (bytes other : List ℕ) (slot old new : BoardSlot) → IsAs slot old new →
+        HasBytesOf slot bytes old other → state_of other new ≡ state_of bytes slot }
+    ensures run { (g : ℕ) (old new old' new' : World) (moves moves' : List (Move A)) (state : SlotState) →
+        IsLine old moves new → IsQuiet g old moves → IsLine old' moves' new' → IsQuiet g old' moves' →
+        slice_get old.slots g ≡ Some state → slice_get old'.slots g ≡ slice_get new.slots g →
+        RanOnBoth g state moves moves' new' }
 {}

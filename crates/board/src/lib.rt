@@ -20,6 +20,7 @@ mod features;
 mod laws;
 mod pause;
 mod reply;
+mod saved;
 mod slot;
 mod spec;
 
@@ -32,12 +33,15 @@ pub use event::{Event, EventKind};
 pub use fault::BoardFault;
 pub use guest_memory::{GuestMemory, MemoryFault};
 pub use laws::{
-    a_failed_event_keeps_the_rest, a_guest_alone_has_one_run, a_step_is_a_run, each_guest_is_alone,
-    identities_stay, nothing_else_is_seen, one_outcome, one_outcome_within, refusals_are_noted,
-    two_runs_are_one, want_of_memory_changes_nothing, want_of_memory_keeps_the_rest,
+    a_failed_event_keeps_the_rest, a_guest_alone_has_one_run, a_restored_guest_goes_on,
+    a_step_is_a_run, each_guest_is_alone, identities_stay, nothing_else_is_seen, one_outcome,
+    one_outcome_within, refusals_are_noted, two_runs_are_one, want_of_memory_changes_nothing,
+    want_of_memory_keeps_the_rest,
 };
 pub use mmio_window::{DeviceKind, Stage};
 pub use pause::{Pause, Service, Turn};
 pub use reply::{Record, Reply, RunStop};
+pub use saved::RestoreFault;
 pub use sector_cache::{CacheFault, Image, ImageError, ImageFault, MemoryImage, Refused};
+pub use snapshot::SnapshotFault;
 pub use spec::SlotSpec;

@@ -21,6 +21,7 @@ ghost use Rattle.std.specs.Borrow.{sem};
 
 mod console;
 mod memory;
+mod saved;
 mod service;
 mod view;
 mod window;
@@ -71,7 +72,7 @@ impl<A: Allocator> Model for Slot<A> {
       disturbed = s.disturbed;
     } };
 
-    ghost invariant = { λ s. IsSoundSlot s.memory s.block s.console s.console_device.pending };
+    ghost invariant = { λ s. IsSoundSlot s.memory s.block_device.read_only s.block s.console s.console_device.pending };
 }
 
 // What came of an event, or of a piece of its service.

@@ -23,8 +23,8 @@ pub const TRANSMITQ: u16 = 1;
 #[derive(Drop)]
 pub struct ConsoleDevice<A: Allocator = Global> {
     pub(crate) pending: Pending<A>,
-    cols: u16,
-    rows: u16,
+    pub(crate) cols: u16,
+    pub(crate) rows: u16,
 }
 
 impl<A: Allocator> Model for ConsoleDevice<A> {
@@ -57,6 +57,16 @@ impl<A: Allocator> ConsoleDevice<A> {
         ensures limit { length self.new.pending ≤ 4096 }
     {
         self.pending.append(bytes)
+    }
+
+    /// Puts this size and these pending bytes in the place of its own.
+    pub fn restore(&mut self, pending: &[u8], cols: u16, rows: u16)
+        requires { length pending.now ≤ 4096 }
+        ensures { self.new ≡ record { pending = pending.now; cols = cols; rows = rows } }
+    {
+        self.pending.replace(pending);
+        self.cols = cols;
+        self.rows = rows;
     }
 
     /// Puts out the byte of an emergency write (5.3.4, 5.3.5.1).

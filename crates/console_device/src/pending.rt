@@ -53,6 +53,22 @@ impl<A: Allocator> Pending<A> {
         self.ring.fill_from_slice(bytes)
     }
 
+    /// The bytes, in two parts.
+    pub(crate) fn parts(&self) -> (&[u8], &[u8])
+        ensures { result.0.now ++ result.1.now ≡ self.now }
+    {
+        self.ring.as_slices()
+    }
+
+    /// Puts these bytes in the place of what is there.
+    pub(crate) fn replace(&mut self, bytes: &[u8])
+        requires { length bytes.now ≤ 4096 }
+        ensures { self.new ≡ bytes.now }
+    {
+        self.ring.clear();
+        self.append(bytes);
+    }
+
     /// How many there are.
     pub(crate) fn len(&self) -> usize
         ensures { result ≡ length self.now }

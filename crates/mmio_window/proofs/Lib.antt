@@ -8,3 +8,5 @@ pub mod Services
 pub mod Pieces
 pub mod PiecesExact
 pub mod Stages
+pub mod Saving
+pub mod Devices

@@ -17,4 +17,5 @@ pub mod Notifying
 pub mod Pieces
 pub mod Serving
 pub mod Soundness
+pub mod Saved
 pub mod Ready

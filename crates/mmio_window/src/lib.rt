@@ -14,6 +14,7 @@ mod laws;
 mod queue;
 mod queue_registers;
 mod register;
+mod saved;
 mod stage;
 mod window;
 
@@ -27,5 +28,6 @@ pub use laws::{
 pub use queue::{Queue, Token};
 pub use queue_registers::QueueRegisters;
 pub use register::Register;
+pub use saved::{Reached, SavedQueue, SavedWindow};
 pub use stage::Stage;
 pub use window::Window;

@@ -2,6 +2,7 @@
 
 ghost use Rattle.mmio_window.specs.Queue.{IsTaken, LiesIn, entry_of, left_of, made_as, queue_kind};
 
+mod reached;
 mod view;
 
 use chain::{Chain, Fault, Virtqueue};

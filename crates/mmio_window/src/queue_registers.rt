@@ -4,6 +4,8 @@ ghost use Rattle.std.specs.Prelude.{◌≡◌};
 ghost use Rattle.negotiation.specs.Features.{feature_bits};
 ghost use Rattle.mmio_window.specs.QueueRegisters.{no_queue, queue_written, ring_of, set_up, with_high, with_low, with_ready_written};
 
+mod saved;
+
 use crate::queue::Queue;
 use crate::register::Register;
 use guest_memory::GuestMemory;

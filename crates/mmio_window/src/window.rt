@@ -14,6 +14,7 @@ ghost use Rattle.mmio_window.specs.Soundness.{IsSound};
 ghost use Rattle.mmio_window.specs.Window.{fresh_window, queue_at, with_config_changed, with_config_interrupt, with_reset_asked, with_used_interrupt};
 
 mod read;
+mod saved;
 mod view;
 mod write;
 

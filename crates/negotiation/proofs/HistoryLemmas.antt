@@ -6,7 +6,7 @@ use Rattle.std.proofs.lemmas.List.Elements.{All-head, All-tail}
 use Rattle.std.proofs.lemmas.Nat.{and_or_apart}
 use Rattle.std.specs.Int.RustNames.{bit_and, bit_or}
 use Rattle.negotiation.specs.Sets.{has, Has}
-use Rattle.negotiation.specs.Status.{features_ok, device_needs_reset}
+use Rattle.negotiation.specs.Status.{features_ok, device_needs_reset, unnamed}
 use Rattle.negotiation.specs.Features.{with_feature_word}
 use Rattle.negotiation.specs.Negotiation.{NegotiationState, IsSettled, fresh, settable_of, with_needs_reset}
 use Rattle.negotiation.specs.History.{Change, StatusWritten, FeaturesWritten, ResetAsked, WasReset, changed, after, is_reset, Keeps}
@@ -16,7 +16,7 @@ use Rattle.negotiation.proofs.StatusLemmas.{settled_after_write}
 -- ---- FEATURES_OK is set only for features that are all offered and have VERSION_1
 
 IsSettled-fresh : (offered : ℕ) → IsSettled (fresh offered)
-IsSettled-fresh offered = record { offered = λ set. omega arith; version_1 = λ set. omega arith }
+IsSettled-fresh offered = record { offered = λ set. omega arith; version_1 = λ set. omega arith; named = refl }
 
 IsSettled-needs_reset : (s : NegotiationState) → IsSettled s → IsSettled (with_needs_reset s)
 IsSettled-needs_reset s h =
@@ -24,6 +24,7 @@ IsSettled-needs_reset s h =
     record {
       offered = λ set. h.offered (same ∙ set);
       version_1 = λ set. h.version_1 (same ∙ set);
+      named = and_or_apart unnamed s.status device_needs_reset refl ∙ h.named;
     }
 
 -- the test for FEATURES_OK is right where it says no
@@ -40,7 +41,8 @@ settled_by_status false s value h = settled_after_write s value h
 settled_by_features : (stands : Bool) (s : NegotiationState) (accepted : ℕ) → has s.status features_ok ≡ stands → IsSettled s
     → IsSettled (if stands then s else record s { accepted = accepted })
 settled_by_features true s accepted e h = h
-settled_by_features false s accepted e h = record { offered = λ set. absurd (unset s e set); version_1 = λ set. absurd (unset s e set) }
+settled_by_features false s accepted e h =
+    record { offered = λ set. absurd (unset s e set); version_1 = λ set. absurd (unset s e set); named = h.named }
 
 IsSettled-changed : (change : Change) (s : NegotiationState) → IsSettled s → IsSettled (changed change s)
 IsSettled-changed (StatusWritten value) s h = settled_by_status (value == 0) s value h

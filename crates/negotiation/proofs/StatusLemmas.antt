@@ -5,9 +5,9 @@ use Rattle.std.proofs.lemmas.Nat.{and_assoc}
 use Rattle.std.proofs.lemmas.Bool.{eqb-true}
 use Rattle.std.specs.Int.RustNames.{bit_and, bit_or}
 use Rattle.negotiation.specs.Sets.{has, Has}
-use Rattle.negotiation.specs.Status.{features_ok}
+use Rattle.negotiation.specs.Status.{features_ok, unnamed}
 use Rattle.negotiation.specs.Features.{version_1}
-use Rattle.negotiation.specs.Negotiation.{NegotiationState, IsSettled, settable_of}
+use Rattle.negotiation.specs.Negotiation.{NegotiationState, IsSettled, is_acceptable, settable_of}
 use Rattle.negotiation.proofs.BitLemmas.{bit_and-bit_or-masked}
 
 -- the bits that may be set, by whether the features are acceptable
@@ -36,6 +36,11 @@ may_stand status value true true before after = (refl, refl)
 may_stand status value true false before after = before (sym (bit_and-bit_or-masked 8 135 status value refl) ∙ after)
 may_stand status value false b before after = before (sym (bit_and-bit_or-masked 8 135 status value refl) ∙ after)
 
+-- no bit without a name may be set
+settable_named : (b : Bool) → bit_and (settable_if b) unnamed ≡ 0
+settable_named true = refl
+settable_named false = refl
+
 -- a write to the status leaves the features settled
 pub settled_after_write : (s : NegotiationState) (value : ℕ) → IsSettled s → IsSettled (record s { status = bit_or s.status (bit_and value (settable_of s)) })
 settled_after_write s value h =
@@ -45,6 +50,7 @@ settled_after_write s value h =
     record {
       offered = λ set. eqb-true _ _ (stands set).0;
       version_1 = λ set. eqb-true _ _ (stands set).1;
+      named = bit_and-bit_or-masked unnamed (settable_of s) s.status value (settable_named (is_acceptable s)) ∙ h.named;
     }
 
 -- the same, of the numbers that a write gives one after another

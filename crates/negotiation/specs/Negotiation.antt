@@ -1,12 +1,12 @@
 -- What a device and its driver settle before the device works: the device status (2.1) and the features
 -- (2.2), in the order that a driver's initialization has (3.1.1).
-use Rattle.std.specs.Prelude.{◌&&◌, ◌==◌, ◌+◌, if◌then◌else◌, ℕ, Bool}
+use Rattle.std.specs.Prelude.{◌≡◌, ◌&&◌, ◌||◌, ◌==◌, ◌+◌, if◌then◌else◌, not, ℕ, Bool, Option, Some, None}
 use Rattle.std.specs.Int.RustNames.{bit_and, bit_or}
 use Rattle.negotiation.specs.declared.features.Features.{Features}
 use Rattle.negotiation.specs.declared.status.Status.{Status}
 use Rattle.negotiation.specs.Features.{feature_bits, version_1, with_feature_word}
 use Rattle.negotiation.specs.Sets.{has, lacks, Has}
-use Rattle.negotiation.specs.Status.{status_bits, acknowledge, driver, driver_ok, features_ok, device_needs_reset, failed}
+use Rattle.negotiation.specs.Status.{status_bits, acknowledge, driver, driver_ok, features_ok, device_needs_reset, failed, unnamed}
 
 -- the device status, the features that the device offers, and those that the driver accepts
 pub record NegotiationState : Type 0 where
@@ -61,7 +61,17 @@ is_live s =
     has s.status driver_ok && has s.status features_ok && lacks s.status failed
     && lacks s.status device_needs_reset
 
--- FEATURES_OK is set only for features that are all offered and have VERSION_1 (2.2.2, 6.2)
+-- FEATURES_OK is set only for features that are all offered and have VERSION_1 (2.2.2, 6.2), and each bit of the
+-- status that is set has a name (2.1)
 pub record IsSettled (s : NegotiationState) : Type 0 where
   pub offered : Has s.status features_ok → Has s.offered s.accepted
   pub version_1 : Has s.status features_ok → Has s.accepted version_1
+  pub named : bit_and s.status unnamed ≡ 0
+
+-- whether status and features may stand so
+abbrev pub can_stand : NegotiationState → Bool
+can_stand s = lacks s.status unnamed && (not (has s.status features_ok) || is_acceptable s)
+
+-- status and features as they stand, if they may
+abbrev pub standing : NegotiationState → Option NegotiationState
+standing s = if can_stand s then Some s else None

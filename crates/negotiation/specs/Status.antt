@@ -32,6 +32,10 @@ device_needs_reset = 64
 abbrev pub failed : ℕ
 failed = 128
 
+-- the two bits that have no name, which neither side sets
+abbrev pub unnamed : ℕ
+unnamed = 48
+
 -- the name of each bit
 abbrev pub status_names : List Row
 status_names =

@@ -1,10 +1,10 @@
 //! The state machine of status and features: what a window's registers DeviceFeatures, DriverFeatures and
 //! Status read and write.
 
-ghost use Rattle.std.specs.Prelude.{◌≡◌, ◌==◌};
+ghost use Rattle.std.specs.Prelude.{◌≡◌, ◌==◌, Some};
 ghost use Rattle.std.specs.Int.RustNames.{bit_and};
 ghost use Rattle.negotiation.specs.Features.{feature_bits};
-ghost use Rattle.negotiation.specs.Negotiation.{fresh, is_acceptable, is_live, negotiated_of, settable_of, with_features_written, with_needs_reset, with_status_written};
+ghost use Rattle.negotiation.specs.Negotiation.{fresh, is_acceptable, is_live, negotiated_of, settable_of, standing, state_of, with_features_written, with_needs_reset, with_status_written};
 ghost use Rattle.negotiation.specs.Sets.{Has};
 ghost use Rattle.negotiation.specs.Status.{status_bits};
 
@@ -43,6 +43,25 @@ impl Negotiation {
         }
     }
 
+    /// Status and features as they stand, if they may: each bit of the status has a name, and FEATURES_OK is set only
+    /// for features that are all offered and have VERSION_1.
+    pub fn standing(status: Status, offered: Features, accepted: Features) -> Option<Negotiation>
+        ensures { result ≡ standing (state_of status offered accepted) }
+    {
+        let acceptable = offered.contains(accepted) && accepted.contains(Features::VERSION_1);
+        if status.intersects(Status::UNNAMED) {
+            return None;
+        }
+        if status.contains(Status::FEATURES_OK) && !acceptable {
+            return None;
+        }
+        Some(Negotiation {
+            status,
+            offered,
+            accepted,
+        })
+    }
+
     /// The features that the device offers.
     pub fn offered(&self) -> Features
         ensures { feature_bits result ≡ self.now.offered }
@@ -52,7 +71,8 @@ impl Negotiation {
 
     /// The features that the driver accepts, also those that it has written and not yet settled.
     pub fn accepted(&self) -> Features
-        ensures { feature_bits result ≡ self.now.accepted }
+        ensures value { feature_bits result ≡ self.now.accepted }
+        ensures stands { standing self.now ≡ Some self.now }
     {
         self.accepted
     }
@@ -100,7 +120,6 @@ impl Negotiation {
     /// A write to Status, and whether it was a reset, which is a write of 0. Any other value sets the driver's bits that
     /// it has, FEATURES_OK only where the accepted features are all offered and have VERSION_1. Its other bits are
     /// ignored.
-    #[tactic(auto, using(crate::proofs::StatusLemmas::settled_by_write))]
     pub fn write_status(&mut self, value: u32) -> bool
         ensures reset { result ≡ (value == 0) }
         ensures written { self.new ≡ with_status_written value self.old }

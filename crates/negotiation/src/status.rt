@@ -29,6 +29,11 @@ bitflag_items! {
     }
 }
 
+impl Status {
+    // The two bits that have no name.
+    pub(crate) const UNNAMED: Status = Status(48);
+}
+
 impl Flags for Status {
     type Bits = u8;
 

@@ -5,6 +5,7 @@ ghost use Rattle.guest_memory.specs.Memory.{SameRange};
 ghost use Rattle.packed_ring.specs.Ring.{IsAligned, IsQueueSize, IsUsable, LiesIn, can_set_up, descriptor_addr, head_of, id_of, is_available, new_ring, setup_of, used_flags, with_used, wrap_counter};
 ghost use Rattle.packed_ring.specs.Kind.{IsTaken, entry_of, first_passed, packed_kind};
 
+mod reached;
 mod view;
 
 use crate::walk::{Table, append_list};

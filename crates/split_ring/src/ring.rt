@@ -5,6 +5,7 @@ ghost use Rattle.guest_memory.specs.Memory.{SameRange};
 ghost use Rattle.split_ring.specs.Ring.{IsAligned, IsQueueSize, IsUsable, LiesIn, head_of, can_set_up, new_ring, next_place, setup_of, with_used};
 ghost use Rattle.split_ring.specs.Kind.{IsTaken, entry_of, split_kind};
 
+mod reached;
 mod view;
 
 use crate::walk::{Table, append_path};

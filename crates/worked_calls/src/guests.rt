@@ -3,6 +3,7 @@
 mod boards;
 mod runs;
 mod sessions;
+mod snapshots;
 
 use crate::answer::{put_number, put_word};
 use crate::subject::{Stuck, Subject};
@@ -116,6 +117,7 @@ impl<B: Allocator> Subject for Guests<'_, B> {
             "session" => self.make_session(words, answer),
             word => {
                 if self.call_board(word, words, answer)?
+                    || self.call_snapshots(word, words, answer)?
                     || self.call_session(word, words, answer)?
                 {
                     return Ok(());

@@ -9,6 +9,10 @@ invariant_of-self-lent g c w =
     let new : Memory = put c.self.inside.memory c.base-base.result w in
     let same : SameRange c.self.inside.memory new = put_range c.self.inside.memory c.base-base.result w in
     record {
+      block_kind = c.self.invariant.block_kind;
+      block_offers = c.self.invariant.block_offers;
+      console_kind = c.self.invariant.console_kind;
+      console_offers = c.self.invariant.console_offers;
       block_sound = IsSound-same_range c.self.inside.memory new c.self.inside.block same c.self.invariant.block_sound;
       console_sound = IsSound-same_range c.self.inside.memory new c.self.inside.console same c.self.invariant.console_sound;
       pending_fits = c.self.invariant.pending_fits;

@@ -8,6 +8,10 @@ invariant_of-self g c =
     let new : Memory = put c.self.inside.memory c.args.addr c.copy_from_slice.new.self in
     let same : SameRange c.self.inside.memory new = put_range c.self.inside.memory c.args.addr c.copy_from_slice.new.self in
     record {
+      block_kind = c.self.invariant.block_kind;
+      block_offers = c.self.invariant.block_offers;
+      console_kind = c.self.invariant.console_kind;
+      console_offers = c.self.invariant.console_offers;
       block_sound = IsSound-same_range c.self.inside.memory new c.self.inside.block same c.self.invariant.block_sound;
       console_sound = IsSound-same_range c.self.inside.memory new c.self.inside.console same c.self.invariant.console_sound;
       pending_fits = c.self.invariant.pending_fits;

@@ -1,0 +1,129 @@
+-- The snapshot of a slot, and what a slot becomes that takes one up.
+use Rattle.std.specs.Prelude.{◌≡◌, ℕ, ◌≤◌, IsOkAnd, Option, None, Some, Ok, Err, List, length, ◌++◌}
+use Rattle.std.specs.List.{slice_get}
+use Rattle.guest_memory.specs.Memory.{Memory, SameRange}
+use Rattle.mmio_window.specs.declared.device_kind.DeviceKind.{DeviceKind}
+use Rattle.mmio_window.specs.declared.device_kind.DeviceKind.TheVariants.{Block, Console}
+use Rattle.mmio_window.specs.Saved.{saved_window, window_restored}
+use Rattle.mmio_window.specs.Window.{WindowState}
+use Rattle.sector_cache.specs.Sector.{extent_of}
+use Rattle.snapshot.specs.declared.saved.SavedSlot.{SavedSlot}
+use Rattle.snapshot.specs.Reading.{snapshot_at}
+use Rattle.snapshot.specs.Spelling.{snapshot}
+use Rattle.board.specs.declared.reply.Record.{Record}
+use Rattle.board.specs.declared.saved.RestoreFault.{RestoreFault}
+use Rattle.board.specs.declared.saved.RestoreFault.TheVariants.{Snapshot, OtherSlot, BadBlock, BadConsole}
+use Rattle.board.specs.Line.{Move, events_of, own_events, own_records, records_of}
+use Rattle.board.specs.Machine.{RunsOnItsOwn}
+use Rattle.board.specs.Slot.{BoardSlot, SlotState, block_features, console_features, state_of}
+use Rattle.board.specs.World.{World}
+
+-- ---- what is saved
+
+-- what a slot keeps, as plain numbers
+abbrev pub saved_slot : BoardSlot → SavedSlot
+saved_slot slot = record {
+  base = slot.memory.base;
+  len = length slot.memory.bytes;
+  sectors = slot.extent.count;
+  read_only = slot.read_only;
+  identity = slot.identity;
+  block = saved_window slot.block;
+  console = saved_window slot.console;
+  cols = slot.cols;
+  rows = slot.rows;
+}
+
+-- over every memory of this range what is saved of the window gives it back
+abbrev pub RestoresIt : DeviceKind → Memory → WindowState → Type 0
+RestoresIt kind old w = (m : Memory) → SameRange old m → window_restored kind m (saved_window w) ≡ Some w
+
+-- the slot's devices offer what devices of their kind do
+pub record OffersFeatures (slot : BoardSlot) : Type 0 where
+  pub block : slot.block.negotiation.offered ≡ block_features slot.read_only
+  pub console : slot.console.negotiation.offered ≡ console_features
+
+-- The bytes are the snapshot of a slot that stands so on a board: they are spelled so and read back, its windows are
+-- those of its two devices, and they are restored over each memory of its memory's range.
+pub record IsSnapshotOf (bytes : List ℕ) (slot : BoardSlot) : Type 0 where
+  pub spelled : bytes ≡ snapshot (saved_slot slot) slot.pending
+  pub read : snapshot_at bytes ≡ Ok (saved_slot slot, slot.pending)
+  pub offers : OffersFeatures slot
+  pub block : RestoresIt Block slot.memory slot.block
+  pub console : RestoresIt Console slot.memory slot.console
+
+-- ---- what takes it up
+
+-- The slot is of the description that was saved: its memory has the same addresses, its disk as many sectors, the same
+-- mode and the same identity, and its devices offer the same features.
+pub record Suits (saved : SavedSlot) (slot : BoardSlot) : Type 0 where
+  pub base : saved.base ≡ slot.memory.base
+  pub len : saved.len ≡ length slot.memory.bytes
+  pub sectors : saved.sectors ≡ slot.extent.count
+  pub read_only : saved.read_only ≡ slot.read_only
+  pub identity : saved.identity ≡ slot.identity
+  pub block : saved.block.offered ≡ slot.block.negotiation.offered
+  pub console : saved.console.offered ≡ slot.console.negotiation.offered
+
+-- The slot has taken up what was saved: both windows, the pending input and the size. The memory stays, and the disk
+-- with its mode and identity, and whether an event of the slot has met a refusal.
+pub record TakesUp (old : BoardSlot) (saved : SavedSlot) (pending : List ℕ) (new : BoardSlot) : Type 0 where
+  pub suits : Suits saved old
+  pub block : window_restored Block old.memory saved.block ≡ Some new.block
+  pub console : window_restored Console old.memory saved.console ≡ Some new.console
+  pub is :
+      new
+      ≡ record old {
+        block = new.block;
+        console = new.console;
+        pending = pending;
+        cols = saved.cols;
+        rows = saved.rows;
+      }
+
+-- The slot has taken up the snapshot that these bytes are.
+pub record IsRestored (old : BoardSlot) (bytes : List ℕ) (new : BoardSlot) : Type 0 where
+  pub saved : SavedSlot
+  pub pending : List ℕ
+  pub read : snapshot_at bytes ≡ Ok (saved, pending)
+  pub takes_up : TakesUp old saved pending new
+
+-- why a slot doesn't take up what was saved
+abbrev pub Prevents : BoardSlot → SavedSlot → RestoreFault → Type 0
+Prevents slot saved (Snapshot fault) = ⊥
+Prevents slot saved OtherSlot = ¬ Suits saved slot
+Prevents slot saved BadBlock = window_restored Block slot.memory saved.block ≡ None
+Prevents slot saved BadConsole = window_restored Console slot.memory saved.console ≡ None
+
+-- why a slot doesn't take up these bytes
+abbrev pub IsCauseOf : BoardSlot → List ℕ → RestoreFault → Type 0
+IsCauseOf slot bytes (Snapshot fault) = snapshot_at bytes ≡ Err fault
+IsCauseOf slot bytes why = IsOkAnd (snapshot_at bytes) (λ found. Prevents slot found.0 why)
+
+-- ---- the round trip
+
+-- Both slots have one description: memories of one range, disks of one size, mode and identity.
+pub record IsLike (slot other : BoardSlot) : Type 0 where
+  pub memory : SameRange slot.memory other.memory
+  pub sectors : other.extent.count ≡ slot.extent.count
+  pub read_only : other.read_only ≡ slot.read_only
+  pub identity : other.identity ≡ slot.identity
+
+-- the slot is as that one was, but for the memory's bytes, where its disk lies, and whether an event of it has met a
+-- refusal: those are its own
+abbrev pub IsAs : BoardSlot → BoardSlot → BoardSlot → Type 0
+IsAs slot old new = new ≡ record slot { memory = old.memory; extent = old.extent; disturbed = old.disturbed }
+
+-- The host has put back the bytes of a slot's memory and of its disk: this slot has them, in an image of these bytes.
+pub record HasBytesOf (slot : BoardSlot) (bytes : List ℕ) (old : BoardSlot) (other : List ℕ) : Type 0 where
+  pub memory : old.memory ≡ slot.memory
+  pub disk : extent_of other old.extent.start old.extent.count ≡ extent_of bytes slot.extent.start slot.extent.count
+
+-- Guest g was on one board through these moves, and then on another through those: together that is one run of it on
+-- its own, from the state that it was first in.
+pub record RanOnBoth {A : Type 0} (g : ℕ) (state : SlotState) (moves moves' : List (Move A)) (new' : World) : Type 0 where
+  pub last : SlotState
+  pub own :
+      RunsOnItsOwn g state (own_events g (events_of moves) ++ own_events g (events_of moves'))
+      (own_records g (records_of moves) ++ own_records g (records_of moves')) last
+  pub state_after : slice_get new'.slots g ≡ Some last

@@ -1,0 +1,101 @@
+//! A slot's snapshot, and a slot that takes one up.
+
+ghost use Rattle.std.specs.Prelude.{◌≡◌, ◌↔◌, ◌≤◌, IfErr, IfOk, IsOk, IsTrue, OnErr, OnOk, Some, length};
+ghost use Rattle.guest_memory.specs.Memory.{Memory};
+ghost use Rattle.mmio_window.specs.Saved.{window_restored};
+ghost use Rattle.mmio_window.specs.Soundness.{IsSound};
+ghost use Rattle.board.specs.Saved.{IsAs, IsCauseOf, IsLike, IsRestored, IsSnapshotOf, OffersFeatures, Prevents, Suits, TakesUp, saved_slot};
+ghost use Rattle.board.specs.Slot.{BoardSlot};
+
+use crate::saved::RestoreFault;
+use crate::slot::Slot;
+use mmio_window::{DeviceKind, Window};
+use negotiation::Flags;
+use snapshot::SavedSlot;
+use std::alloc::{AllocError, Allocator};
+
+impl<A: Allocator> Slot<A> {
+    /// The slot's snapshot.
+    pub(crate) fn save<B: Allocator>(&self, alloc: B) -> Result<Vec<u8, B>, AllocError>
+        ensures { IfOk result (λ bytes. IsSnapshotOf bytes.items self.now) }
+    {
+        let (front, back) = self.console_device.pending();
+        snapshot::write(alloc, self.saved(), front, back)
+    }
+
+    // What the slot keeps, as plain numbers.
+    fn saved(&self) -> SavedSlot
+        ensures value { result ≡ saved_slot self.now }
+        ensures block { (m : Memory) → IsSound m self.now.block →
+            window_restored self.now.block.kind m result.block ≡ Some self.now.block }
+        ensures console { (m : Memory) → IsSound m self.now.console →
+            window_restored self.now.console.kind m result.console ≡ Some self.now.console }
+    {
+        let (cols, rows) = self.console_device.size();
+        SavedSlot {
+            base: self.memory.base(),
+            len: self.memory.len(),
+            sectors: self.block_device.extent.count,
+            read_only: self.block_device.read_only,
+            identity: self.block_device.identity,
+            block: self.block.saved(),
+            console: self.console.saved(),
+            cols,
+            rows,
+        }
+    }
+
+    /// Takes up a snapshot of a slot of the same description. What is refused changes nothing.
+    pub(crate) fn restore(&mut self, from: &[u8]) -> Result<(), RestoreFault>
+        ensures ok { OnOk result (IsRestored self.old from.now self.new) }
+        ensures fault { IfErr result (IsCauseOf self.old from.now) }
+        ensures kept { OnErr result (self.new ≡ self.old) }
+        ensures extent { self.new.extent ≡ self.old.extent }
+        ensures taken { (slot : BoardSlot) → IsSnapshotOf from.now slot → IsLike slot self.old →
+            IsOk result × IsAs slot self.old self.new }
+    {
+        match snapshot::read(from) {
+            Ok((saved, pending)) => self.take_up(&saved, pending),
+            Err(fault) => Err(RestoreFault::Snapshot(fault)),
+        }
+    }
+
+    // Takes up what was saved, with this pending input.
+    fn take_up(&mut self, saved: &SavedSlot, pending: &[u8]) -> Result<(), RestoreFault>
+        requires { length pending.now ≤ 4096 }
+        ensures ok { OnOk result (TakesUp self.old saved.now pending.now self.new) }
+        ensures fault { IfErr result (Prevents self.old saved.now) }
+        ensures offers { OffersFeatures self.old }
+        ensures kept { OnErr result (self.new ≡ self.old) }
+        ensures extent { self.new.extent ≡ self.old.extent }
+    {
+        if !self.suits(saved) {
+            return Err(RestoreFault::OtherSlot);
+        }
+        let Some(block) = Window::restored(DeviceKind::Block, &saved.block, &self.memory) else {
+            return Err(RestoreFault::BadBlock);
+        };
+        let Some(console) = Window::restored(DeviceKind::Console, &saved.console, &self.memory)
+        else {
+            return Err(RestoreFault::BadConsole);
+        };
+        self.block = block;
+        self.console = console;
+        self.console_device.restore(pending, saved.cols, saved.rows);
+        Ok(())
+    }
+
+    // Whether the slot is of the description that was saved.
+    fn suits(&self, saved: &SavedSlot) -> bool
+        ensures value { IsTrue result ↔ Suits saved.now self.now }
+        ensures offers { OffersFeatures self.now }
+    {
+        saved.base == self.memory.base()
+            && saved.len == self.memory.len()
+            && saved.sectors == self.block_device.extent.count
+            && saved.read_only == self.block_device.read_only
+            && saved.identity == self.block_device.identity
+            && saved.block.offered == self.block.negotiation().offered().bits()
+            && saved.console.offered == self.console.negotiation().offered().bits()
+    }
+}

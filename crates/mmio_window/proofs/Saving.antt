@@ -1,0 +1,105 @@
+-- What is restored is as it was saved, and sound.
+use Rattle.std.proofs.Common.{◌≡◌, ◌∙◌, ℕ, Bool, true, false, cond, Option, Some, None, refl, sym, ap, subst, arith}
+use Rattle.std.proofs.lemmas.Grind.{common_steps}
+use Rattle.std.proofs.lemmas.Bool.{eqb-true}
+use Rattle.std.specs.Prelude.{◌&&◌, IfSome, not}
+use Rattle.std.specs.Option.{option_and_then, option_map}
+use Rattle.guest_memory.specs.Memory.{Memory, SameRange}
+use Rattle.negotiation.specs.Negotiation.{NegotiationState, is_acceptable, negotiated_of, standing}
+use Rattle.negotiation.specs.Sets.{has, Has}
+use Rattle.negotiation.specs.Status.{features_ok}
+use Rattle.split_ring.specs.Reached as split
+use Rattle.split_ring.specs.Ring.{SplitRingState}
+use Rattle.packed_ring.specs.Reached as packed
+use Rattle.packed_ring.specs.Ring.{PackedRingState}
+use Rattle.mmio_window.specs.declared.device_kind.DeviceKind.{DeviceKind}
+use Rattle.mmio_window.specs.declared.queue.Queue.{Queue}
+use Rattle.mmio_window.specs.declared.queue.Queue.TheVariants.{Split, Packed}
+use Rattle.mmio_window.specs.declared.queue_registers.QueueRegisters.{QueueRegisters}
+use Rattle.mmio_window.specs.declared.saved.Reached.{Reached}
+use Rattle.mmio_window.specs.declared.saved.SavedQueue.{SavedQueue}
+use Rattle.mmio_window.specs.declared.saved.SavedWindow.{SavedWindow}
+use Rattle.mmio_window.specs.Queue.{made_as}
+use Rattle.mmio_window.specs.QueueRegisters.{ring_of}
+use Rattle.mmio_window.specs.Saved.{queue_at_reached, queue_restored, reached_of, registers_with, ring_reached, saved_queue, saved_window, served_to, window_restored, window_with}
+use Rattle.mmio_window.specs.Soundness.{HasItsRing, IsRingOf, IsSound}
+use Rattle.mmio_window.specs.Window.{WindowState}
+use Rattle.mmio_window.proofs.Rings.{LiesIn-same, is_made}
+
+-- ---- a ring
+
+-- a ring that is served so far was made as it was
+split_made_by_test : (ring served : SplitRingState) (place left passed : ℕ) (reached : Bool) (to : Queue)
+    → option_map Split (cond reached (Some (record ring { place = place; left = left; passed = passed })) None) ≡ Some to
+    → made_as to ≡ made_as (Split ring)
+split_made_by_test ring served place left passed false to e = cc
+split_made_by_test ring served place left passed true to e =
+    let same : Split (record ring { place = place; left = left; passed = passed }) ≡ to = cc in
+    sym (ap made_as same)
+
+packed_made_by_test : (ring served : PackedRingState) (place left passed : ℕ) (reached : Bool) (to : Queue)
+    → option_map Packed (cond reached (Some (record ring { place = place; left = left; passed = passed })) None) ≡ Some to
+    → made_as to ≡ made_as (Packed ring)
+packed_made_by_test ring served place left passed false to e = cc
+packed_made_by_test ring served place left passed true to e =
+    let same : Packed (record ring { place = place; left = left; passed = passed }) ≡ to = cc in
+    sym (ap made_as same)
+
+made_as-served_to : (reached : Reached) (ring to : Queue) → served_to reached ring ≡ Some to → made_as to ≡ made_as ring
+made_as-served_to reached (Split ring) to e = split_made_by_test ring ring reached.place reached.left reached.passed _ to e
+made_as-served_to reached (Packed ring) to e = packed_made_by_test ring ring reached.place reached.left reached.passed _ to e
+
+-- ---- a queue
+
+-- a ring that was made anew and is served so far is the queue's
+its_ring-served : (m : Memory) (n : NegotiationState) (saved : SavedQueue) (reached : Reached) (fresh : Option Queue) (ring : Queue)
+    → Has n.status features_ok → ring_of m (negotiated_of n) (registers_with saved None) ≡ fresh
+    → option_and_then (served_to reached) fresh ≡ Some ring
+    → IsRingOf m n (registers_with saved (Some ring)) ring
+its_ring-served m n saved reached None ring settled made e = cc
+its_ring-served m n saved reached (Some fresh) ring settled made e =
+    let is : made_as ring ≡ made_as fresh = made_as-served_to reached fresh ring e in
+    let as_made = is_made m (negotiated_of n) (registers_with saved None) fresh made in
+    record {
+      settled = settled;
+      made = made ∙ ap Some (sym (is ∙ as_made.fresh));
+      lies = LiesIn-same m m fresh ring (record { base = refl; size = refl }) is as_made.lies;
+    }
+
+its_ring-by_test : (m : Memory) (n : NegotiationState) (saved : SavedQueue) (reached : Reached) (stands : Bool) (ring : Queue)
+    → has n.status features_ok ≡ stands
+    → cond stands (option_and_then (served_to reached) (ring_of m (negotiated_of n) (registers_with saved None))) None ≡ Some ring
+    → IsRingOf m n (registers_with saved (Some ring)) ring
+its_ring-by_test m n saved reached false ring is e = cc
+its_ring-by_test m n saved reached true ring is e =
+    its_ring-served m n saved reached (ring_of m (negotiated_of n) (registers_with saved None)) ring (eqb-true _ _ is) refl e
+
+registers-of_ring : (m : Memory) (n : NegotiationState) (saved : SavedQueue) (reached : Reached) (found : Option Queue) (registers : QueueRegisters)
+    → ring_reached m n saved reached ≡ found → option_map (λ ring. registers_with saved (Some ring)) found ≡ Some registers
+    → HasItsRing m n registers
+registers-of_ring m n saved reached None registers is e = cc
+registers-of_ring m n saved reached (Some ring) registers is e =
+    let same : registers_with saved (Some ring) ≡ registers = cc in
+    subst (HasItsRing m n) same (its_ring-by_test m n saved reached (has n.status features_ok) ring refl is)
+
+registers-at : (m : Memory) (n : NegotiationState) (saved : SavedQueue) (reached : Option Reached) (registers : QueueRegisters)
+    → queue_at_reached m n saved reached ≡ Some registers → HasItsRing m n registers
+registers-at m n saved None registers e =
+    let same : registers_with saved None ≡ registers = cc in
+    subst (HasItsRing m n) same tt
+registers-at m n saved (Some reached) registers e =
+    registers-of_ring m n saved reached (ring_reached m n saved reached) registers refl e
+
+-- a queue that is restored has its ring
+pub HasItsRing-restored : (m : Memory) (n : NegotiationState) (saved : SavedQueue) (registers : QueueRegisters)
+    → queue_restored m n saved ≡ Some registers → HasItsRing m n registers
+HasItsRing-restored m n saved registers e = registers-at m n saved saved.reached registers e
+
+-- ---- the window
+
+-- what was saved of a window restores it, where it does so of its parts
+pub window-back : (m : Memory) (w : WindowState) (from : SavedWindow) → from ≡ saved_window w → standing w.negotiation ≡ Some w.negotiation
+    → queue_restored m w.negotiation (saved_queue w.queue_0) ≡ Some w.queue_0
+    → queue_restored m w.negotiation (saved_queue w.queue_1) ≡ Some w.queue_1
+    → window_restored w.kind m from ≡ Some w
+window-back m w from is stands queue_0 queue_1 = rw (is, stands, queue_0, queue_1) refl

@@ -1,0 +1,28 @@
+use Rattle.std.proofs.Common.{◌≡◌, Some, arith}
+use Rattle.std.proofs.lemmas.Grind.{common_steps}
+use Rattle.guest_memory.specs.Memory.{Memory}
+use Rattle.mmio_window.specs.contracts.window.Window.{the_view}
+use Rattle.mmio_window.specs.Saved.{saved_window}
+use Rattle.mmio_window.proofs.Saving.{window-back}
+use Rattle.mmio_window.proofs.window.Window.saved.Goals as goal
+
+pub returns-clause-back : goal.returns-clause-back
+returns-clause-back c = λ m.
+    rw (← c.self.view_is) (λ sound.
+    window-back m (the_view c.self.inside)
+    (record {
+      offered = c.bits.result;
+      status = c.bits-2.result;
+      accepted = c.bits-3.result;
+      device_features_sel = c.self.inside.device_features_sel;
+      driver_features_sel = c.self.inside.driver_features_sel;
+      queue_sel = c.self.inside.queue_sel;
+      queue_0 = c.saved.result;
+      queue_1 = c.saved-2.result;
+      used_buffer = c.self.inside.interrupts.used_buffer;
+      configuration_change = c.self.inside.interrupts.configuration_change;
+      shm_sel = c.self.inside.shm_sel;
+      config_generation = c.self.inside.config_generation;
+    }) (grind (arith, common_steps)) c.accepted.ensures.stands
+    (rw c.saved.ensures.value at (c.saved.ensures.back m c.self.inside.negotiation sound.queue_0))
+    (rw c.saved-2.ensures.value at (c.saved-2.ensures.back m c.self.inside.negotiation sound.queue_1)))

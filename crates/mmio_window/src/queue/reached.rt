@@ -1,0 +1,44 @@
+//! How far a queue is served: told, and taken up again by a queue that was made anew.
+
+ghost use Rattle.std.specs.Prelude.{◌≡◌, Some};
+ghost use Rattle.mmio_window.specs.Queue.{made_as};
+ghost use Rattle.mmio_window.specs.Saved.{reached_of, served_to};
+
+use crate::queue::Queue;
+use crate::saved::Reached;
+
+impl Queue {
+    /// How far it is served.
+    pub(crate) fn reached(&self) -> Reached
+        ensures value { result ≡ reached_of self.now }
+        ensures back { served_to result (made_as self.now) ≡ Some self.now }
+    {
+        match self {
+            Queue::Split(ring) => Reached {
+                place: ring.place(),
+                left: ring.left(),
+                passed: ring.passed(),
+            },
+            Queue::Packed(ring) => Reached {
+                place: ring.place(),
+                left: ring.left(),
+                passed: ring.passed(),
+            },
+        }
+    }
+
+    /// The queue, served so far. There is none where no service comes so far.
+    pub(crate) fn served_to(self, reached: Reached) -> Option<Queue>
+        ensures { result ≡ served_to reached self }
+    {
+        let Reached {
+            place,
+            left,
+            passed,
+        } = reached;
+        match self {
+            Queue::Split(ring) => ring.served_to(place, left, passed).map(Queue::Split),
+            Queue::Packed(ring) => ring.served_to(place, left, passed).map(Queue::Packed),
+        }
+    }
+}

@@ -1,0 +1,56 @@
+//! What a window keeps, as plain numbers: as it is saved from one window, and restored to another.
+
+/// How far a ready queue is served.
+#[derive(Clone, Copy, Debug, PartialEq, Eq)]
+pub struct Reached {
+    /// Its place.
+    pub place: u16,
+    /// How much its service may still take, where one is paused.
+    pub left: u16,
+    /// How much its service has passed, where one is paused.
+    pub passed: u16,
+}
+
+/// The registers of one queue, and how far it is served while it is ready.
+#[derive(Clone, Copy, Debug, PartialEq, Eq)]
+pub struct SavedQueue {
+    /// QueueNum.
+    pub number: u32,
+    /// QueueDesc, both words.
+    pub descriptor_area: u64,
+    /// QueueDriver, both words.
+    pub driver_area: u64,
+    /// QueueDevice, both words.
+    pub device_area: u64,
+    /// None where the queue isn't ready.
+    pub reached: Option<Reached>,
+}
+
+/// All that a window keeps beside the kind of its device.
+#[derive(Clone, Copy, Debug, PartialEq, Eq)]
+pub struct SavedWindow {
+    /// The bits of the features that the device offers.
+    pub offered: u64,
+    /// Status.
+    pub status: u8,
+    /// The bits of the features that the driver accepts.
+    pub accepted: u64,
+    /// DeviceFeaturesSel.
+    pub device_features_sel: u32,
+    /// DriverFeaturesSel.
+    pub driver_features_sel: u32,
+    /// QueueSel.
+    pub queue_sel: u32,
+    /// The registers of queue 0.
+    pub queue_0: SavedQueue,
+    /// The registers of queue 1.
+    pub queue_1: SavedQueue,
+    /// Bit 0 of InterruptStatus.
+    pub used_buffer: bool,
+    /// Bit 1 of InterruptStatus.
+    pub configuration_change: bool,
+    /// SHMSel.
+    pub shm_sel: u32,
+    /// ConfigGeneration.
+    pub config_generation: u32,
+}

@@ -1,0 +1,74 @@
+//! A window as plain numbers, and back.
+
+ghost use Rattle.std.specs.Prelude.{◌≡◌, Some, IfSome};
+ghost use Rattle.guest_memory.specs.Memory.{Memory};
+ghost use Rattle.mmio_window.specs.Saved.{saved_window, window_restored};
+ghost use Rattle.mmio_window.specs.Soundness.{IsSound};
+
+use crate::device_kind::DeviceKind;
+use crate::interrupts::Interrupts;
+use crate::queue_registers::QueueRegisters;
+use crate::saved::SavedWindow;
+use crate::window::Window;
+use guest_memory::GuestMemory;
+use negotiation::{Features, Flags, Negotiation, Status};
+use std::alloc::Allocator;
+
+impl Window {
+    /// What the window keeps, as plain numbers. They restore it over every memory for which it is sound.
+    pub fn saved(&self) -> SavedWindow
+        ensures value { result ≡ saved_window self.now }
+        ensures back { (m : Memory) → IsSound m self.now →
+            window_restored self.now.kind m result ≡ Some self.now }
+    {
+        SavedWindow {
+            offered: self.negotiation.offered().bits(),
+            status: self.negotiation.status().bits(),
+            accepted: self.negotiation.accepted().bits(),
+            device_features_sel: self.device_features_sel,
+            driver_features_sel: self.driver_features_sel,
+            queue_sel: self.queue_sel,
+            queue_0: self.queue_0.saved(),
+            queue_1: self.queue_1.saved(),
+            used_buffer: self.interrupts.used_buffer,
+            configuration_change: self.interrupts.configuration_change,
+            shm_sel: self.shm_sel,
+            config_generation: self.config_generation,
+        }
+    }
+
+    /// The window of a device of this kind as it was saved, over a guest's memory. There is none where status and
+    /// features can't stand so, or a queue was ready that can't be.
+    pub fn restored<A: Allocator>(
+        kind: DeviceKind,
+        from: &SavedWindow,
+        mem: &GuestMemory<A>,
+    ) -> Option<Window>
+        ensures value { result ≡ window_restored kind mem.now from.now }
+        ensures kind { IfSome result (λ window. window.kind ≡ kind) }
+        ensures sound { IfSome result (IsSound mem.now) }
+        ensures again { IfSome result (λ window. saved_window window ≡ from.now) }
+    {
+        let offered = Features::from_bits_retain(from.offered);
+        let status = Status::from_bits_retain(from.status);
+        let accepted = Features::from_bits_retain(from.accepted);
+        let negotiation = Negotiation::standing(status, offered, accepted)?;
+        let queue_0 = QueueRegisters::restored(&from.queue_0, &negotiation, mem)?;
+        let queue_1 = QueueRegisters::restored(&from.queue_1, &negotiation, mem)?;
+        Some(Window {
+            kind,
+            negotiation,
+            device_features_sel: from.device_features_sel,
+            driver_features_sel: from.driver_features_sel,
+            queue_sel: from.queue_sel,
+            queue_0,
+            queue_1,
+            interrupts: Interrupts {
+                used_buffer: from.used_buffer,
+                configuration_change: from.configuration_change,
+            },
+            shm_sel: from.shm_sel,
+            config_generation: from.config_generation,
+        })
+    }
+}

@@ -1,0 +1,4 @@
+pub mod Exact
+pub mod OfWindow
+pub mod OfSlot
+pub mod Joining

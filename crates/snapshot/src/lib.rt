@@ -1,0 +1,15 @@
+//! A slot's devices as bytes: a snapshot is written of what the slot keeps, and read again.
+#![tactic(auto)]
+
+mod fault;
+mod fields;
+mod parts;
+mod reading;
+mod saved;
+mod windows;
+mod writing;
+
+pub use fault::{SnapshotFault, Why};
+pub use reading::read;
+pub use saved::SavedSlot;
+pub use writing::write;

@@ -1,0 +1,62 @@
+//! A slot of a board, saved as a snapshot and restored.
+
+use super::Guests;
+use crate::answer::{put_bytes, put_result, put_word};
+use crate::subject::Stuck;
+use crate::words::Words;
+use board::{Board, Image, RestoreFault};
+use std::alloc::{AllocError, Allocator};
+
+impl<'h, B: Allocator> Guests<'h, B> {
+    /// Makes a call of snapshots, if this word is one.
+    pub(super) fn call_snapshots(
+        &mut self,
+        word: &str,
+        words: &mut Words<'_>,
+        answer: &mut String,
+    ) -> Result<bool, Stuck> {
+        match word {
+            "save" => self.save(words, answer)?,
+            "restore" => self.restore(words, answer)?,
+            _ => return Ok(false),
+        }
+        Ok(true)
+    }
+
+    // The snapshot of a slot.
+    fn save(&self, words: &mut Words<'_>, answer: &mut String) -> Result<(), Stuck> {
+        let board = self.board.as_ref().ok_or(Stuck::Conditions)?;
+        match saved(board, words.u8()?) {
+            Some(Ok(bytes)) => put_bytes(self.alloc, answer, &bytes),
+            Some(Err(_)) => Err(Stuck::NoMemory),
+            None => put_word(answer, "none"),
+        }
+    }
+
+    // A slot takes up a snapshot.
+    fn restore(&mut self, words: &mut Words<'_>, answer: &mut String) -> Result<(), Stuck> {
+        let slot = words.u8()?;
+        let bytes = words.bytes(self.alloc)?;
+        let board = self.board.as_mut().ok_or(Stuck::Conditions)?;
+        match restored(board, slot, &bytes) {
+            Some(outcome) => put_result(answer, outcome),
+            None => put_word(answer, "none"),
+        }
+    }
+}
+
+// What both calls promise isn't needed here.
+fn saved<I: Image, A: Allocator + Copy>(
+    board: &Board<I, A>,
+    slot: u8,
+) -> Option<Result<Vec<u8, A>, AllocError>> {
+    board.save(slot)
+}
+
+fn restored<I: Image, A: Allocator>(
+    board: &mut Board<I, A>,
+    slot: u8,
+    from: &[u8],
+) -> Option<Result<(), RestoreFault>> {
+    board.restore(slot, from)
+}
