@@ -1,6 +1,9 @@
+pub mod Asking
 pub mod Config
 pub mod Device
 pub mod Extent
+pub mod Hosting
+pub mod Operation
 pub mod Outcome
 pub mod Progress
 pub mod Request

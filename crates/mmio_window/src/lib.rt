@@ -23,11 +23,12 @@ pub use configuration::{CONFIGURATION_LEN, CONFIGURATION_OFFSET};
 pub use device_kind::DeviceKind;
 pub use laws::{
     generation_stays, next_place_is_ignored, one_chain_or_fault_at_a_place,
-    ready_queue_is_its_ring, ready_queue_stays, serving_keeps_sound, sound_for_the_range,
+    ready_queue_is_its_ring, ready_queue_outlasts, ready_queue_stays, serving_keeps_sound,
+    sound_for_the_range,
 };
 pub use queue::{Queue, Token};
 pub use queue_registers::QueueRegisters;
-pub use register::Register;
+pub use register::{Register, may_stop_queues};
 pub use saved::{Reached, SavedQueue, SavedWindow};
 pub use stage::Stage;
 pub use window::Window;
