@@ -124,9 +124,11 @@ class Queue:
         self.after(comes)
 
     def after(self, comes):
-        """The driver's own count after a service."""
+        """The driver's own count after a service: what was served is used, what wasn't is taken back."""
         if comes is SERVED:
             self.place = self.offered
+        else:
+            self.offered = self.place
 
     def acknowledge(self):
         self.write(INTERRUPT_ACK, USED | CHANGED)
@@ -163,6 +165,11 @@ class Split(Queue):
     def put_chain(self, buffers, head=0):
         entries = [self.entry(buffer, head + position) for position, buffer in enumerate(buffers)]
         self.put(self.areas[0] + 16 * head, b"".join(entries))
+
+    def offer_raw(self, buffers, taken):
+        """Descriptors as they are, from index 0 on, and head 0 on offer. `taken` is how many of them its chain has."""
+        self.put_chain(buffers)
+        self.offer_head(0)
 
     def offer_head(self, head):
         """A head on the available ring, and the idx behind it."""
@@ -224,6 +231,14 @@ class Packed(Queue):
         named = [buffer if buffer.link >= 0 else dataclasses.replace(buffer, link=link) for buffer in joined(buffers)]
         self.put_chain(named)
         self.offered = (self.offered + len(buffers)) % (2 * self.size)
+
+    def offer_raw(self, buffers, taken):
+        """Descriptors as they are from the driver's place on; the first alone is marked, by turning its two flags where they
+        stand. `taken` is how many of them its list has."""
+        first = dataclasses.replace(buffers[0], flags=buffers[0].flags ^ self.mark(self.offered))
+        for count, buffer in enumerate([first, *buffers[1:]]):
+            self.put(self.areas[0] + 16 * ((self.offered + count) % self.size), self.entry(buffer, 0))
+        self.offered = (self.offered + taken) % (2 * self.size)
 
     def look_at_used(self, length, link=0, wrote=True, count=1):
         """The used entry of the last list, which had `count` descriptors."""

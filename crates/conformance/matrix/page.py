@@ -2,7 +2,16 @@
 import importlib
 
 # The modules of this folder that have a table, in the page's order.
-TABLES = ["descriptors"]
+TABLES = [
+    "descriptors",
+    "flags",
+    "links",
+    "rings",
+    "requests",
+    "registers",
+    "lines",
+    "large",
+]
 
 LIST_HEAD = """# The matrix
 

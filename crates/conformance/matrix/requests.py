@@ -1,0 +1,175 @@
+"""Each bit of a block request's header, and of a segment of WRITE_ZEROES."""
+from .drivers import KINDS, NEXT, WRITE, Buffer, Split, number
+from .story import BASE, SECTOR, Slot, Story, plain_image
+
+TITLE = "Block requests"
+HOW = ("Requests that differ in one bit of the header or of a segment. The status, the used len, the data and the image tell what "
+       "was done.")
+FOLDERS = {"bits_requests": "Each bit of a request's type, reserved bytes and sector, and of a segment."}
+
+HEADER, DATA, STATUS, COPY = BASE + 0x4000, BASE + 0x5000, BASE + 0x6000, BASE + 0x8000
+IN, OUT, FLUSH, GET_ID, WRITE_ZEROES = 0, 1, 4, 8, 13
+NAMES = {IN: "in", OUT: "out", FLUSH: "flush", GET_ID: "get_id", WRITE_ZEROES: "write_zeroes"}
+OK, IOERR, UNSUPP = 0, 1, 2
+NOT_YET = b"\xee"
+IDENTITY = b"vreplay-block" + bytes(7)
+SECTORS = 8
+
+
+class Disk:
+    """A disk whose request has a header, a buffer for data, and a status, in that order."""
+
+    def __init__(self, story, kind=Split, capacity=SECTORS):
+        self.queue, self.capacity = kind(story, "b", 0, 4).bring_up(), capacity
+        self.kept = None
+
+    def request(self, header, data, status, length=0, more=b"", at=DATA):
+        """A request with `data` bytes of data, readable where it writes, and more bytes behind its header; the status and the used
+        len that it must have, which is 1 where the status is the only writable byte."""
+        queue = self.queue
+        kind = int.from_bytes(header[:4], "little")
+        length = 1 if kind in (OUT, WRITE_ZEROES) else length
+        queue.put(HEADER, header + more)
+        queue.put(STATUS, NOT_YET)
+        chain = [Buffer(HEADER, len(header) + len(more)), Buffer(at, data, WRITE if kind not in (OUT, WRITE_ZEROES) else 0),
+                 Buffer(STATUS, 1, WRITE)]
+        if queue.is_packed:
+            queue.offer(chain)
+        elif self.kept != chain:
+            queue.offer(chain)
+        else:
+            queue.offer_head(0)
+        self.kept = chain
+        queue.notify()
+        queue.look(STATUS, 1, bytes([status]))
+        if queue.is_packed:
+            queue.look_at_used(length, count=3)
+        else:
+            queue.look_at_used(length)
+
+
+def header(kind, sector=0, reserved=0):
+    return number(kind, 4) + number(reserved, 4) + number(sector, 8)
+
+
+def segment(sector, count, flags=0):
+    return number(sector, 8) + number(count, 4) + number(flags, 4)
+
+
+def stories():
+    for kind in KINDS:
+        for name in NAMES:
+            yield types(kind, name)
+        for name in NAMES:
+            yield reserved(kind, name)
+        for name in (IN, OUT):
+            yield sectors(kind, name)
+        for name in (FLUSH, GET_ID, WRITE_ZEROES):
+            yield ignored_sectors(kind, name)
+        for field in ("sector", "count", "flags"):
+            yield segments(kind, field)
+
+
+def story_of(name, about, field, bits):
+    return Story(f"bits_requests/{name}", about, shows=[(field, bits)])
+
+
+def try_type(disk, kind, reserved_bits=0, sector=1):
+    """A request of any type, with a buffer of a sector for its data (and a segment behind the header of a WRITE_ZEROES)."""
+    queue = disk.queue
+    if kind == OUT:
+        queue.put(DATA, b"\x11")
+        disk.request(header(kind, sector, reserved_bits), SECTOR, OK)
+    elif kind == IN:
+        queue.put(DATA, NOT_YET)
+        disk.request(header(kind, sector, reserved_bits), SECTOR, OK, SECTOR + 1)
+        queue.look(DATA, 1, b"\x11")
+    elif kind == GET_ID:
+        queue.put(DATA, NOT_YET * 20)
+        disk.request(header(kind, sector, reserved_bits), SECTOR, OK, 20)
+        queue.look(DATA, 20, IDENTITY)
+    elif kind == WRITE_ZEROES:
+        disk.request(header(kind, sector, reserved_bits), 0, OK, more=segment(6, 1))
+    elif kind == FLUSH:
+        disk.request(header(kind, sector, reserved_bits), SECTOR, OK)
+    else:
+        queue.put(DATA, NOT_YET * 20)
+        disk.request(header(kind, sector, reserved_bits), SECTOR, UNSUPP)
+        queue.look(DATA, 20, NOT_YET * 20)
+
+
+def types(kind, right):
+    """What is right, and each type that differs from it in one bit."""
+    story = story_of(f"type_of_{NAMES[right]}_{kind}", f"each bit of the type decides, from that of {NAMES[right].upper()} on", "request's type", "0..31")
+    disk = Disk(story, KINDS[kind])
+    try_type(disk, right)
+    for bit in range(32):
+        try_type(disk, right ^ 1 << bit)
+    try_type(disk, right)
+    return story
+
+
+def reserved(kind, right):
+    story = story_of(f"reserved_of_{NAMES[right]}_{kind}", f"no bit of the reserved bytes of {NAMES[right].upper()} says anything", "request's reserved bytes", "0..31")
+    disk = Disk(story, KINDS[kind])
+    for bits in [1 << bit for bit in range(32)] + [0xffffffff]:
+        try_type(disk, right, bits)
+    return story
+
+
+def sectors(kind, right):
+    """Two sectors that differ from one another in each bit of the capacity, and each that differs in one bit from one of them."""
+    story = story_of(f"sector_of_{NAMES[right]}_{kind}", f"each bit of the sector of {NAMES[right].upper()} decides", "request's sector", "0..63")
+    disk = Disk(story, KINDS[kind])
+    content = list(range(0x10, 0x18))
+    for first in (2, 5):
+        for bit in range(64):
+            sector = first ^ 1 << bit
+            is_there = sector < SECTORS
+            mark = 0x80 + bit + 8 * first
+            disk.queue.put(DATA + SECTOR - 1, bytes([mark]))
+            disk.request(header(right, sector), SECTOR, OK if is_there else IOERR, SECTOR + 1 if is_there and right == IN else 0)
+            if right == IN:
+                disk.queue.look(DATA + SECTOR - 1, 1, bytes([content[sector] if is_there else mark]))
+    return story
+
+
+def ignored_sectors(kind, right):
+    story = story_of(f"sector_of_{NAMES[right]}_{kind}", f"no bit of the sector of {NAMES[right].upper()} says anything", "request's sector", "0..63")
+    disk = Disk(story, KINDS[kind])
+    for sector in [1 << bit for bit in range(64)] + [(1 << 64) - 1]:
+        try_type(disk, right, sector=sector)
+    return story
+
+
+def segments(kind, field):
+    """A segment that is right, and those that differ from it in one bit of a field."""
+    width = 64 if field == "sector" else 32
+    story = story_of(f"{field}_of_a_segment_{kind}", f"each bit of a segment's {field} decides", f"segment's {field}", f"0..{width - 1}")
+    disk = Disk(story, KINDS[kind])
+    disk.queue.put(COPY, plain_image())
+    for right in (dict(sector=2, count=1), dict(sector=1, count=6)):
+        for bit in range(width):
+            fields = dict(right, flags=0)
+            fields[field] ^= 1 << bit
+            if fields["flags"] & ~1:
+                status = UNSUPP
+            elif fields["count"] > 65536 or fields["sector"] + fields["count"] > SECTORS:
+                status = IOERR
+            else:
+                status = OK
+            disk.request(header(WRITE_ZEROES), 0, status, more=segment(**fields))
+            if status == OK and fields["count"]:
+                restore(disk, fields["sector"], fields["count"])
+    return story
+
+
+def restore(disk, sector, count):
+    """Reads what was zeroed, with the sector before and the one behind, and writes it again."""
+    first, end = max(0, sector - 1), min(SECTORS, sector + count + 1)
+    length = SECTOR * (end - first)
+    disk.request(header(IN, first), length, OK, length + 1)
+    for one in range(first, end):
+        byte = 0 if sector <= one < sector + count else 0x10 + one
+        disk.queue.look(DATA + SECTOR * (one - first), 1, bytes([byte]))
+    disk.request(header(OUT, sector), SECTOR * count, OK, at=COPY + SECTOR * sector)

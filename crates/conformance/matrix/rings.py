@@ -1,0 +1,239 @@
+"""Each bit of the available ring's idx and flags, of used_event, and of a packed queue's driver event suppression; and of what the
+device counts: used idx and avail_event."""
+from .drivers import EVENT_IDX, FAULT, KINDS, SERVED, WRITE, Buffer, Packed, Split, number
+from .story import BASE, CHANGED, USED, Story
+
+TITLE = "Counters and event suppression"
+HOW = ("One chain is offered again and again. The available idx tells how many are served, or is the fault Jump. Of the flags, "
+       "used_event, and a packed queue's event area each bit decides whether a notification is told, or doesn't.")
+FOLDERS = {"bits_idx": "Each bit of the available idx, and of what the device counts.",
+           "bits_events": "Each bit of what a driver says of notifications."}
+UNSEEN = [("used entry's len", "18..31", "A read of 2^18 bytes wants an image of 513 sectors or more, and a text as long; "
+           "`reads/split_reads_of_128_to_257_sectors` and `reads/packed_reads_of_128_to_257_sectors` show those below."),
+          ("used entry's id, split ring", "16..31", "A head is below 256, so they are 0: `bits_links/heads_in_a_ring_of_256_of_disk`.")]
+
+ROOM = BASE + 0x8000
+ALL = 0xffff
+
+
+class Disk:
+    """Each chain is one byte for a status: the request has no header."""
+
+    NAME, WINDOW, INDEX, FLAGS = "disk", "b", 0, WRITE
+
+    @staticmethod
+    def serve(queue, count, told):
+        queue.notify(told=told)
+
+
+class Transmit:
+    """Each chain is a byte of output."""
+
+    NAME, WINDOW, INDEX, FLAGS = "transmit", "c", 1, 0
+
+    @staticmethod
+    def serve(queue, count, told):
+        queue.notify(output=b"\xee" * count, told=told)
+
+
+class Receive:
+    """Each chain takes a typed byte."""
+
+    NAME, WINDOW, INDEX, FLAGS = "receive", "c", 0, WRITE
+
+    @staticmethod
+    def serve(queue, count, told):
+        queue.story.type(b"\xee" * count, count, told=told)
+        queue.after(SERVED)
+
+
+VEHICLES = (Disk, Transmit, Receive)
+
+
+def stories():
+    for vehicle in VEHICLES:
+        for size in (256, 4):
+            yield available_idx(vehicle, size)
+    yield counters()
+    for vehicle in VEHICLES:
+        yield available_flags(vehicle)
+        yield available_flags_with_event_idx(vehicle)
+        yield used_event(vehicle)
+        yield packed_flags(vehicle)
+        yield packed_flags_without_event_idx(vehicle)
+        for size in (256, 5):
+            yield packed_place(vehicle, size)
+
+
+def up(story, vehicle, kind, size, low=0):
+    """A queue whose every chain is one byte; bytes of ones stand around what the device reads."""
+    queue = kind(story, vehicle.WINDOW, vehicle.INDEX, size, low).bring_up()
+    queue.put(ROOM, b"\xee")
+    if kind is Split:
+        queue.put_chain([Buffer(ROOM, 1, vehicle.FLAGS, 0)])
+        queue.put(queue.areas[1] + 6 + 2 * size, b"\xff" * 8)
+    else:
+        queue.put(queue.areas[1] + 4, b"\xff" * 8)
+    queue.put(queue.areas[1] - 8, b"\xff" * 8)
+    return queue
+
+
+def offer(queue, vehicle, count=1):
+    """So many chains on offer."""
+    if queue.is_packed:
+        queue.offer([Buffer(ROOM, 1, vehicle.FLAGS)])
+    else:
+        queue.offered = (queue.offered + count) % 65536
+        queue.put(queue.areas[1] + 2, number(queue.offered, 2))
+
+
+# --- counters
+
+def available_idx(vehicle, size):
+    """From place 0 and from a place of its own, each idx that differs in one bit."""
+    story = Story(f"bits_idx/available_idx_in_a_ring_of_{size}_of_{vehicle.NAME}",
+                  f"each bit of the available idx counts, in a ring of {size}", shows=[("available idx", "0..15")])
+    queue = up(story, vehicle, Split, size)
+    for start in (0, 0x5a % size):
+        for bit in range(16):
+            if start:
+                offer(queue, vehicle, start)
+                vehicle.serve(queue, start, USED)
+            count = ((start ^ 1 << bit) - start) % 65536
+            offer(queue, vehicle, count)
+            if count <= size:
+                vehicle.serve(queue, count, USED)
+                queue.look(queue.areas[2] + 2, 2, number(start + count, 2))
+            else:
+                jump(queue, vehicle)
+                queue.look(queue.areas[2] + 2, 2, number(start, 2))
+            queue.put(queue.areas[2] + 2, bytes(2))
+            queue.bring_up_again()
+    return story
+
+
+def jump(queue, vehicle):
+    if vehicle is Receive:
+        queue.story.type(b"", 0, told=CHANGED)
+        queue.after(FAULT)
+    else:
+        queue.notify(FAULT)
+
+
+def counters():
+    """256 services of 256 chains each."""
+    story = Story("bits_idx/used_idx_and_avail_event_over_65536_chains", "each bit of the used idx, of avail_event and of used_event, up to where they wrap",
+                  shows=[("used idx", "0..15"), ("avail_event", "0..15"), ("used_event", "0..15")])
+    queue = Split(story, "c", 1, 256, EVENT_IDX).bring_up()
+    queue.put_chain([Buffer(ROOM, 0, 0, 0)])
+    for service in range(256):
+        first = 256 * service
+        event = (first + 0x5a) ^ (1 << service % 17 & ALL)
+        queue.put(queue.areas[1] + 4 + 512, number(event, 2))
+        offer(queue, Transmit, 256)
+        told = (event - first) % 65536 < 256
+        queue.notify(told=USED if told else 0)
+        if service & service + 1 == 0 or service in (0x55, 0xaa, 0xfe):
+            queue.look(queue.areas[2] + 2, 2, number(first + 256 & ALL, 2))
+            queue.look(queue.areas[2] + 4 + 8 * 256, 2, number(first + 256 & ALL, 2))
+        if told:
+            queue.acknowledge()
+    return story
+
+
+# --- what a driver says of notifications
+
+def one(queue, vehicle, told):
+    """A service of one chain, and whether it is told."""
+    offer(queue, vehicle)
+    vehicle.serve(queue, 1, USED if told else 0)
+    if told:
+        queue.acknowledge()
+
+
+def available_flags(vehicle):
+    story = Story(f"bits_events/available_flags_of_{vehicle.NAME}", "bit 0 of the available flags decides, and no other bit",
+                  shows=[("available ring's flags", "0..15")])
+    queue = up(story, vehicle, Split, 4)
+    for flags in [0] + [1 << bit for bit in range(16)] + [ALL ^ 1 << bit for bit in range(16)] + [ALL]:
+        queue.put(queue.areas[1], number(flags, 2))
+        one(queue, vehicle, not flags & 1)
+    return story
+
+
+def available_flags_with_event_idx(vehicle):
+    story = Story(f"bits_events/available_flags_of_{vehicle.NAME}_with_event_idx", "with EVENT_IDX no bit of the available flags decides",
+                  shows=[("available ring's flags, with EVENT_IDX", "0..15")])
+    queue = up(story, vehicle, Split, 4, EVENT_IDX)
+    for flags in [0] + [1 << bit for bit in range(16)] + [ALL]:
+        queue.put(queue.areas[1], number(flags, 2))
+        for event in (queue.place, queue.place + 2):
+            queue.put(queue.areas[1] + 12, number(event & ALL, 2))
+            one(queue, vehicle, event == queue.place)
+    return story
+
+
+def used_event(vehicle):
+    story = Story(f"bits_events/used_event_of_{vehicle.NAME}", "each bit of used_event decides", shows=[("used_event", "0..15")])
+    queue = up(story, vehicle, Split, 4, EVENT_IDX)
+    for bit in range(16):
+        for turned in (1 << bit, 0):
+            queue.put(queue.areas[1] + 12, number(queue.place ^ turned, 2))
+            one(queue, vehicle, not turned)
+    return story
+
+
+def packed_flags(vehicle):
+    story = Story(f"bits_events/packed_flags_of_{vehicle.NAME}", "the low two bits of the packed flags decide, and no other bit",
+                  shows=[("event suppression's flags", "0..15")])
+    queue = up(story, vehicle, Packed, 5, EVENT_IDX)
+    for low in range(4):
+        for bit in range(1, 16):
+            for is_named in (True, False) if low == 2 else (True,):
+                flags = low | (1 << bit & ~3)
+                put_event(queue, named(queue, queue.place if is_named else queue.place + 1), flags)
+                one(queue, vehicle, {0: True, 1: False, 2: is_named, 3: True}[low])
+    return story
+
+
+def packed_flags_without_event_idx(vehicle):
+    story = Story(f"bits_events/packed_flags_of_{vehicle.NAME}_without_event_idx", "without EVENT_IDX flags of 1 alone mean no notification",
+                  shows=[("event suppression's flags, without EVENT_IDX", "0..15")])
+    queue = up(story, vehicle, Packed, 5)
+    for low in range(4):
+        for bit in (0, 2, 3, 7, 8, 15):
+            put_event(queue, named(queue, queue.place + 1), low | (1 << bit & ~3))
+            one(queue, vehicle, low != 1)
+    return story
+
+
+def named(queue, place):
+    """The number that names a place."""
+    place %= 2 * queue.size
+    return place | 0x8000 if place < queue.size else place - queue.size
+
+
+def put_event(queue, place, flags):
+    queue.put(queue.areas[1], number(place, 2) + number(flags, 2))
+
+
+def packed_place(vehicle, size):
+    """The place of each service, and those that differ from it in one bit."""
+    story = Story(f"bits_events/packed_place_in_a_ring_of_{size}_of_{vehicle.NAME}",
+                  f"each bit of a packed queue's event offset and its wrap decide, in a ring of {size}",
+                  shows=[("event suppression's offset", "0..14"), ("event suppression's wrap", "15")])
+    queue = up(story, vehicle, Packed, size, EVENT_IDX)
+    if size == 256:
+        skip(queue, vehicle, 0x5a)
+    for bit in range(16):
+        for turned in (1 << bit, 0):
+            put_event(queue, named(queue, queue.place) ^ turned, 2)
+            one(queue, vehicle, not turned)
+    return story
+
+
+def skip(queue, vehicle, count):
+    """A list of so many positions, all but the last empty."""
+    queue.offer([Buffer(ROOM, 0, vehicle.FLAGS)] * (count - 1) + [Buffer(ROOM, 1, vehicle.FLAGS)])
+    vehicle.serve(queue, 1, USED)
+    queue.acknowledge()
