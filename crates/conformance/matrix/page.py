@@ -11,6 +11,7 @@ TABLES = [
     "registers",
     "lines",
     "large",
+    "ends",
 ]
 
 LIST_HEAD = """# The matrix

@@ -3,7 +3,7 @@
 Each vehicle is a queue of a window and a chain around one buffer. A transmit queue puts the bytes of the buffer out; a receive
 queue writes what is typed into its front; a disk writes the status of a FLUSH into its last byte.
 """
-from .drivers import FAULT, SERVED, WRITE, Buffer
+from .drivers import FAULT, INDIRECT_DESC, SERVED, WRITE, Buffer
 from .story import CHANGED, USED
 
 # From a memory's base on: where a request's header lies, and a table.
@@ -13,10 +13,10 @@ OK = b"\0"
 
 
 class Vehicle:
-    """A queue that is up, and how one buffer is carried. `in_table` has each chain in an indirect table."""
+    """A queue that is up, and how one buffer is carried. `in_table` has each chain in an indirect table, which lies at `table`."""
 
     def __init__(self, queue, base, in_table=False):
-        self.queue, self.base, self.in_table = queue, base, in_table
+        self.queue, self.base, self.in_table, self.table = queue, base, in_table, base + TABLE
 
     def bring_up(self):
         self.queue.bring_up()
@@ -32,7 +32,7 @@ class Vehicle:
     def offer(self, address, length, flags=0, link=-1):
         """The chain with this buffer on offer."""
         chain = self.chain(Buffer(address, length, self.FLAGS | flags, link))
-        self.queue.offer([self.queue.table(self.base + TABLE, chain)] if self.in_table else chain)
+        self.queue.offer([self.queue.table(self.table, chain)] if self.in_table else chain)
 
     def refused(self):
         """The notify of a chain that is a fault; the window is brought up again behind it."""
@@ -58,6 +58,11 @@ class Transmit(Vehicle):
         self.serve(output=bytes(length - 1) + bytes([mark]))
         self.queue.put(address + length - 1, bytes(1))
 
+    def shows_empty(self, address):
+        """A buffer of no bytes."""
+        self.offer(address, 0)
+        self.serve()
+
 
 class Receive(Vehicle):
     """What is typed shows where a buffer begins."""
@@ -82,6 +87,13 @@ class Receive(Vehicle):
         self.serve(typed=bytes([mark]) * length)
         self.queue.look(address, length, bytes([mark]) * length)
 
+    def shows_empty(self, address):
+        """A buffer of no bytes takes nothing; the next one does."""
+        self.offer(address, 0)
+        self.serve()
+        self.offer(self.base + HEADER, 1)
+        self.queue.notify()
+
 
 class Disk(Vehicle):
     """The status of a FLUSH shows where a buffer ends."""
@@ -105,12 +117,16 @@ class Disk(Vehicle):
         self.queue.look(last, 1, OK)
         self.queue.put(last, bytes([mark]))
 
+    def shows_empty(self, address):
+        """A buffer of no bytes has no room for a status."""
+        self.offer(address, 0)
+        self.serve()
+
 
 VEHICLES = {vehicle.NAME: vehicle for vehicle in (Disk, Transmit, Receive)}
 
 
 def up(story, vehicle, kind, base, in_table=False, size=4, low=0):
     """A vehicle of a kind of ring, brought up in a story."""
-    from .drivers import INDIRECT_DESC
     queue = kind(story, vehicle.WINDOW, vehicle.INDEX, size, low | (INDIRECT_DESC if in_table else 0), base + 0x1000)
     return vehicle(queue, base, in_table).bring_up()
