@@ -6,7 +6,8 @@ from .vehicles import VEHICLES, up
 
 TITLE = "Ends"
 HOW = ("A memory that begins at 0, one that ends at 2^64, and one that does neither. In each a range lies at both ends, one byte (or as "
-       "its alignment asks) before and behind them, at 0, and at the end of all addresses.")
+       "its alignment asks) before and behind them, where one bit more or less of its address would lead over the end, at 0, and at the "
+       "end of all addresses.")
 FOLDERS = {"ends_memory": "Memory events at the ends of memories and of addresses.",
            "ends_buffers": "Buffers there, in rings and in tables.",
            "ends_tables": "Indirect tables there.",
@@ -14,6 +15,9 @@ FOLDERS = {"ends_memory": "Memory events at the ends of memories and of addresse
            "ends_boards": "Memories that begin at 0, and that end at 2^64 or would end behind it."}
 
 TOP = 1 << 64
+
+# Where the byte of a chain lies, clear of what is tried.
+BYTE = 0x8800
 # The bases by their names.
 BASES = {"0": 0, "2_to_64_less_its_length": TOP - LENGTH, "80000000": 0x80000000}
 
@@ -42,7 +46,15 @@ def places(base, count, step=1):
     end = base + LENGTH
     last = end - count - (end - count) % step
     found = [base, base - step, last, last + step, end - step, end, 0, step, TOP - step, TOP - count - (TOP - count) % step]
-    return list(dict.fromkeys(address % TOP for address in found))
+    return list(dict.fromkeys(address % TOP for address in found + (near(base, count, step) if count > 2 else [])))
+
+
+def near(base, count, step):
+    """Where one bit more would lead past the end, and where one bit less would lead back inside."""
+    end, steps = base + LENGTH, range(step.bit_length() - 1, LENGTH.bit_length() - 1)
+    inside_by_a_bit = [end - (1 << bit) - count + step for bit in steps if (1 << bit) >= count]
+    outside_by_a_bit = [end - count + (1 << bit) for bit in steps if (1 << bit) < count]
+    return [address - address % step for address in inside_by_a_bit + outside_by_a_bit]
 
 
 def events(name, base):
@@ -101,7 +113,7 @@ def tables(name, base, kind, vehicle):
     for address in places(base, count):
         if inside(base, address, count):
             at.table = address
-            at.shows(base + 0x8000, 1, 0x77)
+            at.shows(base + BYTE, 1, 0x77)
         else:
             at.queue.offer([Buffer(address, count, INDIRECT)])
             at.refused()
@@ -123,7 +135,7 @@ def areas(name, base, kind, which, area):
         story.read("b", QUEUE_READY, int(inside(base, address, count)))
         if inside(base, address, count):
             queue.areas[which] = address
-            at_the_place(queue, base + 0x8000, 1)
+            at_the_place(queue, base + BYTE, 1)
     return story
 
 

@@ -1,15 +1,19 @@
 """Each bit of the numbers that name a descriptor or a buffer: head, next, and the id of a packed one."""
 from .drivers import FAULT, INDIRECT, INDIRECT_DESC, NEXT, SERVED, WRITE, Buffer, Packed, Split
-from .story import BASE, CHANGED, USED, Story
+from .story import BASE, CHANGED, USED, Slot, Story
 from .vehicles import FLUSH
 
 TITLE = "Heads, next and ids"
 HOW = ("In a ring or a table of 256 the low eight bits of a head and of next tell which descriptor is served, and the high eight are "
-       "the fault Index; in a ring of 4 all but two bits are. The used entry tells the head, and the id of a packed buffer.")
+       "the fault Index; in a ring of 4 all but two bits are. A good descriptor lies where such an index would lead. The used entry "
+       "tells the head, and the id of a packed buffer.")
 FOLDERS = {"bits_links": "Each bit of heads, of next, and of ids."}
 
-# Where a byte for each descriptor lies, a table, and what stands before such a byte in a chain.
-ROOM, TABLE, FRONT = BASE + 0x8000, BASE + 0x6000, BASE + 0x4000
+# Where a byte for each descriptor lies, and what stands before such a byte in a chain. The descriptors of a ring and of a table lie
+# behind all that, so that 65536 of them have room.
+ROOM, FRONT, RING, TABLE = BASE + 0x8000, BASE + 0x4000, BASE + 0x10000, BASE + 0x10000
+AREAS = [RING, BASE + 0x2000, BASE + 0x3000]
+MEMORY = Slot(length=0x111000)
 RIGHT, NOT_YET = 0x5a, 0xee
 
 
@@ -106,9 +110,15 @@ def bytes_of(vehicle, count):
     return [Buffer(ROOM + which, 1, vehicle.FLAGS, 0) for which in range(count)]
 
 
-def up(story, vehicle, kind=Split, size=256, low=0):
-    queue = kind(story, vehicle.WINDOW, vehicle.INDEX, size, low).bring_up()
+def up(story, vehicle, kind=Split, size=256, low=0, areas=AREAS):
+    queue = kind(story, vehicle.WINDOW, vehicle.INDEX, size, low, areas=list(areas)).bring_up()
     return queue, vehicle(queue)
+
+
+def put_behind(queue, vehicle, at, indices):
+    """Good descriptors where indices past the end of a ring or a table would lead."""
+    for index in indices:
+        queue.put(at + 16 * index, queue.entry(Buffer(ROOM + index % 256, 1, vehicle.FLAGS, 0), 0))
 
 
 def again(queue, at):
@@ -119,9 +129,10 @@ def again(queue, at):
 def heads(size, vehicle):
     """Each head is a descriptor of its own byte."""
     story = Story(f"bits_links/heads_in_a_ring_of_{size}_of_{vehicle.NAME}", f"each bit of a head in a ring of {size} decides",
-                  shows=[("entry of the available ring", "0..15")])
+                  [MEMORY], shows=[("entry of the available ring", "0..15")])
     queue, at = up(story, vehicle, size=size)
     queue.put_chain(bytes_of(vehicle, size))
+    put_behind(queue, vehicle, RING, [head for head in values(RIGHT % size) if head >= size])
     for head in values(RIGHT % size):
         queue.offer_head(head)
         if head < size:
@@ -136,9 +147,10 @@ def heads(size, vehicle):
 def nexts(size, vehicle):
     """Behind a front comes a descriptor of its own byte."""
     story = Story(f"bits_links/next_in_a_ring_of_{size}_of_{vehicle.NAME}", f"each bit of next in a ring of {size} decides",
-                  shows=[("descriptor's next, split ring", "0..15")])
+                  [MEMORY], shows=[("descriptor's next, split ring", "0..15")])
     queue, at = up(story, vehicle, size=size)
     queue.put_chain(bytes_of(vehicle, size))
+    put_behind(queue, vehicle, RING, [index for index in values(RIGHT % size) if index >= size])
     # An index that no value names, nor differs from in one bit.
     front, first = vehicle.FRONT, size - 1 if size > 4 else 1
     for following in values(RIGHT % size):
@@ -156,9 +168,10 @@ def nexts(size, vehicle):
 def nexts_of_a_table(vehicle):
     """A table of 256 entries, of which the first is the front."""
     story = Story(f"bits_links/next_in_a_table_of_{vehicle.NAME}", "each bit of next in a table of 256 entries decides",
-                  shows=[("descriptor's next, split table", "0..15")])
-    queue, at = up(story, vehicle, size=4, low=INDIRECT_DESC)
+                  [MEMORY], shows=[("descriptor's next, split table", "0..15")])
+    queue, at = up(story, vehicle, size=4, low=INDIRECT_DESC, areas=[BASE + 0x1000, *AREAS[1:]])
     front = vehicle.FRONT
+    put_behind(queue, vehicle, TABLE, [index for index in values(RIGHT) if index >= 256])
     queue.put(TABLE, b"".join(queue.entry(one, 0) for one in bytes_of(vehicle, 256)))
     queue.put_chain([Buffer(ROOM + 255, 1, vehicle.FLAGS, 0), Buffer(TABLE, 4096, INDIRECT, 0)])
     for following in values(RIGHT):
@@ -180,7 +193,7 @@ def id_values():
 def ids(vehicle):
     """Lists of two with an id of its own in each; the last one's is told."""
     story = Story(f"bits_links/ids_of_{vehicle.NAME}", "each bit of the id of a packed list's last descriptor is told, and none of the first one's",
-                  shows=[("descriptor's id, packed ring", "0..15")])
+                  [MEMORY], shows=[("descriptor's id, packed ring", "0..15")])
     queue, at = up(story, vehicle, Packed, 3)
     front = vehicle.FRONT
     for name in id_values():
@@ -193,8 +206,8 @@ def ids(vehicle):
 def ids_of_tables(vehicle):
     """A table's entries have ids too, which say nothing."""
     story = Story(f"bits_links/ids_with_a_table_of_{vehicle.NAME}", "each bit of the id beside INDIRECT is told, and none of those in the table",
-                  shows=[("descriptor's id, packed table", "0..15")])
-    queue, at = up(story, vehicle, Packed, 3, INDIRECT_DESC)
+                  [MEMORY], shows=[("descriptor's id, packed table", "0..15")])
+    queue, at = up(story, vehicle, Packed, 3, INDIRECT_DESC, [BASE + 0x1000, *AREAS[1:]])
     front = vehicle.FRONT
     for name in id_values():
         table = queue.table(TABLE, [Buffer(front.address, front.length, front.flags, name ^ 0xffff),

@@ -5,12 +5,14 @@ import importlib
 TABLES = [
     "descriptors",
     "flags",
+    "tables",
     "links",
     "rings",
     "requests",
     "registers",
     "lines",
     "large",
+    "sums",
     "ends",
 ]
 

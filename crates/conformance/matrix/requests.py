@@ -74,16 +74,16 @@ def story_of(name, about, field, bits):
     return Story(f"bits_requests/{name}", about, shows=[(field, bits)])
 
 
-def try_type(disk, kind, reserved_bits=0, sector=1):
+def try_type(disk, kind, reserved_bits=0, sector=0):
     """A request of any type, with a buffer of a sector for its data (and a segment behind the header of a WRITE_ZEROES)."""
     queue = disk.queue
     if kind == OUT:
-        queue.put(DATA, b"\x11")
+        queue.put(DATA, b"\x20")
         disk.request(header(kind, sector, reserved_bits), SECTOR, OK)
     elif kind == IN:
         queue.put(DATA, NOT_YET)
         disk.request(header(kind, sector, reserved_bits), SECTOR, OK, SECTOR + 1)
-        queue.look(DATA, 1, b"\x11")
+        queue.look(DATA + SECTOR - 1, 1, b"\x10")
     elif kind == GET_ID:
         queue.put(DATA, NOT_YET * 20)
         disk.request(header(kind, sector, reserved_bits), SECTOR, OK, 20)
@@ -102,10 +102,9 @@ def types(kind, right):
     """What is right, and each type that differs from it in one bit."""
     story = story_of(f"type_of_{NAMES[right]}_{kind}", f"each bit of the type decides, from that of {NAMES[right].upper()} on", "request's type", "0..31")
     disk = Disk(story, KINDS[kind])
-    try_type(disk, right)
-    for bit in range(32):
-        try_type(disk, right ^ 1 << bit)
-    try_type(disk, right)
+    for one in [right] + [right ^ 1 << bit for bit in range(32)] + [right]:
+        # What is written isn't what is read.
+        try_type(disk, one, sector=3 if one == OUT else 0)
     return story
 
 

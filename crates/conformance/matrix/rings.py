@@ -63,6 +63,13 @@ def stories():
         yield packed_flags_without_event_idx(vehicle)
         for size in (256, 5):
             yield packed_place(vehicle, size)
+        yield split_passed(vehicle)
+        yield packed_passed(vehicle)
+    for vehicle in VEHICLES:
+        yield split_positions(vehicle)
+        yield packed_positions(vehicle)
+    for kind in KINDS:
+        yield used_lens(kind)
 
 
 def up(story, vehicle, kind, size, low=0):
@@ -229,6 +236,10 @@ def packed_place(vehicle, size):
         for turned in (1 << bit, 0):
             put_event(queue, named(queue, queue.place) ^ turned, 2)
             one(queue, vehicle, not turned)
+    for _ in range(2 * size if size == 5 else 4):
+        # An offset of N or more whose number would be the place.
+        put_event(queue, queue.place | 0x8000 if queue.place >= size else queue.place + size, 2)
+        one(queue, vehicle, False)
     return story
 
 
@@ -237,3 +248,100 @@ def skip(queue, vehicle, count):
     queue.offer([Buffer(ROOM, 0, vehicle.FLAGS)] * (count - 1) + [Buffer(ROOM, 1, vehicle.FLAGS)])
     vehicle.serve(queue, 1, USED)
     queue.acknowledge()
+
+
+def split_passed(vehicle):
+    """Services of 2^k chains: the last place of each is in it, the one behind it and those 2^k places on aren't."""
+    story = Story(f"bits_events/split_places_passed_of_{vehicle.NAME}", "each bit of how many places a split service passes",
+                  shows=[("places passed, split", "0..8")])
+    queue = up(story, vehicle, Split, 256, EVENT_IDX)
+    for bit in range(9):
+        for count, event, told in ((1 << bit, (1 << bit) - 1, True), (1 << bit, 1 << bit, False), (1, 1 << bit, False)):
+            queue.put(queue.areas[1] + 4 + 512, number(queue.place + event & ALL, 2))
+            offer(queue, vehicle, count)
+            vehicle.serve(queue, count, USED if told else 0)
+            if told:
+                queue.acknowledge()
+    return story
+
+
+def packed_passed(vehicle):
+    """The same with lists of 2^k positions, all but the last empty."""
+    story = Story(f"bits_events/packed_places_passed_of_{vehicle.NAME}", "each bit of how many places a packed service passes",
+                  shows=[("places passed, packed", "0..8")])
+    queue = up(story, vehicle, Packed, 256, EVENT_IDX)
+    for bit in range(9):
+        for count, event, told in ((1 << bit, (1 << bit) - 1, True), (1 << bit, 1 << bit, False), (1, 1 << bit, False)):
+            put_event(queue, named(queue, queue.place + event), 2)
+            queue.offer([Buffer(ROOM, 0, vehicle.FLAGS)] * (count - 1) + [Buffer(ROOM, 1, vehicle.FLAGS)])
+            vehicle.serve(queue, 1, USED if told else 0)
+            if told:
+                queue.acknowledge()
+    return story
+
+
+# --- positions in rings
+
+def order(lap):
+    """An order of all 256 numbers, another one for each lap."""
+    return [(at * 5 + 0x33 + lap) % 256 ^ 0x96 for at in range(256)]
+
+
+def in_order(queue, vehicle, numbers):
+    """What is served in this order is seen in it: the output, or where each typed byte lies, or the used entries alone."""
+    if vehicle is Transmit:
+        queue.notify(output=bytes(numbers))
+    elif vehicle is Receive:
+        typed = bytes(range(256))
+        queue.story.type(typed, 256, told=USED)
+        queue.after(SERVED)
+        queue.look(ROOM, 256, bytes(numbers.index(which) for which in range(256)))
+    else:
+        queue.notify()
+
+
+def split_positions(vehicle):
+    """256 heads in two orders."""
+    story = Story(f"bits_idx/positions_of_split_rings_of_{vehicle.NAME}", "each position of both rings of 256 entries is another one",
+                  shows=[("position in the available ring", "0..7"), ("position in the used ring", "0..7")])
+    queue = Split(story, vehicle.WINDOW, vehicle.INDEX, 256).bring_up()
+    queue.put(ROOM, bytes(range(256)))
+    queue.put_chain([Buffer(ROOM + which, 1, vehicle.FLAGS, 0) for which in range(256)])
+    for lap in range(2):
+        heads = order(lap)
+        queue.put(queue.areas[1] + 4, b"".join(number(head, 2) for head in heads))
+        offer(queue, vehicle, 256)
+        in_order(queue, vehicle, heads)
+        length = 0 if vehicle is Transmit else 1
+        queue.look(queue.areas[2] + 4, 2048, b"".join(number(head, 4) + number(length, 4) for head in heads))
+    return story
+
+
+def packed_positions(vehicle):
+    """256 lists of one in two laps, with an id and a byte of their own."""
+    story = Story(f"bits_idx/positions_of_a_packed_ring_of_{vehicle.NAME}", "each position of a packed ring of 256 descriptors is another one",
+                  shows=[("position in the packed ring", "0..7")])
+    queue = Packed(story, vehicle.WINDOW, vehicle.INDEX, 256).bring_up()
+    queue.put(ROOM, bytes(range(256)))
+    for lap in range(2):
+        which = order(lap)
+        queue.put_chain([Buffer(ROOM + one, 1, vehicle.FLAGS, one ^ 0x55) for one in which])
+        queue.offered = (queue.offered + 256) % 512
+        in_order(queue, vehicle, which)
+        flags = (0x8080 if lap == 0 else 0) | (0 if vehicle is Transmit else WRITE)
+        length = 0 if vehicle is Transmit else 1
+        queue.look(queue.areas[0], 4096, b"".join(
+            number(ROOM + one, 8) + number(length, 4) + number(one ^ 0x55, 2) + number(flags, 2) for one in which))
+    return story
+
+
+def used_lens(kind):
+    """2^k typed bytes come to a buffer that has room for all."""
+    story = Story(f"bits_idx/used_len_of_{kind}_input", "each bit of how many typed bytes a buffer took is told", shows=[(f"used entry's len, {kind}", "0..12")])
+    queue = KINDS[kind](story, "c", 0, 4).bring_up()
+    for count in [1 << bit for bit in range(13)] + [0xfff ^ 1 << bit for bit in range(12)]:
+        queue.offer([Buffer(ROOM, 4096, WRITE)])
+        story.type(bytes([count % 251]) * count, count, told=USED)
+        queue.after(SERVED)
+        queue.look_at_used(count)
+    return story
