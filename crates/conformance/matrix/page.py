@@ -1,5 +1,6 @@
 """The pages of the matrix: the list that the tools read, and MATRIX.md, which says where each field and bit is shown."""
 import importlib
+import re
 
 # The modules of this folder that have a table, in the page's order.
 TABLES = [
@@ -66,5 +67,21 @@ def matrix(stories):
 
 
 def grouped(names):
-    """Names of scenarios, those of one folder together."""
-    return ", ".join(f"`{name}`" for name in names)
+    """The names, those that differ in one word alone as one pattern."""
+    words = [re.split(r"(?<=_)|(?=_)", name) for name in dict.fromkeys(names)]
+    found = []
+    for parts in words:
+        same = next((one for one in found if fits(one, parts)), None)
+        if same is None:
+            found.append(list(parts))
+        else:
+            same[:] = [one if one == other else "*" for one, other in zip(same, parts)]
+    return ", ".join(f"`{''.join(one)}`" for one in found)
+
+
+def fits(pattern, parts):
+    """Whether the parts differ from those of a pattern in the one that the pattern has a star for, or in any one."""
+    if len(pattern) != len(parts):
+        return False
+    differ = [at for at, (one, other) in enumerate(zip(pattern, parts)) if one != other]
+    return differ and differ == ([at for at, one in enumerate(pattern) if one == "*"] or differ[:1])
