@@ -1,5 +1,5 @@
 """The ends of addresses: 0, the last byte below 2^64, and both ends of memories that begin or end there, for each kind of range."""
-from .drivers import AREAS, INDIRECT, KINDS, QUEUE_READY, Buffer
+from .drivers import AREAS, INDIRECT, KINDS, QUEUE_READY, Buffer, joined
 from .registers import ALL, at_the_place
 from .story import BADRANGE, LENGTH, Slot, Story
 from .vehicles import VEHICLES, up
@@ -34,6 +34,7 @@ def stories():
                 yield tables(name, base, kind, vehicle)
             for which, area in enumerate(("desc", "driver", "device")):
                 yield areas(name, base, kind, which, area)
+    yield driver_of_one()
     yield from boards()
 
 
@@ -115,9 +116,18 @@ def tables(name, base, kind, vehicle):
             at.table = address
             at.shows(base + BYTE, 1, 0x77)
         else:
+            put_front(at, base, address)
             at.queue.offer([Buffer(address, count, INDIRECT)])
             at.refused()
     return story
+
+
+def put_front(at, base, address):
+    """As much of a table as lies in memory, where its front does."""
+    entries = at.chain(Buffer(base + BYTE, 1, at.FLAGS))
+    table = b"".join(at.queue.entry(one, number) for number, one in enumerate(entries if at.queue.is_packed else joined(entries)))
+    if base <= address < base + LENGTH:
+        at.queue.put(address, table[:base + LENGTH - address])
 
 
 def areas(name, base, kind, which, area):
@@ -135,6 +145,23 @@ def areas(name, base, kind, which, area):
         story.read("b", QUEUE_READY, int(inside(base, address, count)))
         if inside(base, address, count):
             queue.areas[which] = address
+            at_the_place(queue, base + BYTE, 1)
+    return story
+
+
+def driver_of_one():
+    """The available ring of a queue of one has 8 bytes: at the end of the memory, and two bytes at a time behind it."""
+    base = BASES["80000000"]
+    story = Story("ends_areas/split_driver_of_a_ring_of_1", "an available ring of 8 bytes at the end of the memory, and steps of two bytes behind that",
+                  [Slot(base)], shows=[("driver area, split", "ends")])
+    queue = KINDS["split"](story, size=1, areas=[base + 0x5000, base + 0x6300, base + 0x9600]).bring_up()
+    for address in (base + LENGTH - 8 + step for step in (-2, 0, 2, 4, 6, 8)):
+        story.write("b", QUEUE_READY, 0)
+        story.write("b", AREAS[1], address)
+        story.write("b", QUEUE_READY, 1)
+        story.read("b", QUEUE_READY, int(inside(base, address, 8)))
+        if inside(base, address, 8):
+            queue.areas[1] = address
             at_the_place(queue, base + BYTE, 1)
     return story
 

@@ -33,6 +33,8 @@ def stories():
     yield typed_lengths()
     yield bases()
     yield from (bad_base(bit) for bit in range(12))
+    yield bases_near_the_top()
+    yield from (past_the_top(bit) for bit in range(12, 29))
     for bits in ((12, 13, 14, 15, 16, 17, 18, 19, 20, 21, 22), (23, 24), (25,), (26,), (27,), (28,)):
         yield memory_lengths(bits)
     yield from (bad_length(bit) for bit in (*range(12), *range(29, 64)))
@@ -41,6 +43,10 @@ def stories():
     for bit in range(3, 64):
         yield start_outside(bit)
         yield count_outside(bit)
+    yield neighbours()
+    for bit in range(3):
+        for is_later in (False, True):
+            yield overlap(bit, is_later)
     yield from (bad_capacity(bit) for bit in range(17, 32))
     yield from (kept(bit) for bit in range(17))
 
@@ -210,6 +216,27 @@ def bad_base(bit):
     return refused("bits_memories", f"a_base_with_bit_{bit}", f"a base with bit {bit} set is no page", "BadBase", "slot's base", "0..11", Slot(BASE | 1 << bit))
 
 
+def bases_near_the_top():
+    """Two pages, of which the second ends a page behind 2^64 - 2^k: one bit more would lead past 2^64."""
+    slots = [Slot((1 << 64) - (1 << bit) - 0x1000, 0x2000, 0, 0, "rw", 0, 0, bytes(20)) for bit in range(12, 64)]
+    story = Story("bits_memories/bases_near_the_top", "memories that end below 2^64 and whose base lacks one bit", slots, shows=[("slot's base", "12..63")])
+    for slot, one in enumerate(slots):
+        story.put(one.base + 0x1fff, b"\xaa", slot=slot)
+        story.look(one.base + 0x1fff, 1, b"\xaa", slot=slot)
+        story.look(one.base - 1, 1, BADRANGE, slot=slot)
+    return story
+
+
+def past_the_top(bit):
+    """A page too far up for its length."""
+    length = 1 << bit
+    base = (1 << 64) - length + 0x1000
+    if bit == 12:
+        length, base = 0x3000, (1 << 64) - 0x2000
+    return refused("bits_memories", f"a_length_of_2_to_{bit}_past_the_top", f"a memory of {length:#x} bytes that would end a page behind 2^64 is refused",
+                   "BadBase", "slot's length", "12..28, past 2^64", Slot(base, length))
+
+
 def memory_lengths(bits):
     """Memories of powers of two, each with its first and its last byte."""
     slots = [Slot(1 << 28, 1 << bit, 0, 0, "rw", 0, 0, bytes(20)) for bit in bits]
@@ -281,6 +308,26 @@ def start_outside(bit):
 def count_outside(bit):
     return refused("bits_extents", f"a_count_with_bit_{bit}", f"an extent whose count has bit {bit} set too is outside", "ExtentOutside",
                    "extent's count", "3..63", Slot(start=0, count=1 | 1 << bit))
+
+
+def neighbours():
+    """Extents that touch one another."""
+    slots = [Slot(start=start, count=count) for start, count in ((3, 2), (1, 2), (0, 1), (5, 3), (8, 0))]
+    story = Story("bits_extents/neighbours", "extents of one, two and three sectors stand side by side", slots, shows=[("extent's start and count, compared", "0..2")])
+    for slot, one in enumerate(slots):
+        story.read("b", 0x100, one.count, slot=slot)
+    for slot, one in enumerate(slots[:4]):
+        read_first(story, slot, bytes([0x10 + one.start]))
+    return story
+
+
+def overlap(bit, is_later):
+    """An extent of 2^k sectors, and one whose first sector is its last."""
+    count = 1 << bit
+    slots = [Slot(start=0, count=count), Slot(start=count - 1, count=9 - count)]
+    where = "behind" if is_later else "before"
+    return Story(f"bits_extents/{count}_sectors_{where}_the_extent_that_has_their_last", f"an extent of {count} sectors, {where} one that has its last sector",
+                 slots[::-1] if is_later else slots, fault="board ExtentsOverlap", shows=[("extent's start and count, compared", "0..2")])
 
 
 # --- caches

@@ -5,7 +5,7 @@ from .vehicles import FLUSH
 
 TITLE = "Heads, next and ids"
 HOW = ("In a ring or a table of 256 the low eight bits of a head and of next tell which descriptor is served, and the high eight are "
-       "the fault Index; in a ring of 4 all but two bits are. A good descriptor lies where such an index would lead. The used entry "
+       "the fault Index; in a ring of 4 all but two bits are, in a ring of 2 all but one. A good descriptor lies where such an index would lead. The used entry "
        "tells the head, and the id of a packed buffer.")
 FOLDERS = {"bits_links": "Each bit of heads, of next, and of ids."}
 
@@ -91,7 +91,7 @@ VEHICLES = (Request, Text, Typed)
 
 def stories():
     for vehicle in VEHICLES:
-        for size in (256, 4):
+        for size in (256, 4, 2):
             yield heads(size, vehicle)
             yield nexts(size, vehicle)
         yield nexts_of_a_table(vehicle)
@@ -151,9 +151,11 @@ def nexts(size, vehicle):
     queue, at = up(story, vehicle, size=size)
     queue.put_chain(bytes_of(vehicle, size))
     put_behind(queue, vehicle, RING, [index for index in values(RIGHT % size) if index >= size])
-    # An index that no value names, nor differs from in one bit.
-    front, first = vehicle.FRONT, size - 1 if size > 4 else 1
+    # An index that no value names.
+    front, first = vehicle.FRONT, {256: 255, 4: 1, 2: 1}[size]
     for following in values(RIGHT % size):
+        if following == first:
+            continue
         queue.put(queue.areas[0] + 16 * first, queue.entry(Buffer(front.address, front.length, front.flags | NEXT, following), 0))
         queue.offer_head(first)
         if following < size:

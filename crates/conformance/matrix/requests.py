@@ -19,9 +19,8 @@ SECTORS = 8
 class Disk:
     """A disk whose request has a header, a buffer for data, and a status, in that order."""
 
-    def __init__(self, story, kind=Split, capacity=SECTORS):
-        self.queue, self.capacity = kind(story, "b", 0, 4).bring_up(), capacity
-        self.kept = None
+    def __init__(self, story, kind=Split):
+        self.queue, self.kept = kind(story, "b", 0, 4).bring_up(), None
 
     def request(self, header, data, status, length=0, more=b"", at=DATA):
         """A request with `data` bytes of data, readable where it writes, and more bytes behind its header; the status and the used
@@ -68,10 +67,14 @@ def stories():
             yield ignored_sectors(kind, name)
         for field in ("sector", "count", "flags"):
             yield segments(kind, field)
+        for name in (IN, OUT, GET_ID, WRITE_ZEROES):
+            yield lengths(kind, name)
+    yield large_disk()
+    yield large_extents()
 
 
-def story_of(name, about, field, bits):
-    return Story(f"bits_requests/{name}", about, shows=[(field, bits)])
+def story_of(name, about, field, bits, **more):
+    return Story(f"bits_requests/{name}", about, shows=[(field, bits)], **more)
 
 
 def try_type(disk, kind, reserved_bits=0, sector=0):
@@ -172,3 +175,93 @@ def restore(disk, sector, count):
         byte = 0 if sector <= one < sector + count else 0x10 + one
         disk.queue.look(DATA + SECTOR * (one - first), 1, bytes([byte]))
     disk.request(header(OUT, sector), SECTOR * count, OK, at=COPY + SECTOR * sector)
+
+
+# --- lengths of data
+
+def is_refused(kind, length, sector):
+    """Whether a request with so many bytes of data is."""
+    if kind in (IN, OUT):
+        return length % SECTOR or sector + length // SECTOR > SECTORS
+    return length < 20 if kind == GET_ID else not length or length % 16 or length > 512
+
+
+def lengths(kind, name):
+    """Lengths that differ in one bit from one that is good, and those of one bit."""
+    story = story_of(f"length_of_{NAMES[name]}_{kind}", f"each bit of how many bytes of data {NAMES[name].upper()} has", "request's length of data", "0..12")
+    disk = Disk(story, KINDS[kind])
+    right = {IN: 1024, OUT: 1024, GET_ID: 20, WRITE_ZEROES: 32}[name]
+    for length in [right ^ 1 << bit for bit in range(13)] + [1 << bit for bit in range(13)]:
+        for sector in (0, 5) if name in (IN, OUT) else (0,):
+            answer = IOERR if is_refused(name, length, sector) else OK
+            used = 0 if answer == IOERR else length + 1 if name == IN else 20 + (length == 20) if name == GET_ID else 0
+            disk.request(header(name, sector), length, answer, used, at=COPY)
+    return story
+
+
+# --- a disk of 260 sectors
+
+MANY = 260
+# The sectors that have content: powers of two, and those before them.
+MARKED = sorted({0} | {1 << bit for bit in range(9)} | {(1 << bit) - 1 for bit in range(1, 9)})
+
+
+def marked(sector):
+    return number(0xa000 + sector, 2) + bytes(SECTOR - 2) if sector in MARKED else bytes(SECTOR)
+
+
+def large_image():
+    return b"".join(marked(sector) for sector in range(MANY))
+
+
+def large_disk():
+    """Reads, writes and zeroes at each power of two."""
+    story = story_of("a_disk_of_260_sectors", "each bit below 9 of a sector, and of a segment's sector and count, leads to another sector",
+                     "request's sector", "0..8, inside", slots=[Slot(count=MANY)], image=large_image())
+    story.shows += [("segment's sector", "0..8, inside"), ("segment's count", "0..8, inside")]
+    disk = Disk(story)
+    for bit in range(9):
+        for sector in ((1 << bit) - 1, 1 << bit):
+            read_back(disk, sector, marked(sector)[:2])
+    for bit in range(9):
+        disk.queue.put(DATA, number(0xb000 + bit, 2) + bytes(SECTOR - 2))
+        disk.request(header(OUT, 1 << bit), SECTOR, OK)
+    for bit in range(9):
+        read_back(disk, 1 << bit, number(0xb000 + bit, 2))
+    for bit in range(9):
+        disk.request(header(WRITE_ZEROES), 0, OK, more=segment(1 << bit, 1))
+        read_back(disk, 1 << bit, bytes(2))
+        disk.queue.put(DATA, number(0xc000 + bit, 2) + bytes(SECTOR - 2))
+        disk.request(header(OUT, 1 << bit), SECTOR, OK)
+    for bit in range(9):
+        disk.request(header(WRITE_ZEROES), 0, OK, more=segment(0, 1 << bit))
+        read_back(disk, (1 << bit) - 1, bytes(2))
+        read_back(disk, 1 << bit, number(0xc000 + bit, 2))
+    disk.request(header(IN, MANY), SECTOR, IOERR)
+    return story
+
+
+def read_back(disk, sector, content):
+    disk.request(header(IN, sector), SECTOR, OK, SECTOR + 1)
+    disk.queue.look(DATA, 2, content)
+
+
+def large_extents():
+    """Extents that begin at a power of two and have as many sectors."""
+    slots = [Slot(start=1 << bit, count=1 << bit if bit < 8 else MANY - 256) for bit in range(9)]
+    story = Story("bits_requests/extents_of_260_sectors", "each bit below 9 of an extent's start leads to another sector, and each bit of its count to another end",
+                  slots, image=large_image(), shows=[("extent's start", "0..8"), ("extent's count", "0..7"), ("capacity, shown", "0..7")])
+    for slot, one in enumerate(slots):
+        queue = Split(story, "b", slot=slot).bring_up()
+        queue.offer([Buffer(HEADER, 16), Buffer(DATA, SECTOR, WRITE), Buffer(STATUS, 1, WRITE)])
+        story.read("b", 0x100, one.count, slot=slot)
+        for turn, sector in enumerate((0, one.count - 1, one.count)):
+            queue.put(HEADER, header(IN, sector))
+            queue.put(STATUS, NOT_YET)
+            if turn:
+                queue.offer_head(0)
+            queue.notify()
+            queue.look(STATUS, 1, bytes([IOERR if sector == one.count else OK]))
+            if sector < one.count:
+                queue.look(DATA, 2, marked(one.start + sector)[:2])
+    return story

@@ -63,6 +63,7 @@ def stories():
         yield packed_flags_without_event_idx(vehicle)
         for size in (256, 5):
             yield packed_place(vehicle, size)
+        yield packed_offsets_of_no_place(vehicle)
         yield split_passed(vehicle)
         yield packed_passed(vehicle)
     for vehicle in VEHICLES:
@@ -248,6 +249,24 @@ def skip(queue, vehicle, count):
     queue.offer([Buffer(ROOM, 0, vehicle.FLAGS)] * (count - 1) + [Buffer(ROOM, 1, vehicle.FLAGS)])
     vehicle.serve(queue, 1, USED)
     queue.acknowledge()
+
+
+def packed_offsets_of_no_place(vehicle):
+    """Services of place 0 and of place N. With wrap 0 and with wrap 1 the offset N would be these, but it names none."""
+    story = Story(f"bits_events/packed_offsets_of_no_place_of_{vehicle.NAME}", "each bit of an offset of N or more counts, in rings of some sizes",
+                  shows=[("event suppression's offset", "0..8, of N or more")])
+    queue = up(story, vehicle, Packed, 24, EVENT_IDX)
+    for size in (24, 96, 192):
+        if size > 24:
+            queue.clear()
+            queue.size = size
+            queue.bring_up_again()
+        for wrap in (0, 0x8000):
+            put_event(queue, size | wrap, 2)
+            one(queue, vehicle, False)
+            put_event(queue, named(queue, queue.place), 2)
+            skip(queue, vehicle, size - 1)
+    return story
 
 
 def split_passed(vehicle):

@@ -1,6 +1,6 @@
 """What is added up over a chain: its readable bytes, its writable bytes, and all of them."""
 from .drivers import FAULT, KINDS, SERVED, WRITE, Buffer
-from .requests import IDENTITY, SECTOR
+from .requests import IDENTITY, OUT, SECTOR, WRITE_ZEROES
 from .story import USED, Slot, Story
 from .vehicles import FLUSH
 
@@ -22,8 +22,11 @@ def stories():
         yield readable(kind)
         yield writable(kind)
         yield sectors(kind)
+        yield data_to_write(kind, OUT)
+        yield data_to_write(kind, WRITE_ZEROES)
         yield received(kind)
         yield whole(kind)
+        yield too_long(kind)
 
 
 def queue_of(kind, name, about, shows, window="b"):
@@ -33,10 +36,11 @@ def queue_of(kind, name, about, shows, window="b"):
     return queue
 
 
-def cut(length, flags=0):
-    """So many bytes as buffers that all begin where the memory does."""
-    whole, rest = divmod(length, LENGTH)
-    return [Buffer(BASE, LENGTH, flags)] * whole + ([Buffer(BASE, rest, flags)] if rest else [])
+def cut(length, flags=0, at=BASE):
+    """So many bytes as buffers that all begin at one address, mostly where the memory does."""
+    size = BASE + LENGTH - at
+    whole, rest = divmod(length, size)
+    return [Buffer(at, size, flags)] * whole + ([Buffer(at, rest, flags)] if rest else [])
 
 
 def served(queue, chain, status_at, length, status=b"\0"):
@@ -100,16 +104,46 @@ def received(kind):
     return queue.story
 
 
+def data_to_write(kind, what):
+    """Data of 2^k bytes, and of 16 or 512 more, all zeros: far more than the disk has, or than 32 segments are."""
+    name, unit = {OUT: ("write", SECTOR), WRITE_ZEROES: ("write_zeroes", 16)}[what]
+    queue = queue_of(kind, f"data_of_a_{name}", f"each bit of how many bytes of data a {name} has", (f"data of a {name}, {kind}", "9..31"))
+    queue.put(HEADER, what.to_bytes(4, "little") + bytes(12))
+    for bit in range(13, 32):
+        for length in (1 << bit, unit | 1 << bit):
+            served(queue, [Buffer(HEADER, 16), *cut(length, at=BASE + 0x2000), Buffer(LAST, 1, WRITE)], LAST, 1, b"\1")
+            # Nothing of the data is the status of the one before.
+            queue.put(LAST, b"\0")
+    return queue.story
+
+
 def whole(kind):
-    """2^32 - 1 bytes of buffers that each have all the bits below 28; one more byte is too long."""
+    """2^32 - 1 bytes of buffers that each have all the bits below 28; then one more byte, in the last buffer or behind it."""
     queue = queue_of(kind, "all_bytes", "a chain of 2^32 - 1 bytes is served, and one of a byte more isn't", (f"bytes of a chain, {kind}", "0..31"))
     size = LENGTH - 1
-    rest = (1 << 32) - 1 - 16 - 15 * size - 1
+    front = [Buffer(HEADER, 16)] + [Buffer(BASE, size, WRITE)] * 15 + [Buffer(BASE, (1 << 32) - 1 - 16 - 15 * size - 1, WRITE)]
+    for ends in ([Buffer(LAST, 1, WRITE)], [Buffer(LAST - 1, 2, WRITE)], [Buffer(LAST, 1, WRITE)] * 2):
+        refused(queue, front + ends, len(ends) == 1 and ends[0].length == 1)
+    return queue.story
+
+
+def refused(queue, chain, is_good):
+    """A chain that is served, or is a fault."""
+    queue.put(HEADER, FLUSH)
+    queue.put(LAST, b"\xee")
+    queue.offer(chain)
+    if is_good:
+        queue.notify()
+    else:
+        queue.notify(FAULT)
+        queue.bring_up_again()
+    queue.look(LAST, 1, b"\0" if is_good else b"\xee")
+
+
+def too_long(kind):
+    """16 buffers of the whole memory are 2^32 bytes; the same with one byte less are served."""
+    queue = queue_of(kind, "sixteen_whole_memories", "sixteen buffers of 2^28 bytes are too long, and a byte less isn't", (f"bytes of a chain, {kind}", "28"))
     for more in (0, 1):
-        queue.put(HEADER, FLUSH)
-        queue.put(LAST - 1, b"\xee\xee")
-        chain = [Buffer(HEADER, 16)] + [Buffer(BASE, size, WRITE)] * 15 + [Buffer(BASE, rest, WRITE), Buffer(LAST - more, 1 + more, WRITE)]
-        queue.offer(chain)
-        queue.notify(FAULT if more else SERVED)
-        queue.look(LAST, 1, b"\xee" if more else b"\0")
+        chain = [Buffer(HEADER, LENGTH - 1 + more)] + [Buffer(BASE, LENGTH, WRITE)] * 15
+        refused(queue, chain, not more)
     return queue.story
