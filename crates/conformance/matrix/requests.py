@@ -69,6 +69,7 @@ def stories():
             yield segments(kind, field)
         for name in (IN, OUT, GET_ID, WRITE_ZEROES):
             yield lengths(kind, name)
+        yield each_sector(kind)
     yield large_disk()
     yield large_extents()
 
@@ -186,12 +187,19 @@ def is_refused(kind, length, sector):
     return length < 20 if kind == GET_ID else not length or length % 16 or length > 512
 
 
+def tried_lengths(right):
+    """Lengths that differ in one bit from one that is good, those of one bit, and the neighbours of these and of what is good."""
+    bits = [1 << bit for bit in range(13)]
+    near = {one + more for one in bits + [SECTOR, 2 * SECTOR, right] for more in (-2, -1, 1, 2)}
+    return sorted({one for one in [right ^ bit for bit in bits] + bits + list(near) if one > 0})
+
+
 def lengths(kind, name):
-    """Lengths that differ in one bit from one that is good, and those of one bit."""
+    """Data of many lengths, of which few are good."""
     story = story_of(f"length_of_{NAMES[name]}_{kind}", f"each bit of how many bytes of data {NAMES[name].upper()} has", "request's length of data", "0..12")
     disk = Disk(story, KINDS[kind])
     right = {IN: 1024, OUT: 1024, GET_ID: 20, WRITE_ZEROES: 32}[name]
-    for length in [right ^ 1 << bit for bit in range(13)] + [1 << bit for bit in range(13)]:
+    for length in tried_lengths(right):
         for sector in (0, 5) if name in (IN, OUT) else (0,):
             answer = IOERR if is_refused(name, length, sector) else OK
             used = 0 if answer == IOERR else length + 1 if name == IN else 20 + (length == 20) if name == GET_ID else 0
@@ -199,7 +207,7 @@ def lengths(kind, name):
     return story
 
 
-# --- a disk of 260 sectors
+# --- a disk of 260 sectors, and each sector of one of eight
 
 MANY = 260
 # The sectors that have content: powers of two, and those before them.
@@ -244,6 +252,25 @@ def large_disk():
 def read_back(disk, sector, content):
     disk.request(header(IN, sector), SECTOR, OK, SECTOR + 1)
     disk.queue.look(DATA, 2, content)
+
+
+def each_sector(kind):
+    """Each sector is written alone, then all are read; each is zeroed alone, then all are read again."""
+    story = story_of(f"each_sector_{kind}", "each sector of eight is written alone and zeroed alone", "request's sector", "0..2")
+    disk = Disk(story, KINDS[kind])
+    holds = [0x10 + sector for sector in range(SECTORS)]
+    for turn in (0, 1):
+        for sector in range(SECTORS):
+            if turn:
+                disk.request(header(WRITE_ZEROES), 0, OK, more=segment(sector, 1))
+            else:
+                disk.queue.put(DATA, bytes([0xa0 + sector]))
+                disk.request(header(OUT, sector), SECTOR, OK)
+            holds[sector] = 0 if turn else 0xa0 + sector
+            disk.request(header(IN), SECTORS * SECTOR, OK, SECTORS * SECTOR + 1, at=COPY)
+            for one in range(SECTORS):
+                disk.queue.look(COPY + SECTOR * one, 1, bytes([holds[one]]))
+    return story
 
 
 def large_extents():
