@@ -272,13 +272,16 @@ def packed_offsets_of_no_place(vehicle):
 def split_passed(vehicle):
     """Services of 2^k chains: the last place of each is in it, the one behind it and those 2^k places on aren't."""
     story = Story(f"bits_events/split_places_passed_of_{vehicle.NAME}", "each bit of how many places a split service passes",
-                  shows=[("places passed, split", "0..8")])
+                  shows=[("places passed, split", "0..8"), ("used idx", "0..9"), ("avail_event", "0..9")])
     queue = up(story, vehicle, Split, 256, EVENT_IDX)
     for bit in range(9):
         for count, event, told in ((1 << bit, (1 << bit) - 1, True), (1 << bit, 1 << bit, False), (1, 1 << bit, False)):
             queue.put(queue.areas[1] + 4 + 512, number(queue.place + event & ALL, 2))
             offer(queue, vehicle, count)
             vehicle.serve(queue, count, USED if told else 0)
+            # The used idx and avail_event.
+            queue.look(queue.areas[2] + 2, 2, number(queue.place, 2))
+            queue.look(queue.areas[2] + 4 + 8 * 256, 2, number(queue.place, 2))
             if told:
                 queue.acknowledge()
     return story
