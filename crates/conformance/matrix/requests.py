@@ -225,9 +225,13 @@ def large_image():
 def large_disk():
     """Reads, writes and zeroes at each power of two."""
     story = story_of("a_disk_of_260_sectors", "each bit below 9 of a sector, and of a segment's sector and count, leads to another sector",
-                     "request's sector", "0..8, inside", slots=[Slot(count=MANY)], image=large_image())
-    story.shows += [("segment's sector", "0..8, inside"), ("segment's count", "0..8, inside")]
+                     "request's sector", "0..8, inside", slots=[Slot(length=0x40000, count=MANY)], image=large_image())
+    story.shows += [("segment's sector", "0..8, inside"), ("segment's count", "0..8, inside"), ("sectors of a read", "0..8, inside")]
     disk = Disk(story)
+    for bit in range(9):
+        length = SECTOR << bit
+        disk.request(header(IN), length, OK, length + 1, at=BASE + 0x10000)
+        disk.queue.look(BASE + 0x10000 + length - SECTOR, 2, marked((1 << bit) - 1)[:2])
     for bit in range(9):
         for sector in ((1 << bit) - 1, 1 << bit):
             read_back(disk, sector, marked(sector)[:2])
