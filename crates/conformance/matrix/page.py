@@ -15,6 +15,13 @@ TABLES = [
     "large",
     "sums",
     "ends",
+    "buffers",
+    "segments",
+    "sectors",
+    "chains",
+    "guests",
+    "orders",
+    "rounds",
 ]
 
 LIST_HEAD = """# The matrix
@@ -26,7 +33,7 @@ shows. Nothing here is written by hand.
 
 MATRIX_HEAD = """# The matrix of fields, positions, orders and ends
 
-Where each bit of each number that a guest or a trace gives decides alone, and each end and position is met.
+Where each bit of each number that a guest or a trace gives decides alone, and each end, position, order of checks and later round is met.
 `matrix/make` makes this page and [the scenarios](data/matrix/README.md); [matrix](matrix) has the tables.
 """
 
@@ -58,7 +65,8 @@ def matrix(stories):
     text = MATRIX_HEAD
     for table in tables():
         rows = [(field, bits, story.name) for story in table.stories() for field, bits in story.shows]
-        text += f"\n## {table.TITLE}\n\n{table.HOW}\n\n| Field | Bits | Shown in |\n|---|---|---|\n"
+        columns = " | ".join(getattr(table, "COLUMNS", ("Field", "Bits")))
+        text += f"\n## {table.TITLE}\n\n{table.HOW}\n\n| {columns} | Shown in |\n|---|---|---|\n"
         for field, bits in dict.fromkeys((field, bits) for field, bits, _ in rows):
             names = [name for one, two, name in rows if (one, two) == (field, bits)]
             text += f"| {field} | {bits} | {grouped(names)} |\n"

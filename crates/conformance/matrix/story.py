@@ -79,6 +79,8 @@ class Story:
         self.image, self.fails, self.fault, self.shows = image, fails, fault, list(shows)
         self.version = 1 if all(slot.identity is None for slot in self.slots) else 2
         self.lines, self.said = [], []
+        # The image afterwards and how often it was flushed, where a rule says it.
+        self.leaves = None
         self.words = {(slot, window): 0 for slot in range(len(self.slots)) for window in "bc"}
 
     # --- events
@@ -143,6 +145,8 @@ class Story:
         text = self.trace().encode()
         output, status, image = model.replay(text, before, set(self.fails or ()), (), reader.fault_of)
         self.compare(output, status)
+        if self.leaves and self.leaves != (bytes(image.bytes), image.flushes):
+            raise Disagrees(f"{self.name}: the model leaves another image, or {image.flushes} flushes")
         found = {".trace": text.decode(), ".records": f"{output}status {status}\n"}
         if self.image is not None and self.image != plain_image():
             found[".before"] = "".join(before[at:at + SECTOR].hex() + "\n" for at in range(0, len(before), SECTOR))
