@@ -1,6 +1,6 @@
 # The two commands of the README, the library and its installing, the measurements, tries from outside, the hosts of the
 # library, and the suite. The first sentence above a target is its line in make help.
-.PHONY: run show vshow look-test look-picture show-check test help library install uninstall bench fuzz broken trouble embed linux linux-test linux-picture stress doors peer mutants
+.PHONY: run show vshow look-test look-picture show-check test help library install uninstall bench fuzz broken trouble embed linux linux-test linux-picture stress doors peer mutants matrix
 
 TRACE ?= examples/two-guests.trace
 IMAGE ?=
@@ -128,3 +128,7 @@ peer:
 # Makes wrong devices out of a small model, and runs over each the scenario that it must fail.
 mutants:
 	@crates/conformance/mutants/run
+
+# Makes the scenarios of the matrix anew from their tables, and compares them with what is checked in.
+matrix:
+	@crates/conformance/matrix/make

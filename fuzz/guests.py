@@ -8,7 +8,7 @@ hostile guest runs the same drivers, but twists what they write into memory, and
 from collections import namedtuple
 
 from probes import Probes
-from queues import PackedQueue, SplitQueue
+from queues import INDIRECT, PackedQueue, SplitQueue
 
 Slot = namedtuple("Slot", "base length start count read_only columns rows identity")
 
@@ -29,6 +29,7 @@ IDENTITY_TEXT = b"vreplay-block".ljust(20, b"\0")
 PENDING_LIMIT = 4096
 
 # What a hostile guest picks from.
+ODD_COUNTS = [1, 2, 3, 15, 16, 17, 31, 32, 33, 127, 128, 129, 255, 256, 257]
 ODD_TYPES = [0, 0, 0, 1, 1, 4, 8, 11, 13, 1 << 31]
 ODD_STATUSES = [0, 1, 3, 4, 8, 0xB, 0xF, 0x40, 0x80, 0xFF, 0xFFFFFFFF]
 ODD_NUMBERS = [0, 1, 2, 3, 4, 15, 16, 17, 255, 256, 257, 0x7FFF, 0x8000, 0xFFFF, 0x10000, 0x7FFFFFFF,
@@ -296,7 +297,7 @@ class Mischief:
     def __init__(self, guest, drivers, types):
         self.guest, self.drivers, self.dice = guest, drivers, guest.dice
         self.ways = [self.odd_request] * 6 + [self.odd_zero] * 2 + [self.scribble, self.jump, self.notify, self.notify] + [self.restart] * 4
-        self.ways += [self.register, self.register, self.odd_read, self.status, self.move, self.outside]
+        self.ways += [self.register, self.register, self.odd_read, self.status, self.move, self.outside, self.long_table]
         self.ways += [self.type] if types else []
 
     def step(self):
@@ -311,14 +312,17 @@ class Mischief:
     def number(self):
         """A number at which something may go wrong."""
         dice = self.dice
-        return dice.choice(ODD_NUMBERS + [self.address(), dice.randrange(1 << 32), dice.randrange(1 << 64)])
+        bit = 1 << dice.randrange(64)
+        return dice.choice(ODD_NUMBERS + [self.address(), dice.randrange(1 << 32), dice.randrange(1 << 64), bit, bit ^ 1, bit - 1])
 
     def address(self):
-        """An address, most times in the guest's memory, often in the areas of a virtqueue."""
-        slot, queue = self.guest.slot, self.queue()
-        ends = [slot.base, slot.base + slot.length, slot.base + slot.length // 2]
-        areas = [queue.at, queue.driver_area, queue.device_area, queue.at + self.dice.randrange(0x400)]
-        return (self.dice.choice(ends + 2 * areas) + self.dice.choice([0, 0, 0, -1, 1, 2, 16])) % (1 << 64)
+        """An address, most times in the guest's memory, often in the areas of a virtqueue or at an end, now and then with one bit
+        turned."""
+        dice, slot, queue = self.dice, self.guest.slot, self.queue()
+        ends = [slot.base, slot.base + slot.length, slot.base + slot.length // 2, dice.choice([0, 1 << 64])]
+        areas = [queue.at, queue.driver_area, queue.device_area, queue.at + dice.randrange(0x400)]
+        turned = 1 << dice.randrange(64) if dice.random() < 0.1 else 0
+        return (dice.choice(ends + 2 * areas) + dice.choice([0, 0, 0, -1, 1, 2, -16, 16])) % (1 << 64) ^ turned
 
     def odd_request(self):
         """A request of any type at any sector, over any buffers."""
@@ -371,6 +375,22 @@ class Mischief:
         address = queue.buffer(512) if dice.random() < 0.5 else self.address()
         length = dice.choice([0, 1, 16, 20, 511, 512, 512, 513, 1024, self.number() % (1 << 32)])
         return address, length, dice.random() < 0.6
+
+    def long_table(self):
+        """A table of many small buffers, of which one is odd: the first, the second, one in the middle, or the last."""
+        guest, dice, queue = self.guest, self.dice, self.queue()
+        queue.give_buffers_back()
+        count = dice.choice(ODD_COUNTS)
+        header, small, table = queue.buffer(16), queue.buffer(1), queue.buffer(16 * count)
+        guest.put(header, dice.choice(ODD_TYPES).to_bytes(16, "little"))
+        buffers = [(header, 16, False)] + [(small, dice.randrange(2), dice.random() < 0.5) for _ in range(count - 1)]
+        buffers[dice.choice([0, 1, count // 2, count - 1]) % count] = self.odd_buffer(queue)
+        guest.put(table, b"".join(queue.table_entry(buffer, number, count) for number, buffer in enumerate(buffers)))
+        queue.offer([(table, 16 * count, False)], INDIRECT)
+        queue.publish()
+        guest.write(queue.window, 0x050, queue.notification())
+        queue.look_at_used()
+        guest.read(queue.window, 0x070)
 
     def scribble(self):
         """Bytes over a virtqueue's areas."""

@@ -71,8 +71,18 @@ class Queue:
         fields = [address, length, flags | (WRITE if is_writable else 0), link]
         if self.guest.dice.random() < self.guest.wildness / 4:
             self.twist(fields)
-        address, length, flags, link = (value.to_bytes(size, "little") for value, size in zip(fields, (8, 4, 2, 2)))
-        self.guest.put(at, address + length + self.last_fields(flags, link))
+        self.guest.put(at, self.spelled(*fields))
+
+    def spelled(self, address, length, flags, link):
+        """A descriptor's bytes."""
+        address, length, flags, link = (value.to_bytes(size, "little") for value, size in zip((address, length, flags, link), (8, 4, 2, 2)))
+        return address + length + self.last_fields(flags, link)
+
+    def table_entry(self, buffer, number, count):
+        """The bytes of an entry of a table of so many, which are joined in their order."""
+        address, length, is_writable = buffer
+        last = number + 1 == count
+        return self.spelled(address, length, (WRITE if is_writable else 0) | (0 if last else NEXT), 0 if last else number + 1)
 
     def twist(self, fields):
         """Makes one field of a descriptor something that nobody would write."""
@@ -108,8 +118,9 @@ class SplitQueue(Queue):
     def next_place(self):
         return self.idx
 
-    def offer(self, buffers):
-        buffers, flags = self.in_table(buffers)
+    def offer(self, buffers, flags=None):
+        if flags is None:
+            buffers, flags = self.in_table(buffers)
         head = self.size - self.left
         for number, buffer in enumerate(buffers):
             place, last = head + number, number + 1 == len(buffers)
@@ -152,8 +163,9 @@ class PackedQueue(Queue):
     def next_place(self):
         return self.position | self.wrap << 15
 
-    def offer(self, buffers):
-        buffers, flags = self.in_table(buffers)
+    def offer(self, buffers, flags=None):
+        if flags is None:
+            buffers, flags = self.in_table(buffers)
         name = self.guest.dice.randrange(1 << 16)
         for number, buffer in enumerate(buffers):
             link = NEXT if number + 1 < len(buffers) else 0

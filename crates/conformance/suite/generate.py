@@ -33,12 +33,12 @@ def polish(queue, has_event_idx):
     pieces, offer, events = queue.pieces, queue.offer, queue.guest.events
     is_packed, queue.has_asked = isinstance(queue, guests.PackedQueue), False
 
-    def offer_politely(buffers):
+    def offer_politely(buffers, flags=None):
         if not queue.has_asked:
             ask_for_notifications(queue, has_event_idx)
         before = len(events)
         head = f"{queue.at + 16 * queue.position:x} " if is_packed else None
-        offer(buffers)
+        offer(buffers, flags)
         if is_packed:
             first = next(at for at in range(before, len(events)) if events[at][1].startswith(head))
             events.append(events.pop(first))

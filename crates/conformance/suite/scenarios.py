@@ -7,7 +7,8 @@ import re
 from . import trace
 
 CRATE = os.path.dirname(os.path.dirname(os.path.abspath(__file__)))
-FOLDER = os.path.join(CRATE, "data", "scenarios")
+# The worked scenarios, and those that are made from tables.
+FOLDERS = [os.path.join(CRATE, "data", name) for name in ("scenarios", "matrix")]
 SECTOR = 512
 
 
@@ -20,7 +21,7 @@ class Scenario:
 
     def __init__(self, name, about, folder):
         self.name, self.about = name, about
-        self.subject = name.split("/")[0]
+        self.subject, self.part = name.split("/")[0], os.path.basename(folder)
         self.path = os.path.join(folder, name)
 
     def read(self, end):
@@ -76,14 +77,19 @@ class Scenario:
         return bytes(image)
 
     def is_called(self, word):
-        """Whether a word names it: its name, its subject, a pattern of names, or a feature."""
-        return word in (self.name, self.subject) or word in self.features or fnmatch.fnmatchcase(self.name, word)
+        """Whether a word names it: its name, its subject, its part, a pattern of names, or a feature."""
+        return word in (self.name, self.subject, self.part) or word in self.features or fnmatch.fnmatchcase(self.name, word)
 
 
 LISTED = re.compile(r"- `([^`]*)`:? ?(.*)")
 
 
-def load(folder=FOLDER):
+def load():
+    """All scenarios, first the worked ones."""
+    return [scenario for folder in FOLDERS for scenario in load_folder(folder)]
+
+
+def load_folder(folder):
     """All scenarios of a folder, in the order of its page."""
     try:
         with open(os.path.join(folder, "README.md"), encoding="utf-8") as page:
