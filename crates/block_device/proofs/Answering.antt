@@ -1,7 +1,9 @@
 -- From a request that is done to a chain that is served: the status is written last.
-use Rattle.std.proofs.Common.{◌≡◌, inl, inr, ℕ, zero, suc, ◌+◌, ◌-◌, ◌*◌, ◌^◌, ◌<◌, ◌≤◌, true, false, Option, Some, None, List, [], ◌∷◌, ◌++◌, length, map, drop, replicate, refl, sym, ap, subst, ◌∙◌, arith, append_assoc, length-append, length-drop}
+use Rattle.std.proofs.Common.{◌≡◌, Bool, inl, inr, ℕ, zero, suc, ◌+◌, ◌-◌, ◌*◌, ◌^◌, ◌<◌, ◌≤◌, true, false, Option, Some, None, List, [], ◌∷◌, ◌++◌, length, map, drop, replicate, refl, sym, ap, subst, ◌∙◌, arith, append_assoc, length-append, length-drop}
 use Rattle.std.proofs.Math.Bool.{or-true}
+use Rattle.std.specs.Prelude.{◌≢◌}
 use Rattle.std.proofs.lemmas.Bool.{cases_lt}
+use Rattle.std.proofs.lemmas.Bool.Decides.{nat_tests}
 use Rattle.std.proofs.lemmas.List.{length-map, length-replicate}
 use Rattle.guest_memory.specs.Memory.{Memory}
 use Rattle.chain.specs.declared.segment.Buffer.{Buffer}
@@ -16,10 +18,13 @@ use Rattle.block_device.specs.declared.extent.Extent.{Extent}
 use Rattle.block_device.specs.declared.request.RequestStatus.{RequestStatus}
 use Rattle.block_device.specs.declared.request.RequestStatus.TheVariants.{Success, IoError}
 use Rattle.block_device.specs.declared.request.Request.{Request}
-use Rattle.block_device.specs.declared.request.Request.TheVariants.{Rejected, Write, Flush, GetId, WriteZeroes}
+use Rattle.block_device.specs.declared.request.Request.TheVariants.{Rejected, Read, Write, Flush, GetId, WriteZeroes}
 use Rattle.block_device.specs.Extent.{extent_disk}
 use Rattle.block_device.specs.Request.{request_of, payload_of, code_of}
 use Rattle.block_device.specs.Outcome.{Ends}
+use Rattle.block_device.specs.Asking.{asks_image, found_by, used_by, with_status}
+use Rattle.block_device.specs.declared.verdict.Verdict.{Verdict}
+use Rattle.block_device.specs.declared.verdict.Verdict.TheVariants as verdict
 use Rattle.block_device.specs.Device.{block_device, GivesBy}
 use Rattle.block_device.specs.Progress.{IsServable, IsDone}
 use Rattle.block_device.proofs.Endings.{nothing_found}
@@ -37,6 +42,13 @@ write_fits m buffers capacity request sector count room good is servable =
     let P : Request → Type 0 = λ r. IsServable capacity r (payload_of (readable_of m buffers)) room in
     let here : P (Write sector count) = subst P is servable in
     omega (arith, here.1, readable_few m buffers good, length-drop 16 (readable_of m buffers))
+
+pub read_fits : (m : Memory) (buffers : List Buffer) (capacity : ℕ) (request : Request) (sector count room : ℕ) (payload : List ℕ) → Good m buffers → request ≡ Read sector count
+    → IsServable capacity request payload room → length (writable_of buffers) ≡ room + 1 → 512 * count < 2 ^ 64
+read_fits m buffers capacity request sector count room payload good is servable all =
+    let P : Request → Type 0 = λ r. IsServable capacity r payload room in
+    let here : P (Read sector count) = subst P is servable in
+    omega (arith, here.1, all, writable_few m buffers good)
 
 pub zeroes_fit : (m : Memory) (buffers : List Buffer) (capacity : ℕ) (request : Request) (segments room : ℕ) → Good m buffers → request ≡ WriteZeroes segments
     → IsServable capacity request (payload_of (readable_of m buffers)) room → 16 * segments < 2 ^ 64
@@ -144,3 +156,50 @@ answer_does device m done new buffers disk disk' request room len used status al
           | inl some ↦ part some ∙ e ∙ sym (used_len-found found room (code_of status) (omega (arith, e)))
           | inr rest ↦ whole (omega arith) ∙ sym (used_len-status found room (code_of status) (omega (arith, e)))
         ]
+
+-- ---- from a request that is done to one whose status is written
+
+used_whole : (len w : ℕ) → len + 1 ≡ w → used_by len w ≡ w
+used_whole len w e = grind (arith, nat_tests)
+
+used_part : (len w : ℕ) → len + 1 < w → used_by len w ≡ len
+used_part len w h = grind (arith, nat_tests)
+
+pub used_fits : (m : Memory) (buffers : List Buffer) (len : ℕ) → Good m buffers → len < length (writable_of buffers) → used_by len (length (writable_of buffers)) < 2 ^ 32
+used_fits m buffers len good h =
+    elim (cases_lt (len + 1) (length (writable_of buffers))) [
+      | inl some ↦ let e = used_part len (length (writable_of buffers)) some in omega (arith, e, h, writable_few m buffers good)
+      | inr rest ↦ let e = used_whole len (length (writable_of buffers)) (omega (arith, rest, h)) in omega (arith, e, writable_few m buffers good)
+    ]
+
+-- The chain of a request that is done is served once its status is written behind all else.
+pub finished_does : (device : BlockDevice) (m done new : Memory) (buffers : List Buffer) (disk disk' : Disk) (request : Request) (room len used : ℕ) (status : RequestStatus) (any : Bool)
+    → length (writable_of buffers) ≡ room + 1 → request ≡ request_of device (readable_of m buffers) room
+    → IsDone device.identity request buffers m done disk disk' len status → len < length (writable_of buffers)
+    → new ≡ with_status done buffers status → used ≡ used_by len (length (writable_of buffers)) → any ≡ true
+    → Does (block_device device) m new buffers disk disk' used any
+finished_does device m done new buffers disk disk' request room len used status any all is d fits put uses any_is =
+    let last : length (writable_of buffers) - 1 ≡ room = omega (arith, all) in
+    rw any_is (answer_does device m done new buffers disk disk' request room len used status all is d (omega (arith, fits, all))
+    (put ∙ ap (λ k. scatter done (drop k (writable_of buffers)) (code_of status ∷ [])) last)
+    (λ whole. uses ∙ used_whole len (length (writable_of buffers)) (omega (arith, whole, all)) ∙ all)
+    (λ part. uses ∙ used_part len (length (writable_of buffers)) (omega (arith, part, all))))
+
+-- a request that is neither refused nor asks for the identity asks the image
+pub asks_by : (request : Request) → ((status : RequestStatus) → request ≢ Rejected status) → request ≢ GetId → asks_image request ≡ true
+asks_by (Rejected status) p q = absurd (p status refl)
+asks_by (Read sector count) p q = refl
+asks_by (Write sector count) p q = refl
+asks_by Flush p q = refl
+asks_by GetId p q = absurd (q refl)
+asks_by (WriteZeroes segments) p q = refl
+
+-- what the caller has put in place leaves room for the status
+pub found_less : (request : Request) (answer : Verdict) (w : ℕ) → 0 < w → found_by request answer (w - 1) < w
+found_less (Rejected status) answer w h = h
+found_less (Read sector count) verdict.Done w h = omega (arith, h)
+found_less (Read sector count) verdict.Failed w h = h
+found_less (Write sector count) answer w h = h
+found_less Flush answer w h = h
+found_less GetId answer w h = h
+found_less (WriteZeroes segments) answer w h = h

@@ -11,4 +11,5 @@ pub mod Pieces
 pub mod Requests
 pub mod SomeAnswer
 pub mod Transfers
+pub mod Unasked
 pub mod Zeroing

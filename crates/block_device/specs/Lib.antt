@@ -1,6 +1,8 @@
+pub mod Asking
 pub mod Config
 pub mod Device
 pub mod Extent
+pub mod Hosting
 pub mod Outcome
 pub mod Progress
 pub mod Request

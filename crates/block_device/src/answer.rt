@@ -1,18 +1,23 @@
 //! One chain, from its header to its status byte.
 
-ghost use Rattle.std.specs.Prelude.{◌≡◌, ◌+◌, ◌^◌, ◌<◌, ◌≤◌, length};
+ghost use Rattle.std.specs.Prelude.{◌≡◌, ℕ, ◌+◌, ◌-◌, ◌^◌, ◌<◌, ◌≤◌, true, length};
+ghost use Rattle.guest_memory.specs.Memory.{Memory};
 ghost use Rattle.guest_memory.specs.Memory.{SameRange};
 ghost use Rattle.chain.specs.Buffers.{Good};
-ghost use Rattle.chain.specs.Bytes.{readable_of, writable_of};
+ghost use Rattle.chain.specs.Bytes.{writable_of};
 ghost use Rattle.chain.specs.Service.{Does};
+ghost use Rattle.sector_cache.specs.Disk.{Disk};
+ghost use Rattle.block_device.specs.Asking.{Begins, IsAsked, IsCompleted, found_by, status_by, used_by, with_status};
 ghost use Rattle.block_device.specs.Device.{block_device};
 ghost use Rattle.block_device.specs.Extent.{CallsWithin, IsWithin, extent_disk};
-ghost use Rattle.block_device.specs.Request.{code_of, payload_of};
-ghost use Rattle.block_device.specs.Progress.{IsServable, IsDone};
+ghost use Rattle.block_device.specs.Request.{code_of};
+ghost use Rattle.block_device.specs.Progress.{IsDone};
+ghost use Rattle.block_device.specs.declared.device.BlockDevice.{BlockDevice};
 
 use crate::device::BlockDevice;
 use crate::request::{ID_LEN, Request, RequestStatus};
 use crate::transfer::Done;
+use crate::verdict::Verdict;
 use chain::Chain;
 use guest_memory::GuestMemory;
 use sector_cache::{Image, SectorCache};
@@ -27,6 +32,24 @@ pub(crate) struct Answer {
     pub wrote: bool,
     /// Whether an image call failed; the used entry doesn't say so.
     pub failed: bool,
+}
+
+impl Answer {
+    /// Of a chain without a writable byte: nothing is done.
+    const NOTHING: Answer = Answer {
+        len: 0,
+        wrote: false,
+        failed: false,
+    };
+}
+
+/// What a chain comes to before the image is asked.
+#[derive(Clone, Copy, Debug, PartialEq, Eq)]
+pub(crate) enum Begun {
+    /// It is answered.
+    Answered(Answer),
+    /// It asks the image for this.
+    Asks(Request),
 }
 
 impl RequestStatus {
@@ -58,52 +81,65 @@ impl BlockDevice {
         ensures calls { CallsWithin self.now.extent result.failed (I.disk cache.old) (I.disk cache.new) }
         ensures range { SameRange mem.old mem.new }
     {
-        let writable = chain.writable_len();
-        if writable == 0 {
-            return Answer {
-                len: 0,
-                wrote: false,
-                failed: false,
-            };
-        }
-        let room = writable - 1;
-        let request = self.request(mem, chain, room);
-        let done = self.perform(request, mem, chain, cache, room);
-        chain.write_at(mem, room, &[done.status.code()]);
-        let len = if done.len == room { writable } else { done.len };
-        Answer {
-            len: len as u32,
-            wrote: true,
-            failed: done.failed,
+        match self.begin(mem, chain) {
+            Begun::Answered(answer) => answer,
+            Begun::Asks(request) => {
+                let done = self.perform(request, mem, chain, cache);
+                finish(mem, chain, done)
+            }
         }
     }
 
-    /// Does all of a request but its status, which goes behind `room` bytes.
+    /// Answers a chain as far as that needs no image.
+    pub(crate) fn begin<M: Allocator>(&self, mem: &mut GuestMemory<M>, chain: &Chain) -> Begun
+        requires good { Good mem.old chain.now }
+        ensures begun { Begins self.now mem.old mem.new chain.now result }
+        ensures range { SameRange mem.old mem.new }
+    {
+        let writable = chain.writable_len();
+        if writable == 0 {
+            return Begun::Answered(Answer::NOTHING);
+        }
+        match self.request(mem, chain, writable - 1) {
+            Request::Rejected(status) => {
+                let done = Done {
+                    status,
+                    ..Done::SUCCEEDED
+                };
+                Begun::Answered(finish(mem, chain, done))
+            }
+            Request::GetId => {
+                chain.write_at(mem, 0, &self.identity);
+                let done = Done {
+                    len: ID_LEN,
+                    ..Done::SUCCEEDED
+                };
+                Begun::Answered(finish(mem, chain, done))
+            }
+            request => Begun::Asks(request),
+        }
+    }
+
+    /// Does all of a request but its status.
     fn perform<I: Image, M: Allocator, C: Allocator + Copy>(
         &self,
         request: Request,
         mem: &mut GuestMemory<M>,
         chain: &Chain,
         cache: &mut SectorCache<I, C>,
-        room: u64,
     ) -> Done
         requires good { Good mem.old chain.now }
         requires lies { IsWithin (I.disk cache.old).sector_count self.now.extent }
-        requires servable { IsServable self.now.extent.count request
-            (payload_of (readable_of mem.old chain.now)) room }
-        requires room { room + 1 ≡ length (writable_of chain.now) }
+        requires asked { IsAsked self.now mem.old chain.now request }
         ensures done { IsDone self.now.identity request chain.now mem.old mem.new
             (extent_disk self.now.extent (I.disk cache.old))
             (extent_disk self.now.extent (I.disk cache.new)) result.len result.status }
-        ensures room { result.len ≤ room }
+        ensures room { result.len < length (writable_of chain.now) }
         ensures calls { CallsWithin self.now.extent result.failed (I.disk cache.old) (I.disk cache.new) }
         ensures range { SameRange mem.old mem.new }
     {
         match request {
-            Request::Rejected(status) => Done {
-                status,
-                ..Done::SUCCEEDED
-            },
+            Request::Rejected(_) => unreachable!(),
             Request::Read { sector, count } => self.read_sectors(mem, chain, cache, sector, count),
             Request::Write { sector, count } => {
                 self.write_sectors(mem, chain, cache, sector, count)
@@ -112,14 +148,51 @@ impl BlockDevice {
                 Ok(()) => Done::SUCCEEDED,
                 Err(_) => Done::FAILED,
             },
-            Request::GetId => {
-                chain.write_at(mem, 0, &self.identity);
-                Done {
-                    len: ID_LEN,
-                    ..Done::SUCCEEDED
-                }
-            }
+            Request::GetId => unreachable!(),
             Request::WriteZeroes { segments } => self.zero_segments(mem, chain, cache, segments),
         }
+    }
+}
+
+/// Completes the request of a chain, which asked an image that the caller serves: what an IN was to read stands in
+/// memory, where it was done.
+pub(crate) fn complete<M: Allocator>(
+    mem: &mut GuestMemory<M>,
+    chain: &Chain,
+    request: Request,
+    verdict: Verdict,
+) -> Answer
+    requires good { Good mem.old chain.now }
+    requires status { 0 < length (writable_of chain.now) }
+    ensures completed { IsCompleted request verdict chain.now mem.old mem.new result.len }
+    ensures wrote { result.wrote ≡ true }
+    ensures does { (device : BlockDevice) (asked : Memory) (disk after : Disk) →
+        IsAsked device asked chain.now request →
+        IsDone device.identity request chain.now asked mem.old disk after (found_by request verdict (length (writable_of chain.now) - 1)) (status_by verdict) →
+        Does (block_device device) asked mem.new chain.now disk after result.len result.wrote }
+    ensures range { SameRange mem.old mem.new }
+{
+    let room = chain.writable_len() - 1;
+    finish(mem, chain, Done::by(request, verdict, room))
+}
+
+/// Writes the status of a request that is done, behind all other writable bytes.
+fn finish<M: Allocator>(mem: &mut GuestMemory<M>, chain: &Chain, done: Done) -> Answer
+    requires good { Good mem.old chain.now }
+    requires room { done.len < length (writable_of chain.now) }
+    ensures status { mem.new ≡ with_status mem.old chain.now done.status }
+    ensures len { result.len ≡ used_by done.len (length (writable_of chain.now)) }
+    ensures wrote { result.wrote ≡ true }
+    ensures failed { result.failed ≡ done.failed }
+    ensures range { SameRange mem.old mem.new }
+{
+    let writable = chain.writable_len();
+    let room = writable - 1;
+    chain.write_at(mem, room, &[done.status.code()]);
+    let len = if done.len == room { writable } else { done.len };
+    Answer {
+        len: len as u32,
+        wrote: true,
+        failed: done.failed,
     }
 }

@@ -107,7 +107,7 @@ impl BlockDevice {
 
 /// What the window shows of a queue that is left so: nothing of one that stands open; else a used buffer where the
 /// driver wants to be told of one, and after a fault that a reset is needed.
-fn show(window: &mut Window, left: Left) -> Progress
+pub(crate) fn show(window: &mut Window, left: Left) -> Progress
     ensures progress { result ≡ progress_of left }
     ensures after { window.new ≡ shown left window.old }
     ensures sound { (m : Memory) → IsSound m window.old → IsSound m window.new }

@@ -7,12 +7,14 @@ ghost use Rattle.guest_memory.specs.Memory.{SameRange};
 ghost use Rattle.chain.specs.Buffers.{Within};
 ghost use Rattle.chain.specs.Bytes.{readable_of, writable_of};
 ghost use Rattle.block_device.specs.declared.request.Request.TheVariants.{Read, Write};
+ghost use Rattle.block_device.specs.Asking.{found_by, status_by};
 ghost use Rattle.block_device.specs.Extent.{CallsWithin, IsWithin, extent_disk, sector_len};
 ghost use Rattle.block_device.specs.Request.{payload_of};
 ghost use Rattle.block_device.specs.Progress.{IsDone};
 
 use crate::device::BlockDevice;
-use crate::request::{HEADER_LEN, RequestStatus, SECTOR_LEN};
+use crate::request::{HEADER_LEN, Request, RequestStatus, SECTOR_LEN};
+use crate::verdict::Verdict;
 use chain::Chain;
 use guest_memory::GuestMemory;
 use sector_cache::{Image, SectorCache};
@@ -42,6 +44,21 @@ impl Done {
         status: RequestStatus::Success,
         failed: false,
     };
+
+    /// What the caller's answer comes to, where `room` bytes come before the status.
+    pub(crate) fn by(request: Request, verdict: Verdict, room: u64) -> Done
+        ensures len { result.len ≡ found_by request verdict room }
+        ensures status { result.status ≡ status_by verdict }
+    {
+        match (verdict, request) {
+            (Verdict::Failed, _) => Done::FAILED,
+            (Verdict::Done, Request::Read { .. }) => Done {
+                len: room,
+                ..Done::SUCCEEDED
+            },
+            (Verdict::Done, _) => Done::SUCCEEDED,
+        }
+    }
 }
 
 impl BlockDevice {

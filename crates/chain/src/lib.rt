@@ -12,6 +12,7 @@ mod buffers;
 mod bytes;
 mod fault;
 mod laws;
+mod runs;
 mod segment;
 mod virtqueue;
 

@@ -12,7 +12,7 @@ use Rattle.mmio_window.specs.declared.interrupts.Interrupts.{Interrupts}
 use Rattle.mmio_window.specs.declared.queue.Queue.{Queue}
 use Rattle.mmio_window.specs.declared.queue_registers.QueueRegisters.{QueueRegisters}
 use Rattle.mmio_window.specs.declared.register.Register.{Register}
-use Rattle.mmio_window.specs.declared.register.Register.TheVariants.{QueueReady}
+use Rattle.mmio_window.specs.declared.register.Register.TheVariants.{QueueNum, QueueReady, Status, QueueDescLow, QueueDescHigh, QueueDriverLow, QueueDriverHigh, QueueDeviceLow, QueueDeviceHigh}
 use Rattle.mmio_window.specs.DeviceKind.{queue_of}
 use Rattle.mmio_window.specs.QueueRegisters.{queue_written, ring_of, set_up}
 use Rattle.mmio_window.specs.Reading.{configuration_offset}
@@ -115,3 +115,31 @@ ready_queue_stays offset width value m w q old new e was e' is =
 pub generation_stays : GenerationStays
 generation_stays offset width value m w =
     (Stays-written (nat_lt offset configuration_offset && width == 4) (register_at offset) value m w).generation
+
+-- ---- a queue that stands open while its device works
+
+-- whether a write of this register leaves every ready queue as it is
+abbrev pub leaves_queues : Register → Bool
+leaves_queues Status = false
+leaves_queues QueueReady = false
+leaves_queues register = true
+
+held_written : (register : Register) (value : ℕ) (m : Memory) (w : WindowState) → ((old : QueueRegisters) → IsSome old.ring → queue_written register value m w.negotiation old ≡ old)
+    → (queue : Option QueueIndex) → IsSome w.queue_0.ring → (with_registers_in queue (queue_written register value m w.negotiation) w).queue_0 ≡ w.queue_0
+held_written register value m w stays None was = refl
+held_written register value m w stays (Some Queue0) was = stays w.queue_0 was
+held_written register value m w stays (Some Queue1) was = refl
+
+-- A ready queue stays under every write but those of Status and QueueReady.
+pub queue_is_held : (register : Register) (value : ℕ) (m : Memory) (w : WindowState) → leaves_queues register ≡ true → IsSome w.queue_0.ring
+    → (register_written register value m w).queue_0 ≡ w.queue_0
+queue_is_held Status value m w leaves was = cc
+queue_is_held QueueReady value m w leaves was = cc
+queue_is_held QueueNum value m w leaves was = held_written QueueNum value m w (λ old is. set_up_stays old (set_up QueueNum value old) old.ring is) (queue_of w.kind w.queue_sel) was
+queue_is_held QueueDescLow value m w leaves was = held_written QueueDescLow value m w (λ old is. set_up_stays old (set_up QueueDescLow value old) old.ring is) (queue_of w.kind w.queue_sel) was
+queue_is_held QueueDescHigh value m w leaves was = held_written QueueDescHigh value m w (λ old is. set_up_stays old (set_up QueueDescHigh value old) old.ring is) (queue_of w.kind w.queue_sel) was
+queue_is_held QueueDriverLow value m w leaves was = held_written QueueDriverLow value m w (λ old is. set_up_stays old (set_up QueueDriverLow value old) old.ring is) (queue_of w.kind w.queue_sel) was
+queue_is_held QueueDriverHigh value m w leaves was = held_written QueueDriverHigh value m w (λ old is. set_up_stays old (set_up QueueDriverHigh value old) old.ring is) (queue_of w.kind w.queue_sel) was
+queue_is_held QueueDeviceLow value m w leaves was = held_written QueueDeviceLow value m w (λ old is. set_up_stays old (set_up QueueDeviceLow value old) old.ring is) (queue_of w.kind w.queue_sel) was
+queue_is_held QueueDeviceHigh value m w leaves was = held_written QueueDeviceHigh value m w (λ old is. set_up_stays old (set_up QueueDeviceHigh value old) old.ring is) (queue_of w.kind w.queue_sel) was
+queue_is_held register value m w leaves was = refl

@@ -1,0 +1,67 @@
+-- A request in two parts: what is answered without the image, and, where the image is asked, what its answer leads to.
+use Rattle.std.specs.Prelude.{◌≡◌, ℕ, zero, suc, ◌+◌, ◌-◌, ◌==◌, Bool, true, false, if◌then◌else◌, List, [], ◌∷◌, length, drop}
+use Rattle.guest_memory.specs.Memory.{Memory}
+use Rattle.chain.specs.declared.segment.Buffer.{Buffer}
+use Rattle.chain.specs.Bytes.{readable_of, writable_of, scatter}
+use Rattle.chain.specs.Service.{Does}
+use Rattle.sector_cache.specs.Disk.{Disk}
+use Rattle.block_device.specs.declared.answer.Begun.{Begun}
+use Rattle.block_device.specs.declared.answer.Begun.TheVariants.{Answered, Asks}
+use Rattle.block_device.specs.declared.device.BlockDevice.{BlockDevice}
+use Rattle.block_device.specs.declared.request.RequestStatus.{RequestStatus}
+use Rattle.block_device.specs.declared.request.RequestStatus.TheVariants.{Success, IoError}
+use Rattle.block_device.specs.declared.request.Request.{Request}
+use Rattle.block_device.specs.declared.request.Request.TheVariants.{Rejected, Read, Write, Flush, GetId, WriteZeroes}
+use Rattle.block_device.specs.declared.verdict.Verdict.{Verdict}
+use Rattle.block_device.specs.declared.verdict.Verdict.TheVariants as verdict
+use Rattle.block_device.specs.Device.{block_device}
+use Rattle.block_device.specs.Progress.{IsServable}
+use Rattle.block_device.specs.Request.{request_of, payload_of, code_of}
+
+-- whether a request asks the image for something
+abbrev pub asks_image : Request → Bool
+asks_image (Rejected status) = false
+asks_image (Read sector count) = true
+asks_image (Write sector count) = true
+asks_image Flush = true
+asks_image GetId = false
+asks_image (WriteZeroes segments) = true
+
+-- The chain of these buffers holds this request, which passed its checks and asks the image for something.
+pub record IsAsked (device : BlockDevice) (m : Memory) (buffers : List Buffer) (request : Request) : Type 0 where
+  pub room : ℕ
+  pub all : length (writable_of buffers) ≡ room + 1
+  pub is : request ≡ request_of device (readable_of m buffers) room
+  pub servable : IsServable device.extent.count request (payload_of (readable_of m buffers)) room
+  pub asks : asks_image request ≡ true
+
+-- What a chain comes to before the image is asked: it is served, whatever the disk is, or it asks.
+abbrev pub Begins : BlockDevice → Memory → Memory → List Buffer → Begun → Type 0
+Begins device old new buffers (Answered answer) =
+    ((disk : Disk) → Does (block_device device) old new buffers disk disk answer.len answer.wrote) × (answer.failed ≡ false)
+Begins device old new buffers (Asks request) = IsAsked device old buffers request × (new ≡ old)
+
+-- the used len of a chain of so many writable places, of which these many first ones and the last one are written
+abbrev pub used_by : ℕ → ℕ → ℕ
+used_by len writable = if len + 1 == writable then writable else len
+
+-- the status is written in the last writable place
+abbrev pub with_status : Memory → List Buffer → RequestStatus → Memory
+with_status m buffers status =
+    scatter m (drop (length (writable_of buffers) - 1) (writable_of buffers)) (code_of status ∷ [])
+
+-- ---- an image behind the caller, who moves the bytes
+
+abbrev pub status_by : Verdict → RequestStatus
+status_by verdict.Done = Success
+status_by verdict.Failed = IoError
+
+-- how many of the first places hold what was asked for: of an IN all that come before the status
+abbrev pub found_by : Request → Verdict → ℕ → ℕ
+found_by (Read sector count) verdict.Done room = room
+found_by request answer room = 0
+
+-- The request is completed by the caller's answer, on the memory as the caller left it.
+pub record IsCompleted (request : Request) (answer : Verdict) (buffers : List Buffer) (old new : Memory) (len : ℕ) : Type 0 where
+  pub memory : new ≡ with_status old buffers (status_by answer)
+  pub len_is : len ≡ used_by (found_by request answer (length (writable_of buffers) - 1)) (length (writable_of buffers))
