@@ -3,7 +3,7 @@ pub mod Budgets
 pub mod Directions
 pub mod Contents
 pub mod Holding
-pub mod Laying
+pub mod Cutting
 pub mod Likewise
 pub mod Limits
 pub mod Pieces

@@ -4,4 +4,5 @@ pub mod Buffers
 pub mod Bytes
 pub mod Held
 pub mod Pieces
+pub mod Runs
 pub mod Service

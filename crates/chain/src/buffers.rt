@@ -13,7 +13,7 @@ use std::alloc::Allocator;
 use std::marker::Model;
 
 /// How many buffers a chain may have.
-const MOST_BUFFERS: usize = 256;
+pub(crate) const MOST_BUFFERS: usize = 256;
 
 /// How many bytes the buffers of a chain may have in all (2.7.5.2).
 const MOST_BYTES: u32 = u32::MAX;

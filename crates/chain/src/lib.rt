@@ -20,5 +20,6 @@ pub use budget::{Budget, Progress};
 pub use buffers::Chain;
 pub use fault::Fault;
 pub use laws::{a_budget_is_kept, later_byte_stands, one_by_one, one_refusal};
+pub use runs::Runs;
 pub use segment::{Buffer, Segment};
 pub use virtqueue::Virtqueue;

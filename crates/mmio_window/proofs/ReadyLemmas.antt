@@ -1,9 +1,10 @@
 -- What a write leaves of a ready queue, by cases on the register.
-use Rattle.std.proofs.Common.{◌≡◌, ◌==◌, ◌∙◌, ℕ, Bool, true, false, cond, Option, Some, None, refl, sym}
+use Rattle.std.proofs.Common.{◌≡◌, ◌==◌, ◌∙◌, ℕ, Bool, true, false, cond, Option, Some, None, refl, sym, ap}
 use Rattle.std.specs.Prelude.{◌&&◌, IsSome, is_some, is_none, nat_lt}
-use Rattle.std.specs.Option.{option_map_or}
+use Rattle.std.specs.Option.{option_and_then, option_map_or}
 use Rattle.guest_memory.specs.Memory.{Memory}
-use Rattle.negotiation.specs.Negotiation.{NegotiationState, negotiated_of, with_status_written}
+use Rattle.negotiation.specs.Features.{with_feature_word}
+use Rattle.negotiation.specs.Negotiation.{NegotiationState, is_live, negotiated_of, with_status_written}
 use Rattle.negotiation.specs.Sets.{has}
 use Rattle.negotiation.specs.Status.{features_ok}
 use Rattle.mmio_window.specs.declared.device_kind.QueueIndex.{QueueIndex}
@@ -12,11 +13,11 @@ use Rattle.mmio_window.specs.declared.interrupts.Interrupts.{Interrupts}
 use Rattle.mmio_window.specs.declared.queue.Queue.{Queue}
 use Rattle.mmio_window.specs.declared.queue_registers.QueueRegisters.{QueueRegisters}
 use Rattle.mmio_window.specs.declared.register.Register.{Register}
-use Rattle.mmio_window.specs.declared.register.Register.TheVariants.{QueueNum, QueueReady, Status, QueueDescLow, QueueDescHigh, QueueDriverLow, QueueDriverHigh, QueueDeviceLow, QueueDeviceHigh}
+use Rattle.mmio_window.specs.declared.register.Register.TheVariants.{DriverFeatures, QueueNum, QueueReady, Status, QueueDescLow, QueueDescHigh, QueueDriverLow, QueueDriverHigh, QueueDeviceLow, QueueDeviceHigh}
 use Rattle.mmio_window.specs.DeviceKind.{queue_of}
 use Rattle.mmio_window.specs.QueueRegisters.{queue_written, ring_of, set_up}
 use Rattle.mmio_window.specs.Reading.{configuration_offset}
-use Rattle.mmio_window.specs.Ready.{GenerationStays, ReadyQueueStays}
+use Rattle.mmio_window.specs.Ready.{GenerationStays, KeepsQueues, ReadyQueueOutlasts, ReadyQueueStays, stops_queues}
 use Rattle.mmio_window.specs.Registers.{register_at}
 use Rattle.mmio_window.specs.Window.{WindowState, registers_in, reset, with_registers_in}
 use Rattle.mmio_window.specs.Writing.{register_written, written}
@@ -116,30 +117,83 @@ pub generation_stays : GenerationStays
 generation_stays offset width value m w =
     (Stays-written (nat_lt offset configuration_offset && width == 4) (register_at offset) value m w).generation
 
--- ---- a queue that stands open while its device works
+-- ---- a queue that outlasts a write
 
--- whether a write of this register leaves every ready queue as it is
-abbrev pub leaves_queues : Register → Bool
-leaves_queues Status = false
-leaves_queues QueueReady = false
-leaves_queues register = true
+-- a write to a register of a queue, other than QueueReady
+queue_held : (register : Register) (value : ℕ) (m : Memory) (n : NegotiationState) (old : QueueRegisters) → stops_queues register ≡ false
+    → IsSome old.ring → queue_written register value m n old ≡ old
+queue_held QueueReady value m n old stops was = cc
+queue_held register value m n old stops was = set_up_stays old (set_up register value old) old.ring was
 
-held_written : (register : Register) (value : ℕ) (m : Memory) (w : WindowState) → ((old : QueueRegisters) → IsSome old.ring → queue_written register value m w.negotiation old ≡ old)
-    → (queue : Option QueueIndex) → IsSome w.queue_0.ring → (with_registers_in queue (queue_written register value m w.negotiation) w).queue_0 ≡ w.queue_0
-held_written register value m w stays None was = refl
-held_written register value m w stays (Some Queue0) was = stays w.queue_0 was
-held_written register value m w stays (Some Queue1) was = refl
+-- kind and live stay, and so does each ready queue
+record Holds (old new : WindowState) : Type 0 where
+  kind : new.kind ≡ old.kind
+  live : is_live new.negotiation ≡ is_live old.negotiation
+  queue_0 : IsSome old.queue_0.ring → new.queue_0 ≡ old.queue_0
+  queue_1 : IsSome old.queue_1.ring → new.queue_1 ≡ old.queue_1
 
--- A ready queue stays under every write but those of Status and QueueReady.
-pub queue_is_held : (register : Register) (value : ℕ) (m : Memory) (w : WindowState) → leaves_queues register ≡ true → IsSome w.queue_0.ring
-    → (register_written register value m w).queue_0 ≡ w.queue_0
-queue_is_held Status value m w leaves was = cc
-queue_is_held QueueReady value m w leaves was = cc
-queue_is_held QueueNum value m w leaves was = held_written QueueNum value m w (λ old is. set_up_stays old (set_up QueueNum value old) old.ring is) (queue_of w.kind w.queue_sel) was
-queue_is_held QueueDescLow value m w leaves was = held_written QueueDescLow value m w (λ old is. set_up_stays old (set_up QueueDescLow value old) old.ring is) (queue_of w.kind w.queue_sel) was
-queue_is_held QueueDescHigh value m w leaves was = held_written QueueDescHigh value m w (λ old is. set_up_stays old (set_up QueueDescHigh value old) old.ring is) (queue_of w.kind w.queue_sel) was
-queue_is_held QueueDriverLow value m w leaves was = held_written QueueDriverLow value m w (λ old is. set_up_stays old (set_up QueueDriverLow value old) old.ring is) (queue_of w.kind w.queue_sel) was
-queue_is_held QueueDriverHigh value m w leaves was = held_written QueueDriverHigh value m w (λ old is. set_up_stays old (set_up QueueDriverHigh value old) old.ring is) (queue_of w.kind w.queue_sel) was
-queue_is_held QueueDeviceLow value m w leaves was = held_written QueueDeviceLow value m w (λ old is. set_up_stays old (set_up QueueDeviceLow value old) old.ring is) (queue_of w.kind w.queue_sel) was
-queue_is_held QueueDeviceHigh value m w leaves was = held_written QueueDeviceHigh value m w (λ old is. set_up_stays old (set_up QueueDeviceHigh value old) old.ring is) (queue_of w.kind w.queue_sel) was
-queue_is_held register value m w leaves was = refl
+Holds-self : (w : WindowState) → Holds w w
+Holds-self w = record { kind = refl; live = refl; queue_0 = λ was. refl; queue_1 = λ was. refl }
+
+Holds-queue : (register : Register) (value : ℕ) (m : Memory) (w : WindowState) (queue : Option QueueIndex) → stops_queues register ≡ false
+    → Holds w (with_registers_in queue (queue_written register value m w.negotiation) w)
+Holds-queue register value m w None stops = Holds-self w
+Holds-queue register value m w (Some Queue0) stops =
+    record { kind = refl; live = refl; queue_0 = queue_held register value m w.negotiation w.queue_0 stops; queue_1 = λ was. refl }
+Holds-queue register value m w (Some Queue1) stops =
+    record { kind = refl; live = refl; queue_0 = λ was. refl; queue_1 = queue_held register value m w.negotiation w.queue_1 stops }
+
+live_by_test : (settled : Bool) (n : NegotiationState) (accepted : ℕ) → is_live (cond settled n (record n { accepted = accepted })) ≡ is_live n
+live_by_test true n accepted = refl
+live_by_test false n accepted = refl
+
+Holds-register_written : (register : Register) (value : ℕ) (m : Memory) (w : WindowState) → stops_queues register ≡ false → Holds w (register_written register value m w)
+Holds-register_written QueueReady value m w stops = cc
+Holds-register_written Status value m w stops = cc
+Holds-register_written QueueNum value m w stops = Holds-queue QueueNum value m w (queue_of w.kind w.queue_sel) refl
+Holds-register_written QueueDescLow value m w stops = Holds-queue QueueDescLow value m w (queue_of w.kind w.queue_sel) refl
+Holds-register_written QueueDescHigh value m w stops = Holds-queue QueueDescHigh value m w (queue_of w.kind w.queue_sel) refl
+Holds-register_written QueueDriverLow value m w stops = Holds-queue QueueDriverLow value m w (queue_of w.kind w.queue_sel) refl
+Holds-register_written QueueDriverHigh value m w stops = Holds-queue QueueDriverHigh value m w (queue_of w.kind w.queue_sel) refl
+Holds-register_written QueueDeviceLow value m w stops = Holds-queue QueueDeviceLow value m w (queue_of w.kind w.queue_sel) refl
+Holds-register_written QueueDeviceHigh value m w stops = Holds-queue QueueDeviceHigh value m w (queue_of w.kind w.queue_sel) refl
+Holds-register_written DriverFeatures value m w stops = record {
+  kind = refl;
+  live = live_by_test (has w.negotiation.status features_ok) w.negotiation (with_feature_word w.driver_features_sel value w.negotiation.accepted);
+  queue_0 = λ was. refl;
+  queue_1 = λ was. refl;
+}
+Holds-register_written register value m w stops = record { kind = refl; live = refl; queue_0 = λ was. refl; queue_1 = λ was. refl }
+
+Holds-written : (answered : Bool) (register : Option Register) (value : ℕ) (m : Memory) (w : WindowState) → option_map_or stops_queues register false ≡ false
+    → Holds w (cond answered (option_map_or (λ r. register_written r value m w) register w) w)
+Holds-written true None value m w stops = Holds-self w
+Holds-written true (Some register) value m w stops = Holds-register_written register value m w stops
+Holds-written false register value m w stops = Holds-self w
+
+ready_held : (queue : Option QueueIndex) (w w' : WindowState) (registers : QueueRegisters) → Holds w w'
+    → registers_in queue w ≡ Some registers → IsSome registers.ring → registers_in queue w' ≡ Some registers
+ready_held None w w' registers h e is = cc
+ready_held (Some Queue0) w w' registers h e is = let o : w.queue_0 ≡ registers = cc in ap Some (h.queue_0 (rw o is) ∙ o)
+ready_held (Some Queue1) w w' registers h e is = let o : w.queue_1 ≡ registers = cc in ap Some (h.queue_1 (rw o is) ∙ o)
+
+some_ring : (ring : Option Queue) (queue : Queue) → ring ≡ Some queue → IsSome ring
+some_ring None queue e = cc
+some_ring (Some ring) queue e = refl
+
+served_held : (live : Bool) (queue : Option QueueIndex) (w w' : WindowState) (ring : Queue) → Holds w w'
+    → cond live (option_and_then (λ registers. registers.ring) (registers_in queue w)) None ≡ Some ring
+    → cond live (option_and_then (λ registers. registers.ring) (registers_in queue w')) None ≡ Some ring
+served_held false queue w w' ring h e = absurd (cc)
+served_held true None w w' ring h e = absurd (cc)
+served_held true (Some Queue0) w w' ring h e = ap (λ (r : QueueRegisters). r.ring) (h.queue_0 (some_ring w.queue_0.ring ring e)) ∙ e
+served_held true (Some Queue1) w w' ring h e = ap (λ (r : QueueRegisters). r.ring) (h.queue_1 (some_ring w.queue_1.ring ring e)) ∙ e
+
+pub ready_queue_outlasts : ReadyQueueOutlasts
+ready_queue_outlasts offset width value m w stops =
+    let h = Holds-written (nat_lt offset configuration_offset && width == 4) (register_at offset) value m w stops in
+    let w' = written offset width value m w in
+    record {
+      ready = λ q registers e is. rw h.kind (ready_held (queue_of w.kind q) w w' registers h e is);
+      served = λ q queue e. rw (h.kind, h.live) (served_held (is_live w.negotiation) (queue_of w.kind q) w w' queue h e);
+    }

@@ -3,7 +3,7 @@
 ghost use Rattle.chain.specs.Service.{HasAtMostOneChain, HasSomeChain};
 ghost use Rattle.mmio_window.specs.Notifying.{NextPlaceIsIgnored, NotificationKeepsRegisters};
 ghost use Rattle.mmio_window.specs.Queue.{queue_kind};
-ghost use Rattle.mmio_window.specs.Ready.{GenerationStays, ReadyQueueStays};
+ghost use Rattle.mmio_window.specs.Ready.{GenerationStays, ReadyQueueOutlasts, ReadyQueueStays};
 ghost use Rattle.mmio_window.specs.Soundness.{ReadyQueueIsItsRing, ServingKeepsSound, SoundForTheRange};
 
 /// A sound window stays sound while its device serves a queue of it, for memories of one range.
@@ -26,6 +26,12 @@ pub fn ready_queue_is_its_ring()
 /// No write changes the size, an address or the ring of a ready queue: it stays, or it isn't ready any more.
 pub fn ready_queue_stays()
     ensures { ReadyQueueStays }
+{}
+
+/// A ready queue outlasts every write but those to Status and QueueReady, and so does what its device has taken from it:
+/// registers and ring stay, and a queue that the device may serve stays one.
+pub fn ready_queue_outlasts()
+    ensures { ReadyQueueOutlasts }
 {}
 
 /// No write changes ConfigGeneration, a reset neither.

@@ -21,11 +21,11 @@ pub use action::Action;
 pub use configuration::{CONFIGURATION_LEN, CONFIGURATION_OFFSET};
 pub use device_kind::DeviceKind;
 pub use laws::{
-    generation_stays, one_chain_or_fault_at_a_place, ready_queue_is_its_ring, ready_queue_stays,
-    serving_keeps_sound, sound_for_the_range,
+    generation_stays, one_chain_or_fault_at_a_place, ready_queue_is_its_ring, ready_queue_outlasts,
+    ready_queue_stays, serving_keeps_sound, sound_for_the_range,
 };
 pub use queue::{Queue, Token};
 pub use queue_registers::QueueRegisters;
-pub use register::Register;
+pub use register::{Register, may_stop_queues};
 pub use stage::Stage;
 pub use window::Window;

@@ -1,6 +1,7 @@
 //! The table of registers: each control register's name and offset, once and in the standard's order.
 
 ghost use Rattle.std.specs.Prelude.{◌≡◌};
+ghost use Rattle.mmio_window.specs.Ready.{may_stop_queues};
 ghost use Rattle.mmio_window.specs.Registers.{register_at};
 
 /// A control register of a window (4.2.2). Reading and writing go by cases on it, in the same order.
@@ -100,5 +101,16 @@ impl Register {
             0x0fc => Some(Register::ConfigGeneration),
             _ => None,
         }
+    }
+}
+
+/// Whether a write at an offset may stop a ready queue: to Status or to QueueReady. While a chain of the queue is in
+/// flight such a write has to wait.
+pub fn may_stop_queues(offset: u16) -> bool
+    ensures { result ≡ may_stop_queues offset }
+{
+    match Register::at(offset) {
+        Some(Register::QueueReady | Register::Status) => true,
+        _ => false,
     }
 }
