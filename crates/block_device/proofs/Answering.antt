@@ -23,8 +23,10 @@ use Rattle.block_device.specs.Extent.{extent_disk}
 use Rattle.block_device.specs.Request.{request_of, payload_of, code_of}
 use Rattle.block_device.specs.Outcome.{Ends}
 use Rattle.block_device.specs.Asking.{asks_image, found_by, used_by, with_status}
-use Rattle.block_device.specs.declared.verdict.Verdict.{Verdict}
-use Rattle.block_device.specs.declared.verdict.Verdict.TheVariants as verdict
+use Rattle.block_device.specs.declared.operation.OperationKind.{OperationKind}
+use Rattle.block_device.specs.declared.operation.OperationKind.TheVariants as kind
+use Rattle.block_device.specs.declared.operation.Verdict.{Verdict}
+use Rattle.block_device.specs.declared.operation.Verdict.TheVariants as verdict
 use Rattle.block_device.specs.Device.{block_device, GivesBy}
 use Rattle.block_device.specs.Progress.{IsServable, IsDone}
 use Rattle.block_device.proofs.Endings.{nothing_found}
@@ -194,12 +196,10 @@ asks_by Flush p q = refl
 asks_by GetId p q = absurd (q refl)
 asks_by (WriteZeroes segments) p q = refl
 
--- what the caller has put in place leaves room for the status
-pub found_less : (request : Request) (answer : Verdict) (w : ℕ) → 0 < w → found_by request answer (w - 1) < w
-found_less (Rejected status) answer w h = h
-found_less (Read sector count) verdict.Done w h = omega (arith, h)
-found_less (Read sector count) verdict.Failed w h = h
-found_less (Write sector count) answer w h = h
-found_less Flush answer w h = h
-found_less GetId answer w h = h
-found_less (WriteZeroes segments) answer w h = h
+-- what the host has put in place leaves room for the status
+pub found_less : (what : OperationKind) (answer : Verdict) (w : ℕ) → 0 < w → found_by what answer (w - 1) < w
+found_less kind.In verdict.Done w h = omega (arith, h)
+found_less kind.In verdict.Failed w h = h
+found_less kind.Out answer w h = h
+found_less kind.Flush answer w h = h
+found_less kind.Zeroes answer w h = h

@@ -76,13 +76,21 @@ at_index : (payload : List ℕ) (index : ℕ) → index < length payload / 16 �
 at_index payload index below =
     get_or-map-range_with_len (segment_at payload) 0 (length payload / 16) index index (segment_at payload index) below (omega arith)
 
--- where all can be zeroed, each lies on the disk
+-- where all can be zeroed, each can
+segment_fits : (capacity : ℕ) (payload : List ℕ) (index : ℕ) (segment : WriteZeroesSegment) → list_all (has_sectors_within capacity) (segments_in payload) ≡ true
+    → segment ≡ segment_at payload index → index < length payload / 16 → has_sectors_within capacity segment ≡ true
+segment_fits capacity payload index segment all is below =
+    let d = segment_at payload index in
+    let there : index < length (segments_in payload) = omega (arith, length-map-range_with_len (segment_at payload) 0 (length payload / 16)) in
+    ap (has_sectors_within capacity) (is ∙ sym (at_index payload index below)) ∙ AllPass-from_list_all (has_sectors_within capacity) (segments_in payload) all index d there
+
+-- it lies on the disk, and has few sectors
 pub segment_within : (capacity : ℕ) (payload : List ℕ) (index : ℕ) (segment : WriteZeroesSegment) → list_all (has_sectors_within capacity) (segments_in payload) ≡ true
     → segment ≡ segment_at payload index → index < length payload / 16 → segment.sector + segment.count ≤ capacity
 segment_within capacity payload index segment all is below =
-    let d = segment_at payload index in
-    let there : index < length (segments_in payload) = omega (arith, length-map-range_with_len (segment_at payload) 0 (length payload / 16)) in
-    let here : has_sectors_within capacity (get_or (segments_in payload) index d) ≡ true =
-    AllPass-from_list_all (has_sectors_within capacity) (segments_in payload) all index d there in
-    let own : has_sectors_within capacity segment ≡ true = ap (has_sectors_within capacity) (is ∙ sym (at_index payload index below)) ∙ here in
-    grind (arith, nat_tests, own)
+    let own = segment_fits capacity payload index segment all is below in grind (arith, nat_tests, own)
+
+pub segment_few : (capacity : ℕ) (payload : List ℕ) (index : ℕ) (segment : WriteZeroesSegment) → list_all (has_sectors_within capacity) (segments_in payload) ≡ true
+    → segment ≡ segment_at payload index → index < length payload / 16 → segment.count ≤ 65536
+segment_few capacity payload index segment all is below =
+    let own = segment_fits capacity payload index segment all is below in grind (arith, nat_tests, own)

@@ -10,6 +10,7 @@ pub mod OneService
 pub mod Pieces
 pub mod Requests
 pub mod SomeAnswer
+pub mod Telling
 pub mod Transfers
 pub mod Unasked
 pub mod Zeroing

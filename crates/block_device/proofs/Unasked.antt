@@ -1,11 +1,12 @@
--- A service whose image the caller serves: its chains so far, and one that was completed.
-use Rattle.std.proofs.Common.{◌≡◌, ℕ, Bool, true, List, ◌∷◌, [], ◌++◌, refl, sym, ap, subst, ◌∙◌}
+-- A service of a disk that the host serves: its chains so far, and one in flight.
+use Rattle.std.proofs.Common.{◌≡◌, ℕ, ◌-◌, Bool, true, false, List, ◌∷◌, [], ◌++◌, length, refl, sym, ap, subst, ◌∙◌, arith}
 use Rattle.guest_memory.specs.Memory.{Memory, SameRange}
 use Rattle.guest_memory.proofs.Ranges.{same_trans}
 use Rattle.chain.specs.declared.segment.Buffer.{Buffer}
 use Rattle.chain.specs.declared.budget.Budget.{Budget}
 use Rattle.chain.specs.Budget.{IsSpent, less_chain}
 use Rattle.chain.specs.Service.{Entry, Kind, Device, Does, Site, Served, ServesChain, Course, after}
+use Rattle.chain.proofs.Scattering.{within_same}
 use Rattle.chain.proofs.Budgets.{IsInPiece, piece_begins, piece_goes_on}
 use Rattle.chain.proofs.Servicing.{both, ServesAll-push}
 use Rattle.sector_cache.specs.Disk.{Disk}
@@ -16,15 +17,18 @@ use Rattle.block_device.specs.Device.{block_device}
 use Rattle.mmio_window.specs.declared.queue.Token.{Token}
 use Rattle.mmio_window.specs.Queue.{IsTaken, entry_of}
 use Rattle.block_device.specs.declared.request.Request.{Request}
-use Rattle.block_device.specs.Asking.{IsAsked}
+use Rattle.chain.specs.Bytes.{writable_of}
+use Rattle.block_device.specs.Asking.{IsAsked, found_by, status_by}
+use Rattle.block_device.proofs.Answering.{finished_does, found_less}
 use Rattle.std.specs.Prelude.{None}
 use Rattle.chain.specs.Buffers.{Good}
 use Rattle.mmio_window.specs.declared.stage.Stage.{Stage}
 use Rattle.mmio_window.specs.Pieces.{fault_at, opened_at}
+use Rattle.block_device.specs.declared.hosting.Asked.{Asked}
 use Rattle.block_device.specs.declared.hosting.Flight.{Flight}
 use Rattle.block_device.specs.Extent.{extent_disk}
 use Rattle.block_device.specs.Serving.{site_of}
-use Rattle.block_device.specs.Hosting.{AsksAt, StopsAt, at_disk}
+use Rattle.block_device.specs.Hosting.{AsksAt, FlightOutlasts, HonestHostServes, StopsAt, at_disk}
 
 module _ {Ring State : Type 0} (kind : Kind Ring) (device : Device State) where
   -- one more chain was served and given back
@@ -44,7 +48,7 @@ module _ {Ring State : Type 0} (kind : Kind Ring) (device : Device State) where
       } in
       rw (used, past, d.memory, d.len_is, d.any_is) more
 
--- chains that asked for nothing were served within the budget since the piece began, and this is left of it
+-- chains that asked for nothing were served within the budget since the piece began, of which this is left
 pub record IsUnasked (device : BlockDevice) (budget left : Budget) (start now : Memory) (first queue : Queue) : Type 0 where
   pub piece : (disk : Disk) → IsInPiece queue_kind (block_device device) budget left (at_disk start first disk) (at_disk now queue disk)
   pub range : SameRange start now
@@ -75,7 +79,7 @@ unasked_more device budget left left' start m answered m' first queue taken queu
   made = made ∙ ap made_as same ∙ h.made;
 }
 
--- the chain on offer asks the image
+-- the chain on offer asks for the disk
 pub unasked_asks : (device : BlockDevice) (budget left : Budget) (start m m' : Memory) (first queue taken : Queue) (buffers : List Buffer) (token : Token) (request : Request)
     → IsUnasked device budget left start m first queue → queue_kind.offers m queue ≡ true → queue_kind.Offers m queue buffers (entry_of token) → IsTaken queue token → taken ≡ queue
     → IsAsked device m buffers request → m' ≡ m
@@ -84,8 +88,34 @@ unasked_asks device budget left start m m' first queue taken buffers token reque
     rw (same, stays) (record { course = (h.piece disk).course; offers = offers; offered = offered; taken = named; asked = asked })
 
 -- the same of a piece, from its opening on
-pub asks_at : (device : BlockDevice) (stage : Stage) (m m' : Memory) (queue opened last : Queue) (disk : Disk) (buffers : List Buffer) (flight : Flight)
+pub asks_at : (device : BlockDevice) (stage : Stage) (m m' : Memory) (queue opened last : Queue) (disk : Disk) (buffers : List Buffer) (asked : Asked)
     → None ≡ fault_at stage m queue → opened ≡ opened_at stage m queue
-    → StopsAt device (at_disk m opened (extent_disk device.extent disk)) (at_disk m' last (extent_disk device.extent disk)) buffers flight.token flight.request → Good m' buffers
-    → AsksAt device stage (site_of device m queue disk) (site_of device m' last disk) buffers flight
-asks_at device stage m m' queue opened last disk buffers flight none is stops good = record { opens = sym none; stops = rw is at stops; good = good }
+    → StopsAt device (at_disk m opened (extent_disk device.extent disk)) (at_disk m' last (extent_disk device.extent disk)) buffers asked.token asked.request → Good m' buffers
+    → AsksAt device stage (site_of device m queue disk) (site_of device m' last disk) buffers asked
+asks_at device stage m m' queue opened last disk buffers asked none is stops good = record { opens = sym none; stops = rw is at stops; good = good }
+
+-- ---- a chain in flight
+
+-- what holds over every disk holds over this one
+pub any_disk : Disk
+any_disk = record { told = None; sector_count = 0; failures = 0; mark = false }
+
+pub flight_outlasts : FlightOutlasts
+flight_outlasts old new before after buffers flight f same keeps = record {
+  queue = f.queue;
+  ready = keeps.served 0 f.queue f.ready;
+  taken = f.taken;
+  good = record { inside = within_same old new buffers same f.good.inside; few = f.good.few; fits = f.good.fits };
+  status = f.status;
+}
+
+pub honest_host_serves : HonestHostServes
+honest_host_serves device start asked old new before after disk disk' buffers flight answer request stable is stops done back =
+    let w = length (writable_of buffers) in
+    let a = stops.asked in
+    let what = flight.operation.kind in
+    course_push queue_kind (block_device device) start asked back.done new before after disk disk' buffers (entry_of flight.token) back.len true
+    stops.course refl stops.offers stops.offered
+    (finished_does device asked old back.done buffers disk disk' request a.room (found_by what answer (w - 1)) back.len (status_by answer) true
+    a.all a.is done (found_less what answer w (omega (arith, a.all))) back.completed.memory back.completed.len_is refl)
+    back.used back.past

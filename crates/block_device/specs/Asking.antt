@@ -12,8 +12,10 @@ use Rattle.block_device.specs.declared.request.RequestStatus.{RequestStatus}
 use Rattle.block_device.specs.declared.request.RequestStatus.TheVariants.{Success, IoError}
 use Rattle.block_device.specs.declared.request.Request.{Request}
 use Rattle.block_device.specs.declared.request.Request.TheVariants.{Rejected, Read, Write, Flush, GetId, WriteZeroes}
-use Rattle.block_device.specs.declared.verdict.Verdict.{Verdict}
-use Rattle.block_device.specs.declared.verdict.Verdict.TheVariants as verdict
+use Rattle.block_device.specs.declared.operation.OperationKind.{OperationKind}
+use Rattle.block_device.specs.declared.operation.OperationKind.TheVariants as kind
+use Rattle.block_device.specs.declared.operation.Verdict.{Verdict}
+use Rattle.block_device.specs.declared.operation.Verdict.TheVariants as verdict
 use Rattle.block_device.specs.Device.{block_device}
 use Rattle.block_device.specs.Progress.{IsServable}
 use Rattle.block_device.specs.Request.{request_of, payload_of, code_of}
@@ -50,18 +52,18 @@ abbrev pub with_status : Memory → List Buffer → RequestStatus → Memory
 with_status m buffers status =
     scatter m (drop (length (writable_of buffers) - 1) (writable_of buffers)) (code_of status ∷ [])
 
--- ---- an image behind the caller, who moves the bytes
+-- ---- an image that the host serves
 
 abbrev pub status_by : Verdict → RequestStatus
 status_by verdict.Done = Success
 status_by verdict.Failed = IoError
 
--- how many of the first places hold what was asked for: of an IN all that come before the status
-abbrev pub found_by : Request → Verdict → ℕ → ℕ
-found_by (Read sector count) verdict.Done room = room
-found_by request answer room = 0
+-- how many of the first places hold what was asked for: of an IN that was done all that come before the status
+abbrev pub found_by : OperationKind → Verdict → ℕ → ℕ
+found_by kind.In verdict.Done room = room
+found_by what answer room = 0
 
--- The request is completed by the caller's answer, on the memory as the caller left it.
-pub record IsCompleted (request : Request) (answer : Verdict) (buffers : List Buffer) (old new : Memory) (len : ℕ) : Type 0 where
+-- The request is completed as the host says, on the memory as the host left it.
+pub record IsCompleted (what : OperationKind) (answer : Verdict) (buffers : List Buffer) (old new : Memory) (len : ℕ) : Type 0 where
   pub memory : new ≡ with_status old buffers (status_by answer)
-  pub len_is : len ≡ used_by (found_by request answer (length (writable_of buffers) - 1)) (length (writable_of buffers))
+  pub len_is : len ≡ used_by (found_by what answer (length (writable_of buffers) - 1)) (length (writable_of buffers))

@@ -1,22 +1,29 @@
--- A service whose image the caller serves: it stops at each chain that asks the image for something, and goes on
--- once the caller has done it.
-use Rattle.std.specs.Prelude.{◌≡◌, ◌↔◌, ℕ, Bool, true, IsTrue, List, Option, Some, None}
-use Rattle.guest_memory.specs.Memory.{Memory}
+-- A service of a disk that the host serves itself: it stops at each chain that asks for the disk, which is in flight until
+-- the host has completed its operation.
+use Rattle.std.specs.Prelude.{◌≡◌, ◌↔◌, ℕ, ◌-◌, ◌<◌, Bool, true, not, IsTrue, List, length, Option, Some, None}
+use Rattle.guest_memory.specs.Memory.{Memory, SameRange}
 use Rattle.chain.specs.declared.budget.Budget.{Budget}
 use Rattle.chain.specs.declared.budget.Progress.TheVariants as progress
 use Rattle.chain.specs.declared.segment.Buffer.{Buffer}
+use Rattle.chain.specs.declared.segment.Segment.{Segment}
 use Rattle.chain.specs.Buffers.{Good}
+use Rattle.chain.specs.Bytes.{writable_of}
 use Rattle.chain.specs.Pieces.{Pauses, RunsWithin}
 use Rattle.chain.specs.Service.{Site, Course, Spent}
+use Rattle.negotiation.specs.Features.{block_flush}
+use Rattle.negotiation.specs.Negotiation.{negotiated_of}
+use Rattle.negotiation.specs.Sets.{has}
 use Rattle.sector_cache.specs.Disk.{Disk}
 use Rattle.mmio_window.specs.declared.queue.Queue.{Queue}
 use Rattle.mmio_window.specs.declared.queue.Token.{Token}
 use Rattle.mmio_window.specs.declared.stage.Stage.{Stage}
 use Rattle.mmio_window.specs.Pieces.{ServesTo, fault_at, opened_at}
-use Rattle.mmio_window.specs.Window.{WindowState, with_ring}
+use Rattle.mmio_window.specs.Ready.{KeepsQueues}
+use Rattle.mmio_window.specs.Window.{WindowState, queue_at, with_ring}
 use Rattle.mmio_window.specs.Queue.{IsTaken, entry_of, queue_kind}
 use Rattle.mmio_window.specs.Serving.{after_service, ending_of}
 use Rattle.block_device.specs.declared.device.BlockDevice.{BlockDevice}
+use Rattle.block_device.specs.declared.hosting.Asked.{Asked}
 use Rattle.block_device.specs.declared.hosting.Flight.{Flight}
 use Rattle.block_device.specs.declared.hosting.Halt.{Halt}
 use Rattle.block_device.specs.declared.hosting.Halt.TheVariants.{Asks, Pause, End}
@@ -25,17 +32,19 @@ use Rattle.block_device.specs.declared.hosting.Hosted.TheVariants as hosted
 use Rattle.block_device.specs.declared.hosting.Leaving.{Leaving}
 use Rattle.block_device.specs.declared.hosting.Leaving.TheVariants as leaving
 use Rattle.block_device.specs.declared.request.Request.{Request}
-use Rattle.block_device.specs.declared.verdict.Verdict.{Verdict}
-use Rattle.block_device.specs.Asking.{IsAsked, IsCompleted}
+use Rattle.block_device.specs.declared.operation.Verdict.{Verdict}
+use Rattle.block_device.specs.Asking.{IsAsked, IsCompleted, found_by, status_by}
 use Rattle.block_device.specs.Device.{block_device}
 use Rattle.block_device.specs.Extent.{extent_disk}
+use Rattle.block_device.specs.Operation.{operation_of, runs_for}
+use Rattle.block_device.specs.Progress.{IsDone}
 use Rattle.block_device.specs.Serving.{LeavesQueue, site_of}
 
--- where a service stands whose image tells nothing by itself
+-- where a service stands over this disk
 abbrev pub at_disk : Memory → Queue → Disk → Site Queue Disk
 at_disk m queue disk = record { memory = m; ring = queue; state = disk }
 
--- Chains were served that needed no image, and the one on offer asks it for this; it isn't touched.
+-- Chains were served that needed no disk, and the one on offer asks for it by this request; it isn't touched.
 pub record StopsAt (device : BlockDevice) (start now : Site Queue Disk) (buffers : List Buffer) (token : Token) (request : Request) : Type 0 where
   pub course : Course queue_kind (block_device device) start now
   pub offers : queue_kind.offers now.memory now.ring ≡ true
@@ -45,60 +54,96 @@ pub record StopsAt (device : BlockDevice) (start now : Site Queue Disk) (buffers
 
 -- how the chains of a piece end: at one that asks, with the budget spent, or with the service
 abbrev pub Halts : BlockDevice → Budget → Site Queue Disk → Site Queue Disk → List Buffer → Halt → Type 0
-Halts device budget start now buffers (Asks flight) = StopsAt device start now buffers flight.token flight.request
+Halts device budget start now buffers (Asks asked) = StopsAt device start now buffers asked.token asked.request
 Halts device budget start now buffers Pause = Pauses queue_kind (block_device device) budget start now
 Halts device budget start now buffers (End fault) = RunsWithin queue_kind (block_device device) budget start (ending_of fault) now
-
--- The chain in flight is completed by the caller's answer, on the memory as the caller left it, and given back.
-pub record Lands (flight : Flight) (answer : Verdict) (buffers : List Buffer) (old new : Memory) (before after : Queue) : Type 0 where
-  pub done : Memory
-  pub len : ℕ
-  pub completed : IsCompleted flight.request answer buffers old done len
-  pub used : new ≡ queue_kind.used done before (entry_of flight.token) len true
-  pub past : after ≡ queue_kind.past before (entry_of flight.token)
 
 -- ---- the whole piece, from its opening
 
 -- The piece comes to a chain that asks, behind an opening without a fault; the queue stands open.
-pub record AsksAt (device : BlockDevice) (stage : Stage) (old new : Site Queue Disk) (buffers : List Buffer) (flight : Flight) : Type 0 where
+pub record AsksAt (device : BlockDevice) (stage : Stage) (old new : Site Queue Disk) (buffers : List Buffer) (asked : Asked) : Type 0 where
   pub opens : fault_at stage old.memory old.ring ≡ None
-  pub stops : StopsAt device (record old { ring = opened_at stage old.memory old.ring }) new buffers flight.token flight.request
+  pub stops : StopsAt device (record old { ring = opened_at stage old.memory old.ring }) new buffers asked.token asked.request
   pub good : Good new.memory buffers
 
 abbrev pub LeavesAt : BlockDevice → Stage → Budget → Site Queue Disk → Site Queue Disk → List Buffer → Leaving → Type 0
-LeavesAt device stage budget old new buffers (leaving.Asks flight) = AsksAt device stage old new buffers flight
+LeavesAt device stage budget old new buffers (leaving.Asks asked) = AsksAt device stage old new buffers asked
 LeavesAt device stage budget old new buffers (leaving.Plain left) = LeavesQueue device stage budget old new left
 
--- the same as the window shows it, which shows nothing yet of a queue that stands open
-pub record AsksIn (device : BlockDevice) (stage : Stage) (found : Option Queue) (old new : Memory) (before after : WindowState) (buffers : List Buffer) (flight : Flight) (disk : Disk) : Type 0 where
+-- whether the driver can't flush (5.2.6.2): its writes are stable once they are completed
+abbrev pub wants_stable : WindowState → Bool
+wants_stable w = not (has (negotiated_of w.negotiation) block_flush)
+
+-- The same as the window shows it, which shows nothing yet of a queue that stands open; and what the host is told.
+pub record AsksIn (device : BlockDevice) (stage : Stage) (found : Option Queue) (old new : Memory) (before after : WindowState) (buffers : List Buffer) (runs : List Segment) (flight : Flight) (disk : Disk) : Type 0 where
   pub queue : Queue
   pub ready : Some queue ≡ found
   pub last : Queue
-  pub asks : AsksAt device stage (site_of device old queue disk) (site_of device new last disk) buffers flight
+  pub request : Request
+  pub asks : AsksAt device stage (site_of device old queue disk) (site_of device new last disk) buffers (record { token = flight.token; request = request })
   pub window : after ≡ with_ring 0 before last
+  pub operation : flight.operation ≡ operation_of (wants_stable before) request
+  pub runs_are : runs ≡ runs_for request new buffers
 
--- A piece of a service whose image the caller serves, over whatever disk the caller has: it asks, or it is a piece of
--- the device's service that leaves the disk as it is.
-abbrev pub HostsTo : BlockDevice → Stage → Budget → Option Queue → Hosted → Memory → Memory → WindowState → WindowState → List Buffer → Disk → Type 0
-HostsTo device stage budget found (hosted.Asks flight) old new before after buffers disk = AsksIn device stage found old new before after buffers flight disk
-HostsTo device stage budget found hosted.More old new before after buffers disk =
+-- A piece of a service of a disk that the host serves, whatever that has: it asks, or it is a piece of the device's
+-- service that leaves the disk as it is.
+abbrev pub HostsTo : BlockDevice → Stage → Budget → Option Queue → Hosted → Memory → Memory → WindowState → WindowState → List Buffer → List Segment → Disk → Type 0
+HostsTo device stage budget found (hosted.Asks flight) old new before after buffers runs disk = AsksIn device stage found old new before after buffers runs flight disk
+HostsTo device stage budget found hosted.More old new before after buffers runs disk =
     ServesTo stage (block_device device) budget 0 found progress.More old new before after (extent_disk device.extent disk) (extent_disk device.extent disk)
-HostsTo device stage budget found hosted.Done old new before after buffers disk =
+HostsTo device stage budget found hosted.Done old new before after buffers runs disk =
     ServesTo stage (block_device device) budget 0 found progress.Done old new before after (extent_disk device.extent disk) (extent_disk device.extent disk)
 
--- ---- a completion, as an event of its own
+-- of a piece that asks, this holds of the chain in flight
+abbrev pub IfAsks : (Flight → Type 0) → Hosted → Type 0
+IfAsks P (hosted.Asks flight) = P flight
+IfAsks P hosted.More = Unit {0}
+IfAsks P hosted.Done = Unit {0}
 
--- The chain in flight is completed, and the service ends behind it: its driver is notified where it wants to be.
-pub record LandsIn (flight : Flight) (answer : Verdict) (queue : Queue) (old new : Memory) (before after : WindowState) (buffers : List Buffer) : Type 0 where
-  pub landed : Queue
+-- ---- a chain in flight
+
+-- The chain of these buffers is in flight: its token is of the queue that the device may serve, its buffers lie in the
+-- memory, and it has a place for its status.
+pub record IsInFlight (m : Memory) (w : WindowState) (buffers : List Buffer) (flight : Flight) : Type 0 where
+  pub queue : Queue
+  pub ready : queue_at 0 w ≡ Some queue
+  pub taken : IsTaken queue flight.token
+  pub good : Good m buffers
+  pub status : 0 < length (writable_of buffers)
+
+-- It outlasts all that leaves the memory's range and the window's queues.
+abbrev pub FlightOutlasts : Type 0
+FlightOutlasts =
+    (old new : Memory) (before after : WindowState) (buffers : List Buffer) (flight : Flight) → IsInFlight old before buffers flight
+    → SameRange old new → KeepsQueues before after → IsInFlight new after buffers flight
+
+-- It is completed as the host says, on the memory as the host left it, and given back.
+pub record IsGivenBack (flight : Flight) (answer : Verdict) (buffers : List Buffer) (old new : Memory) (before after : Queue) : Type 0 where
+  pub done : Memory
+  pub len : ℕ
+  pub completed : IsCompleted flight.operation.kind answer buffers old done len
+  pub used : new ≡ queue_kind.used done before (entry_of flight.token) len true
+  pub past : after ≡ queue_kind.past before (entry_of flight.token)
+
+-- The same in its window, as an event of its own: the service ends behind it, and its driver is notified where it wants
+-- to be.
+pub record CompletesIn (flight : Flight) (answer : Verdict) (old new : Memory) (before after : WindowState) (buffers : List Buffer) : Type 0 where
+  pub queue : Queue
+  pub ready : queue_at 0 before ≡ Some queue
   pub given : Memory
-  pub lands : Lands flight answer buffers old given queue landed
+  pub behind : Queue
+  pub gives : IsGivenBack flight answer buffers old given queue behind
   pub wanted : Bool
-  pub closed : new ≡ queue_kind.closed given landed
-  pub wanted_is : IsTrue wanted ↔ queue_kind.Wants new landed
-  pub window : after ≡ after_service Spent wanted (with_ring 0 before (queue_kind.shut landed))
+  pub closed : new ≡ queue_kind.closed given behind
+  pub wanted_is : IsTrue wanted ↔ queue_kind.Wants new behind
+  pub window : after ≡ after_service Spent wanted (with_ring 0 before (queue_kind.shut behind))
 
--- by the queue of the window; where there is none nothing happens
-abbrev pub Completes : Flight → Verdict → Option Queue → Memory → Memory → WindowState → WindowState → List Buffer → Type 0
-Completes flight answer None old new before after buffers = (new ≡ old) × (after ≡ before)
-Completes flight answer (Some queue) old new before after buffers = LandsIn flight answer queue old new before after buffers
+-- Where the host did with the disk what may become of such a request, the chain is served by the device over that disk.
+abbrev pub HonestHostServes : Type 0
+HonestHostServes =
+    (device : BlockDevice) (start : Site Queue Disk) (asked old new : Memory) (before after : Queue) (disk disk' : Disk) (buffers : List Buffer)
+    (flight : Flight) (answer : Verdict) (request : Request) (stable : Bool) → flight.operation ≡ operation_of stable request
+    → StopsAt device start (at_disk asked before disk) buffers flight.token request
+    → IsDone device.identity request buffers asked old disk disk' (found_by flight.operation.kind answer (length (writable_of buffers) - 1)) (status_by answer)
+    → IsGivenBack flight answer buffers old new before after
+    → Course queue_kind (block_device device) start (at_disk new after disk')

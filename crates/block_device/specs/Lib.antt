@@ -3,6 +3,7 @@ pub mod Config
 pub mod Device
 pub mod Extent
 pub mod Hosting
+pub mod Operation
 pub mod Outcome
 pub mod Progress
 pub mod Request

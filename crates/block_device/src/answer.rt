@@ -1,23 +1,19 @@
 //! One chain, from its header to its status byte.
 
-ghost use Rattle.std.specs.Prelude.{◌≡◌, ℕ, ◌+◌, ◌-◌, ◌^◌, ◌<◌, ◌≤◌, true, length};
-ghost use Rattle.guest_memory.specs.Memory.{Memory};
+ghost use Rattle.std.specs.Prelude.{◌≡◌, ◌<◌, true, length};
 ghost use Rattle.guest_memory.specs.Memory.{SameRange};
 ghost use Rattle.chain.specs.Buffers.{Good};
 ghost use Rattle.chain.specs.Bytes.{writable_of};
 ghost use Rattle.chain.specs.Service.{Does};
-ghost use Rattle.sector_cache.specs.Disk.{Disk};
-ghost use Rattle.block_device.specs.Asking.{Begins, IsAsked, IsCompleted, found_by, status_by, used_by, with_status};
+ghost use Rattle.block_device.specs.Asking.{Begins, IsAsked, used_by, with_status};
 ghost use Rattle.block_device.specs.Device.{block_device};
 ghost use Rattle.block_device.specs.Extent.{CallsWithin, IsWithin, extent_disk};
 ghost use Rattle.block_device.specs.Request.{code_of};
 ghost use Rattle.block_device.specs.Progress.{IsDone};
-ghost use Rattle.block_device.specs.declared.device.BlockDevice.{BlockDevice};
 
 use crate::device::BlockDevice;
 use crate::request::{ID_LEN, Request, RequestStatus};
 use crate::transfer::Done;
-use crate::verdict::Verdict;
 use chain::Chain;
 use guest_memory::GuestMemory;
 use sector_cache::{Image, SectorCache};
@@ -139,7 +135,6 @@ impl BlockDevice {
         ensures range { SameRange mem.old mem.new }
     {
         match request {
-            Request::Rejected(_) => unreachable!(),
             Request::Read { sector, count } => self.read_sectors(mem, chain, cache, sector, count),
             Request::Write { sector, count } => {
                 self.write_sectors(mem, chain, cache, sector, count)
@@ -148,36 +143,14 @@ impl BlockDevice {
                 Ok(()) => Done::SUCCEEDED,
                 Err(_) => Done::FAILED,
             },
-            Request::GetId => unreachable!(),
             Request::WriteZeroes { segments } => self.zero_segments(mem, chain, cache, segments),
+            Request::Rejected(_) | Request::GetId => unreachable!(),
         }
     }
 }
 
-/// Completes the request of a chain, which asked an image that the caller serves: what an IN was to read stands in
-/// memory, where it was done.
-pub(crate) fn complete<M: Allocator>(
-    mem: &mut GuestMemory<M>,
-    chain: &Chain,
-    request: Request,
-    verdict: Verdict,
-) -> Answer
-    requires good { Good mem.old chain.now }
-    requires status { 0 < length (writable_of chain.now) }
-    ensures completed { IsCompleted request verdict chain.now mem.old mem.new result.len }
-    ensures wrote { result.wrote ≡ true }
-    ensures does { (device : BlockDevice) (asked : Memory) (disk after : Disk) →
-        IsAsked device asked chain.now request →
-        IsDone device.identity request chain.now asked mem.old disk after (found_by request verdict (length (writable_of chain.now) - 1)) (status_by verdict) →
-        Does (block_device device) asked mem.new chain.now disk after result.len result.wrote }
-    ensures range { SameRange mem.old mem.new }
-{
-    let room = chain.writable_len() - 1;
-    finish(mem, chain, Done::by(request, verdict, room))
-}
-
 /// Writes the status of a request that is done, behind all other writable bytes.
-fn finish<M: Allocator>(mem: &mut GuestMemory<M>, chain: &Chain, done: Done) -> Answer
+pub(crate) fn finish<M: Allocator>(mem: &mut GuestMemory<M>, chain: &Chain, done: Done) -> Answer
     requires good { Good mem.old chain.now }
     requires room { done.len < length (writable_of chain.now) }
     ensures status { mem.new ≡ with_status mem.old chain.now done.status }

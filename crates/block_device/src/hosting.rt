@@ -1,46 +1,51 @@
-//! The queue of a device whose image the caller serves. Chains are served up to one that asks the image for something;
-//! the caller does it, with the bytes in guest memory, and the chain is completed.
+//! The queue of a device whose disk the host serves. Chains are served up to one that asks for the disk; that one is in
+//! flight until the host has done its operation, with the bytes in guest memory, and completes it.
 
-ghost use Rattle.std.specs.Prelude.{◌≡◌, ℕ, ◌-◌, ◌<◌, length, IfSome};
-ghost use Rattle.guest_memory.specs.Memory.{Memory, SameRange};
+ghost use Rattle.std.specs.Prelude.{◌≡◌, ◌*◌, ◌^◌, ◌<◌, length};
+ghost use Rattle.guest_memory.specs.Memory.{SameRange};
 ghost use Rattle.chain.specs.Buffers.{Good};
 ghost use Rattle.chain.specs.Bytes.{writable_of};
-ghost use Rattle.chain.specs.Service.{Course, Site};
 ghost use Rattle.sector_cache.specs.Disk.{Disk};
-ghost use Rattle.mmio_window.specs.declared.queue.Queue.{Queue};
-ghost use Rattle.mmio_window.specs.Queue.{IsTaken, LiesIn, made_as, queue_kind};
-ghost use Rattle.block_device.specs.declared.device.BlockDevice.{BlockDevice};
-ghost use Rattle.block_device.specs.Asking.{found_by, status_by};
-ghost use Rattle.block_device.specs.Device.{block_device};
+ghost use Rattle.mmio_window.specs.Queue.{IsTaken, LiesIn, made_as};
 ghost use Rattle.mmio_window.specs.Soundness.{IsSound};
 ghost use Rattle.mmio_window.specs.Window.{queue_at};
-ghost use Rattle.block_device.specs.Hosting.{Completes, Halts, HostsTo, Lands, LeavesAt, StopsAt, at_disk};
+ghost use Rattle.block_device.specs.Extent.{sector_len};
+ghost use Rattle.block_device.specs.Hosting.{CompletesIn, Halts, HostsTo, IfAsks, IsGivenBack, IsInFlight, LeavesAt, at_disk};
+ghost use Rattle.block_device.specs.Operation.{LiesInside};
 ghost use Rattle.block_device.specs.Serving.{site_of};
-ghost use Rattle.block_device.specs.Progress.{IsDone};
 
-use crate::answer::{Begun, complete};
+use crate::answer::{Begun, finish};
 use crate::device::{BlockDevice, REQUESTQ};
+use crate::operation::{Operation, Verdict};
 use crate::queue::Left;
 use crate::request::Request;
 use crate::serve::show;
-use crate::verdict::Verdict;
-use chain::{Budget, Chain, Fault, Progress, Virtqueue};
+use crate::transfer::Done;
+use chain::{Budget, Chain, Fault, Progress, Runs, Virtqueue};
 use guest_memory::GuestMemory;
 use mmio_window::{Queue, Stage, Token, Window};
+use negotiation::{Features, Flags};
 use std::alloc::Allocator;
 
-/// A chain that asks its image for something. Its buffers stand in the room for chains.
+/// A chain in flight: the host works on its operation. Its buffers and the operation's runs stand in the caller's rooms.
 #[derive(Debug, PartialEq, Eq, Drop)]
 pub struct Flight {
+    pub token: Token,
+    pub operation: Operation,
+}
+
+/// A chain that asks for the disk by this request.
+#[derive(Debug, PartialEq, Eq, Drop)]
+pub(crate) struct Asked {
     pub token: Token,
     pub request: Request,
 }
 
 /// Why no more chains are served.
 #[derive(Debug, PartialEq, Eq, Drop)]
-pub enum Halt {
-    /// The chain on offer asks the image for something.
-    Asks(Flight),
+pub(crate) enum Halt {
+    /// The chain on offer asks for the disk.
+    Asks(Asked),
     /// The budget is spent, and a chain is on offer.
     Pause,
     /// The service ends, by this fault if there is one.
@@ -50,23 +55,26 @@ pub enum Halt {
 /// How a piece leaves its queue.
 #[derive(Debug, PartialEq, Eq, Drop)]
 pub(crate) enum Leaving {
-    /// Open, at a chain that asks the image for something.
-    Asks(Flight),
+    /// Open, at a chain that asks for the disk.
+    Asks(Asked),
+    /// As a piece does that asks for nothing.
     Plain(Left),
 }
 
 /// How a piece came out.
 #[derive(Debug, PartialEq, Eq, Drop)]
 pub enum Hosted {
-    /// A chain asks the image for something. Its buffers stand in the room.
+    /// A chain is in flight.
     Asks(Flight),
-    /// The budget is spent.
+    /// The budget is spent, and a chain is on offer.
     More,
+    /// The service has ended.
     Done,
 }
 
 impl BlockDevice {
-    /// Serves a piece of a service in the window of this device, up to a chain that asks the image for something.
+    /// Serves a piece of a service in the window of this device, up to a chain that asks for the disk. The buffers of that
+    /// one are left in `room`, and where the bytes of its operation lie in `runs`.
     pub fn host_piece<M: Allocator>(
         &self,
         mem: &mut GuestMemory<M>,
@@ -74,18 +82,33 @@ impl BlockDevice {
         stage: Stage,
         budget: Budget,
         room: &mut Chain,
+        runs: &mut Runs,
     ) -> Hosted
         requires sound { IsSound mem.old window.old }
+        requires disk { sector_len * self.now.extent.count < 2 ^ 64 }
         ensures served { (disk : Disk) → HostsTo self.now stage budget (queue_at 0 window.old) result
-            mem.old mem.new window.old window.new room.new disk }
+            mem.old mem.new window.old window.new room.new runs.new disk }
+        ensures flight { IfAsks (IsInFlight mem.new window.new room.new) result }
+
+        // Nothing that the host is told lies outside the guest's memory or its disk.
+        ensures inside { IfAsks (λ flight. LiesInside self.now.extent.count mem.new flight.operation runs.new) result }
+
         ensures range { SameRange mem.old mem.new }
         ensures sound { IsSound mem.new window.new }
     {
+        let negotiated = window.negotiation().negotiated();
+        let stable = !negotiated.contains(Features::BLOCK_FLUSH);
         let Some(queue) = window.queue(REQUESTQ) else {
             return Hosted::Done;
         };
         match self.host_queue(mem, queue, stage, budget, room) {
-            Leaving::Asks(flight) => Hosted::Asks(flight),
+            Leaving::Asks(asked) => {
+                let operation = self.tell(mem, room, asked.request, stable, runs);
+                Hosted::Asks(Flight {
+                    token: asked.token,
+                    operation,
+                })
+            }
             Leaving::Plain(left) => match show(window, left) {
                 Progress::More => Hosted::More,
                 Progress::Done => Hosted::Done,
@@ -93,6 +116,7 @@ impl BlockDevice {
         }
     }
 
+    /// Serves a piece: its first one opens the queue, and its end closes it.
     fn host_queue<M: Allocator>(
         &self,
         mem: &mut GuestMemory<M>,
@@ -115,7 +139,7 @@ impl BlockDevice {
             });
         }
         match self.serve_unasked(mem, queue, budget, chain) {
-            Halt::Asks(flight) => Leaving::Asks(flight),
+            Halt::Asks(asked) => Leaving::Asks(asked),
             Halt::Pause => Leaving::Plain(Left::Open),
             Halt::End(fault) => Leaving::Plain(Left::Closed {
                 fault,
@@ -123,8 +147,9 @@ impl BlockDevice {
             }),
         }
     }
-    /// Serves chains until one asks the image for something, none is on offer, one has a fault, or the budget is spent.
-    pub fn serve_unasked<M: Allocator>(
+
+    /// Serves chains until one asks for the disk, none is on offer, one has a fault, or the budget is spent.
+    fn serve_unasked<M: Allocator>(
         &self,
         mem: &mut GuestMemory<M>,
         queue: &mut Queue,
@@ -151,7 +176,7 @@ impl BlockDevice {
                         Begun::Answered(answer) => {
                             queue.give(mem, token, answer.len, answer.wrote);
                         }
-                        Begun::Asks(request) => return Halt::Asks(Flight { token, request }),
+                        Begun::Asks(request) => return Halt::Asks(Asked { token, request }),
                     }
                 }
                 Ok(None) => return Halt::End(None),
@@ -161,55 +186,51 @@ impl BlockDevice {
     }
 }
 
-/// Completes a chain in flight by what came of its operation, and gives it back.
-pub fn land<M: Allocator>(
-    mem: &mut GuestMemory<M>,
-    queue: &mut Queue,
-    chain: &Chain,
-    flight: Flight,
-    verdict: Verdict,
-)
-    requires queue { LiesIn mem.old queue.old }
-    requires taken { IsTaken queue.old flight.token }
-    requires good { Good mem.old chain.now }
-    requires status { 0 < length (writable_of chain.now) }
-    ensures lands { Lands flight verdict chain.now mem.old mem.new queue.old queue.new }
+impl Flight {
+    /// Completes the chain in flight by how its operation came out: its status, its used entry, and the end of its
+    /// service, whose driver is notified where it wants to be. `room` has its buffers.
+    pub fn complete<M: Allocator>(
+        self,
+        mem: &mut GuestMemory<M>,
+        window: &mut Window,
+        room: &Chain,
+        verdict: Verdict,
+    )
+        requires sound { IsSound mem.old window.old }
+        requires flight { IsInFlight mem.old window.old room.now self }
+        ensures completes { CompletesIn self verdict mem.old mem.new window.old window.new room.now }
+        ensures range { SameRange mem.old mem.new }
+        ensures sound { IsSound mem.new window.new }
+    {
+        let Some(queue) = window.queue(REQUESTQ) else {
+            unreachable!();
+        };
+        self.give_back(mem, queue, room, verdict);
+        let wanted = queue.close(mem);
+        let fault = None;
+        let _ = show(window, Left::Closed { fault, wanted });
+    }
 
-    // Where the caller did of it what may become of such a request on a disk, this is the device's service over that disk.
-    ensures serves { (device : BlockDevice) (start : Site Queue Disk) (asked : Memory) (disk after : Disk) →
-        StopsAt device start (at_disk asked queue.old disk) chain.now flight.token flight.request →
-        IsDone device.identity flight.request chain.now asked mem.old disk after
-        (found_by flight.request verdict (length (writable_of chain.now) - 1)) (status_by verdict) →
-        Course queue_kind (block_device device) start (at_disk mem.new queue.new after) }
-    ensures range { SameRange mem.old mem.new }
-    ensures queue { LiesIn mem.new queue.new }
-    ensures made { made_as queue.new ≡ made_as queue.old }
-{
-    let answer = complete(mem, chain, flight.request, verdict);
-    queue.give(mem, flight.token, answer.len, answer.wrote);
-}
-
-/// Completes the chain in flight in its device's window, and ends the service behind it.
-pub fn land_in<M: Allocator>(
-    mem: &mut GuestMemory<M>,
-    window: &mut Window,
-    room: &Chain,
-    flight: Flight,
-    verdict: Verdict,
-)
-    requires sound { IsSound mem.old window.old }
-    requires taken { IfSome (queue_at 0 window.old) (λ queue. IsTaken queue flight.token) }
-    requires good { Good mem.old room.now }
-    requires status { 0 < length (writable_of room.now) }
-    ensures completes { Completes flight verdict (queue_at 0 window.old) mem.old mem.new window.old window.new room.now }
-    ensures range { SameRange mem.old mem.new }
-    ensures sound { IsSound mem.new window.new }
-{
-    let Some(queue) = window.queue(REQUESTQ) else {
-        return;
-    };
-    land(mem, queue, room, flight, verdict);
-    let wanted = queue.close(mem);
-    let fault = None;
-    let _ = show(window, Left::Closed { fault, wanted });
+    /// Writes the status of the chain in flight, and gives it back.
+    fn give_back<M: Allocator>(
+        self,
+        mem: &mut GuestMemory<M>,
+        queue: &mut Queue,
+        chain: &Chain,
+        verdict: Verdict,
+    )
+        requires queue { LiesIn mem.old queue.old }
+        requires taken { IsTaken queue.old self.token }
+        requires good { Good mem.old chain.now }
+        requires status { 0 < length (writable_of chain.now) }
+        ensures gives { IsGivenBack self verdict chain.now mem.old mem.new queue.old queue.new }
+        ensures range { SameRange mem.old mem.new }
+        ensures queue { LiesIn mem.new queue.new }
+        ensures made { made_as queue.new ≡ made_as queue.old }
+    {
+        let room = chain.writable_len() - 1;
+        let done = Done::by(self.operation.kind, verdict, room);
+        let answer = finish(mem, chain, done);
+        queue.give(mem, self.token, answer.len, answer.wrote);
+    }
 }

@@ -9,6 +9,7 @@ ghost use Rattle.mmio_window.specs.Queue.{queue_kind};
 ghost use Rattle.block_device.specs.declared.device.BlockDevice.{BlockDevice};
 ghost use Rattle.block_device.specs.Device.{GivesBy, HasAnswer, block_device, exact_device};
 ghost use Rattle.block_device.specs.Extent.{SameSectors};
+ghost use Rattle.block_device.specs.Hosting.{FlightOutlasts, HonestHostServes};
 ghost use Rattle.block_device.specs.Outcome.{Completes, Ends};
 
 /// A chain is served exactly as over an image that never fails, or one failure more is counted.
@@ -54,6 +55,18 @@ pub fn at_most_one_exact_service()
         → IsService queue_kind (exact_device device) old one ending wanted
         → IsService queue_kind (exact_device device) old other end wants
         → (one ≡ other) × (ending ≡ end) × (wanted ≡ wants) }
+{}
+
+/// A chain in flight outlasts all that leaves the range of the guest's memory and the queues of its window. Of the writes to
+/// the window only two may not.
+pub fn a_flight_outlasts()
+    ensures { FlightOutlasts }
+{}
+
+/// Where a host did with a disk what may become of such a request, the chain that it completes is served by the device over
+/// that disk: by the very device of a disk behind the cache.
+pub fn an_honest_host_serves()
+    ensures { HonestHostServes }
 {}
 
 /// The pieces of a service, joined, are one service, however the image fares in the pauses: what the driver finds in

@@ -11,20 +11,21 @@ mod device;
 mod extent;
 mod hosting;
 mod laws;
+mod operation;
 mod queue;
 mod request;
 mod serve;
 mod transfer;
-mod verdict;
 mod zeroes;
 
 pub use device::{BlockDevice, REQUESTQ};
 pub use extent::Extent;
-pub use hosting::{Flight, Halt, Hosted, land, land_in};
+pub use hosting::{Flight, Hosted};
 pub use laws::{
-    a_service_without_failure_is_exact, at_most_one_exact_service, no_service_is_refused,
-    one_answer, one_failure_at_most, pieces_are_one_service,
+    a_flight_outlasts, a_service_without_failure_is_exact, an_honest_host_serves,
+    at_most_one_exact_service, no_service_is_refused, one_answer, one_failure_at_most,
+    pieces_are_one_service,
 };
+pub use operation::{Operation, OperationKind, Verdict};
 pub use request::{Request, RequestStatus};
 pub use serve::Piece;
-pub use verdict::Verdict;

@@ -13,8 +13,8 @@ ghost use Rattle.block_device.specs.Request.{payload_of};
 ghost use Rattle.block_device.specs.Progress.{IsDone};
 
 use crate::device::BlockDevice;
-use crate::request::{HEADER_LEN, Request, RequestStatus, SECTOR_LEN};
-use crate::verdict::Verdict;
+use crate::operation::{OperationKind, Verdict};
+use crate::request::{HEADER_LEN, RequestStatus, SECTOR_LEN};
 use chain::Chain;
 use guest_memory::GuestMemory;
 use sector_cache::{Image, SectorCache};
@@ -45,14 +45,14 @@ impl Done {
         failed: false,
     };
 
-    /// What the caller's answer comes to, where `room` bytes come before the status.
-    pub(crate) fn by(request: Request, verdict: Verdict, room: u64) -> Done
-        ensures len { result.len ≡ found_by request verdict room }
+    /// What an operation comes to that came out so, where `room` bytes come before the status.
+    pub(crate) fn by(kind: OperationKind, verdict: Verdict, room: u64) -> Done
+        ensures len { result.len ≡ found_by kind verdict room }
         ensures status { result.status ≡ status_by verdict }
     {
-        match (verdict, request) {
+        match (verdict, kind) {
             (Verdict::Failed, _) => Done::FAILED,
-            (Verdict::Done, Request::Read { .. }) => Done {
+            (Verdict::Done, OperationKind::In) => Done {
                 len: room,
                 ..Done::SUCCEEDED
             },

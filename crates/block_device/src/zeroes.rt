@@ -7,16 +7,17 @@ ghost use Rattle.chain.specs.Buffers.{Within};
 ghost use Rattle.chain.specs.Bytes.{readable_of};
 ghost use Rattle.block_device.specs.declared.request.Request.TheVariants.{Rejected, WriteZeroes};
 ghost use Rattle.block_device.specs.declared.request.RequestStatus.TheVariants.{IoError, Unsupported};
-ghost use Rattle.block_device.specs.Extent.{CallsWithin, IsWithin, KeepsOutside, extent_disk};
+ghost use Rattle.block_device.specs.Extent.{CallsWithin, IsWithin, KeepsOutside, extent_disk, sector_len};
+ghost use Rattle.block_device.specs.Operation.{disk_run, zeroes_in};
 ghost use Rattle.block_device.specs.Progress.{IsDone, IsServable};
 ghost use Rattle.block_device.specs.Request.{payload_of, write_zeroes_request_of};
-ghost use Rattle.block_device.specs.Zeroes.{IsStopped, are_segments, has_known_flags, has_sectors_within, sectors_of, segment_at, segment_len, segment_of, segments_in, zeroed_sectors};
+ghost use Rattle.block_device.specs.Zeroes.{IsStopped, are_segments, has_known_flags, has_sectors_within, max_write_zeroes_seg, sectors_of, segment_at, segment_len, segment_of, segments_in, zeroed_sectors};
 
 use crate::device::BlockDevice;
-use crate::request::{HEADER_LEN, Request, RequestStatus};
+use crate::request::{HEADER_LEN, Request, RequestStatus, SECTOR_LEN};
 use crate::transfer::Done;
 use byteorder::{ByteOrder, LittleEndian};
-use chain::Chain;
+use chain::{Chain, Runs, Segment};
 use guest_memory::GuestMemory;
 use sector_cache::{Image, ImageError, SectorCache};
 use std::alloc::Allocator;
@@ -63,6 +64,18 @@ impl WriteZeroesSegment {
         ensures { result ≡ has_known_flags self.now }
     {
         self.flags <= FLAG_UNMAP
+    }
+
+    /// The bytes of the disk that it names.
+    fn run(&self) -> Segment
+        requires sector { sector_len * self.now.sector < 2 ^ 64 }
+        requires few { self.now.count ≤ 65536 }
+        ensures { result ≡ disk_run self.now }
+    {
+        Segment {
+            addr: SECTOR_LEN * self.sector,
+            len: SECTOR_LEN as u32 * self.count,
+        }
     }
 
     /// Whether its sectors are few enough, and all of them on a disk of `capacity`.
@@ -123,6 +136,31 @@ impl BlockDevice {
             within &= asked.has_sectors_within(self.extent.count);
         }
         judged(segments, known, within)
+    }
+
+    /// Puts the bytes of the disk that the segments name in the place of what `runs` has.
+    pub(crate) fn zero_runs<A: Allocator>(
+        &self,
+        mem: &GuestMemory<A>,
+        chain: &Chain,
+        segments: u64,
+        runs: &mut Runs,
+    )
+        requires inside { All (Within mem.now) chain.now }
+        requires disk { sector_len * self.now.extent.count < 2 ^ 64 }
+        requires payload { length (payload_of (readable_of mem.now chain.now)) ≡ segment_len * segments }
+        requires sectors { list_all (has_sectors_within self.now.extent.count)
+            (segments_in (payload_of (readable_of mem.now chain.now))) ≡ true }
+        requires few { segments ≤ max_write_zeroes_seg }
+        ensures { runs.new ≡ zeroes_in (payload_of (readable_of mem.now chain.now)) }
+    {
+        runs.clear();
+        for index in 0..segments {
+            let segment = WriteZeroesSegment::read(mem, chain, index);
+            if segment.count > 0 {
+                runs.push(segment.run());
+            }
+        }
     }
 
     /// Zeroes the sectors of segments, and flushes.

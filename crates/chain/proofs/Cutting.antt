@@ -1,18 +1,19 @@
 -- Runs of a chain, one after another from the first place on.
-use Rattle.std.proofs.Common.{◌≡◌, ℕ, suc, true, false, ◌+◌, ◌-◌, ◌<◌, ◌≤◌, Bool, List, [], ◌∷◌, ◌++◌, length, length-append, refl, sym, ap, ◌∙◌, arith, inl, inr, sum_by}
+use Rattle.std.proofs.Common.{◌≡◌, ℕ, suc, true, false, ◌+◌, ◌-◌, ◌<◌, ◌≤◌, Bool, List, [], ◌∷◌, ◌++◌, length, length-append, take, drop, zero, refl, sym, ap, ◌∙◌, arith, inl, inr, sum_by}
 use Rattle.std.specs.Prelude.{min, nat_lt, All}
-use Rattle.std.specs.List.{filter}
+use Rattle.std.specs.List.{filter, flat_map, range_with_len}
 use Rattle.std.proofs.Math.Nat.{sub-add-min_cancel}
 use Rattle.std.proofs.lemmas.Bool.{cases_lt, lt-ltb, le-ltb}
-use Rattle.std.proofs.lemmas.List.{append_assoc, append-nil}
-use Rattle.std.proofs.lemmas.List.Elements.{All-cons, All-head, All-tail}
+use Rattle.std.proofs.lemmas.List.{append_assoc, append-nil, drop-drop}
+use Rattle.std.proofs.lemmas.List.Elements.{All-cons, All-head, All-nil, All-tail}
 use Rattle.std.proofs.lemmas.List.Sums.{count_by-le-length, length-filter, sum_by-cons}
 use Rattle.guest_memory.specs.Memory.{Memory}
+use Rattle.guest_memory.proofs.Ranges.{take-plus}
 use Rattle.chain.specs.declared.segment.Segment.{Segment}
 use Rattle.chain.specs.declared.segment.Buffer.{Buffer}
-use Rattle.chain.specs.Bytes.{rest_at, segments_of}
+use Rattle.chain.specs.Bytes.{addresses, rest_at, segments_of}
 use Rattle.chain.specs.Runs.{cut, cuts, has_bytes, runs_of}
-use Rattle.chain.proofs.Places.{InMemory, size}
+use Rattle.chain.proofs.Places.{InMemory, rest_addresses, rest_some, size}
 
 empty_left_out : (c : Segment) (cs : List Segment) → c.len ≤ 0 → filter has_bytes (c ∷ cs) ≡ filter has_bytes cs
 empty_left_out c cs h = rw (le-ltb 0 c.len h) refl
@@ -126,5 +127,44 @@ runs_inside m (s ∷ ss) from to a =
           rw (run_kept (cut from to s) (cuts (from - s.len) (to - s.len) ss) some)
           (All-cons (InMemory m) (cut from to s) (runs_of (from - s.len) (to - s.len) ss)
           (record { above = omega (arith, here.above); below = omega (arith, here.below, some, k) }) later)
+      | inr none ↦ rw (empty_left_out (cut from to s) (cuts (from - s.len) (to - s.len) ss) none) later
+    ]
+
+-- the addresses of the runs are those of the places
+none_listed : (ss : List Segment) (from to : ℕ) → to ≤ from → flat_map addresses (runs_of from to ss) ≡ take (to - from) (drop from (flat_map addresses ss))
+none_listed ss from to h =
+    let none : 0 ≡ to - from = omega (arith, h) in
+    ap (flat_map addresses) (runs_none ss from to h) ∙ ap (λ n. take n (drop from (flat_map addresses ss))) none
+
+pub runs_listed : (fuel : ℕ) (ss : List Segment) (from to : ℕ) → to - from ≤ fuel → to ≤ size ss
+    → flat_map addresses (runs_of from to ss) ≡ take (to - from) (drop from (flat_map addresses ss))
+runs_listed zero ss from to few fits = none_listed ss from to (omega (arith, few))
+runs_listed (suc fuel) ss from to few fits =
+    elim (cases_lt from to) [
+      | inl some ↦
+          let all = flat_map addresses ss in
+          let rest = rest_at ss from in
+          let n = min rest.len (to - from) in
+          let k = sub-add-min_cancel rest.len (to - from) in
+          let there : from < size ss = omega (arith, some, fits) in
+          let split : n + (to - (from + n)) ≡ to - from = omega (arith, k, some) in
+          ap (flat_map addresses) (runs_more ss from to n some fits refl)
+          ∙ ap (λ l. range_with_len rest.addr n ++ l) (runs_listed fuel ss (from + n) to (omega (arith, few, rest_some ss from there, k, some)) fits)
+          ∙ ap (λ l. l ++ take (to - (from + n)) (drop (from + n) all)) (sym (rest_addresses ss from n there (omega (arith, k))))
+          ∙ ap (λ l. take n (drop from all) ++ take (to - (from + n)) l) (sym (drop-drop n from all))
+          ∙ sym (take-plus n (to - (from + n)) (drop from all))
+          ∙ ap (λ j. take j (drop from all)) split
+      | inr none ↦ none_listed ss from to none
+    ]
+
+-- none of them is empty
+pub runs_some : (ss : List Segment) (from to : ℕ) → All (λ (s : Segment). 0 < s.len) (runs_of from to ss)
+runs_some [] from to = All-nil (λ (s : Segment). 0 < s.len)
+runs_some (s ∷ ss) from to =
+    let later = runs_some ss (from - s.len) (to - s.len) in
+    elim (cases_lt 0 (cut from to s).len) [
+      | inl some ↦
+          rw (run_kept (cut from to s) (cuts (from - s.len) (to - s.len) ss) some)
+          (All-cons (λ (s : Segment). 0 < s.len) (cut from to s) (runs_of (from - s.len) (to - s.len) ss) some later)
       | inr none ↦ rw (empty_left_out (cut from to s) (cuts (from - s.len) (to - s.len) ss) none) later
     ]

@@ -1,13 +1,15 @@
 //! Laws of the definitions. The bodies are empty: each contract is a theorem.
 
-ghost use Rattle.std.specs.Prelude.{◌≡◌, ◌≢◌, ℕ, ◌<◌, ◌≤◌, List, [], ◌∷◌, ◌++◌, ◌⊎◌, ◌↔◌, length, Some};
-ghost use Rattle.guest_memory.specs.Memory.{Memory, put};
+ghost use Rattle.std.specs.Prelude.{◌≡◌, ◌≢◌, ℕ, ◌-◌, ◌<◌, ◌≤◌, Bool, List, [], ◌∷◌, ◌++◌, ◌⊎◌, ◌↔◌, length, take, drop, Some, All};
+ghost use Rattle.std.specs.List.{flat_map};
+ghost use Rattle.guest_memory.specs.Memory.{Inside, Memory, put};
 ghost use Rattle.chain.specs.declared.segment.Buffer.{Buffer};
 ghost use Rattle.chain.specs.declared.fault.Fault.{Fault};
 ghost use Rattle.chain.specs.declared.budget.Budget.{Budget};
 ghost use Rattle.chain.specs.Budget.{AreWithin, IsSpent, bytes_of, left_after};
-ghost use Rattle.chain.specs.Buffers.{Admits, AdmitsAll, Good, Refuses};
-ghost use Rattle.chain.specs.Bytes.{scatter};
+ghost use Rattle.chain.specs.Buffers.{Admits, AdmitsAll, Good, Refuses, Within};
+ghost use Rattle.chain.specs.Bytes.{addresses, addresses_of, len_of, scatter, segments_of};
+ghost use Rattle.chain.specs.Runs.{runs_of};
 
 /// Buffers may be put into an empty chain one after another exactly where they may stand there all at once.
 pub fn one_by_one()
@@ -25,6 +27,19 @@ pub fn one_refusal()
 pub fn later_byte_stands()
     ensures { (m : Memory) (addrs bytes : List ℕ) (a x : ℕ) → length addrs ≡ length bytes
         → scatter m (addrs ++ a ∷ []) (bytes ++ x ∷ []) ≡ put (scatter m addrs bytes) a (x ∷ []) }
+{}
+
+/// The runs of places are of those places and of no others, one after another. Each lies where its buffer does, none is
+/// empty, and there are no more of them than buffers.
+pub fn runs_are_of_their_places()
+    ensures places { (writable : Bool) (buffers : List Buffer) (from to : ℕ) → to ≤ len_of writable buffers
+        → flat_map addresses (runs_of from to (segments_of writable buffers)) ≡ take (to - from) (drop from (addresses_of writable buffers)) }
+    ensures inside { (m : Memory) (writable : Bool) (buffers : List Buffer) (from to : ℕ) → All (Within m) buffers
+        → All (λ run. Inside m run.addr run.len) (runs_of from to (segments_of writable buffers)) }
+    ensures some { (writable : Bool) (buffers : List Buffer) (from to : ℕ)
+        → All (λ run. 0 < run.len) (runs_of from to (segments_of writable buffers)) }
+    ensures few { (writable : Bool) (buffers : List Buffer) (from to : ℕ)
+        → length (runs_of from to (segments_of writable buffers)) ≤ length buffers }
 {}
 
 /// A piece within a budget serves as many chains as it allows, at most; its bytes are passed by the last chain

@@ -19,7 +19,9 @@ mod virtqueue;
 pub use budget::{Budget, Progress};
 pub use buffers::Chain;
 pub use fault::Fault;
-pub use laws::{a_budget_is_kept, later_byte_stands, one_by_one, one_refusal};
+pub use laws::{
+    a_budget_is_kept, later_byte_stands, one_by_one, one_refusal, runs_are_of_their_places,
+};
 pub use runs::Runs;
 pub use segment::{Buffer, Segment};
 pub use virtqueue::Virtqueue;

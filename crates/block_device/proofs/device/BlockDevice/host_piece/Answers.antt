@@ -1,9 +1,52 @@
-use Rattle.std.proofs.Common.{sym, ◌∙◌}
+use Rattle.std.proofs.Common.{refl, sym, ap, ◌∙◌, not, arith}
+use Rattle.negotiation.specs.Features.{block_flush}
+use Rattle.negotiation.specs.Negotiation.{negotiated_of}
+use Rattle.negotiation.specs.Sets.{has}
+use Rattle.mmio_window.proofs.Pieces.{queue_stands_open}
+use Rattle.block_device.specs.Operation.{operation_of}
+use Rattle.block_device.proofs.Telling.{told_inside}
+use Rattle.block_device.proofs.Unasked.{any_disk}
 use Rattle.chain.specs.declared.budget.Progress.TheVariants.{More, Done}
 use Rattle.mmio_window.proofs.Soundness.{serving_keeps_sound}
 use Rattle.mmio_window.specs.Window.{queue_at}
 use Rattle.block_device.proofs.Pieces.{serves_to}
 use Rattle.block_device.proofs.device.BlockDevice.host_piece.Goals as goal
+
+pub tell-operation-requires-clause-good : goal.tell-operation-requires-clause-good
+tell-operation-requires-clause-good g c = (c.in-Asks.ensures.leaves any_disk).good
+
+pub tell-operation-requires-clause-asked : goal.tell-operation-requires-clause-asked
+tell-operation-requires-clause-asked g c = (c.in-Asks.ensures.leaves any_disk).stops.asked
+
+pub returns-in-Asks-clause-served : goal.returns-in-Asks-clause-served
+returns-in-Asks-clause-served g c disk = record {
+  queue = c.in-Some.queue.now;
+  ready = c.in-Some.ensures.value;
+  last = c.host_queue.new.queue;
+  request = c.in-Asks.asked.request;
+  asks = c.in-Asks.ensures.leaves disk;
+  window = refl;
+  operation = c.tell-operation.ensures.operation ∙ ap (λ flushes. operation_of (not flushes) c.in-Asks.asked.request)
+      (c.contains-stable.ensures tt ∙ ap (λ bits. has bits block_flush) (c.negotiated-negotiated.ensures.value ∙ ap negotiated_of c.negotiation.ensures));
+  runs_are = c.tell-operation.ensures.runs;
+}
+
+pub returns-in-Asks-clause-flight : goal.returns-in-Asks-clause-flight
+returns-in-Asks-clause-flight g c =
+    let asks = c.in-Asks.ensures.leaves any_disk in
+    record {
+      queue = c.host_queue.new.queue;
+      ready = queue_stands_open 0 c.args.window.now c.in-Some.queue.now c.host_queue.new.queue (sym c.in-Some.ensures.value);
+      taken = asks.stops.taken;
+      good = asks.good;
+      status = omega (arith, asks.stops.asked.all);
+    }
+
+pub returns-in-Asks-clause-inside : goal.returns-in-Asks-clause-inside
+returns-in-Asks-clause-inside g c =
+    let asks = c.in-Asks.ensures.leaves any_disk in
+    told_inside c.args.self.now c.host_queue.new.mem c.host_queue.new.chain c.in-Asks.asked.request (not c.contains-stable.result) c.tell-operation.result c.tell-operation.new.runs
+    asks.good asks.stops.asked c.tell-operation.ensures.operation c.tell-operation.ensures.runs
 
 pub returns-in-Asks-clause-sound : goal.returns-in-Asks-clause-sound
 returns-in-Asks-clause-sound g c =

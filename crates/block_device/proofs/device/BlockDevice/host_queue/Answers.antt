@@ -16,7 +16,7 @@ returns-in-Err-clause-leaves g c disk =
 
 pub returns-in-Asks-clause-leaves : goal.returns-in-Asks-clause-leaves
 returns-in-Asks-clause-leaves g c disk =
-    asks_at c.args.self.now c.args.stage c.args.mem.now c.serve_unasked.new.mem c.args.queue.now c.open.new.queue c.serve_unasked.new.queue disk c.serve_unasked.new.chain c.in-Asks.flight
+    asks_at c.args.self.now c.args.stage c.args.mem.now c.serve_unasked.new.mem c.args.queue.now c.open.new.queue c.serve_unasked.new.queue disk c.serve_unasked.new.chain c.in-Asks.asked
     c.in_default.ensures.fault c.open.ensures.opened (c.in-Asks.ensures.halts (extent_disk c.args.self.now.extent disk)) c.serve_unasked.ensures.good
 
 pub returns-in-End-clause-leaves : goal.returns-in-End-clause-leaves
