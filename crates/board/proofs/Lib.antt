@@ -18,3 +18,10 @@ pub mod Pieces
 pub mod Turns
 pub mod Whole
 pub mod Answered
+pub mod Flights
+pub mod Beside
+pub mod Hosts
+pub mod HostedAlone
+pub mod Waiting
+pub mod HostedSpecs
+pub mod HostedSeats
