@@ -86,7 +86,7 @@ sound_beside what slot new flight free block device same sound =
 -- a slot of its own disk has as many sectors as it counts
 pub own_count : (slot : BoardSlot) → slot.extent.start ≡ 0 → sectors_of (hosted_slot slot).extent ≡ slot.extent.count
 own_count slot own =
-    count_of slot.extent (record { told = Some (unseen slot.extent.count); sector_count = slot.extent.count; failures = 0; mark = false }) _
+    count_of slot.extent (record { told = Some (unseen slot.extent.count); sector_count = slot.extent.count; failures = 0; mark = false }) refl
     (length-replicate {A = ℕ} (512 * slot.extent.count) 0) (omega (arith, own))
 
 device_same : (e : Extent) (start count : ℕ) (read_only : Bool) (identity : List ℕ) → e.start ≡ start → count ≡ e.count
@@ -143,24 +143,24 @@ pub held_of : (slot : BoardSlot) (found : Option Flight) (flight : Flight) (buff
 held_of slot found flight buffers runs is held = subst (λ (o : Option Flight). IsHeldBy slot (in_rooms o buffers runs)) is held
 
 -- The slot once its chain was completed, and the queue looked at behind it.
-pub landed : {A : Type 0} (slot after : BoardSlot) (found : Option Flight) (flight : Flight) (buffers : List Buffer) (runs : List Segment) (verdict : Verdict) (new : HostedState) → found ≡ Some flight
+pub landed : (A : Type 0) (slot after : BoardSlot) (found : Option Flight) (flight : Flight) (buffers : List Buffer) (runs : List Segment) (verdict : Verdict) (new : HostedState) → found ≡ Some flight
     → CompletesIn flight verdict slot.memory after.memory slot.block after.block buffers → after ≡ with_served slot after.memory after.block → LooksAtQueue (hosted_slot after) new
     → CompletionGives {A = A} (in_rooms found buffers runs) (record { slot = hosted_slot slot; flight = in_rooms found buffers runs }) verdict (answers new (Answered reply.Done))
-landed {A} slot after found flight buffers runs verdict new is completes rest looks =
+landed A slot after found flight buffers runs verdict new is completes rest then =
     subst (λ (o : Option Flight). CompletionGives {A = A} (in_rooms o buffers runs) (record { slot = hosted_slot slot; flight = in_rooms o buffers runs }) verdict (answers new (Answered reply.Done))) (sym is) (
       record {
         memory = after.memory;
         block = after.block;
         completes = completes;
-        looks = subst (λ (s : BoardSlot). LooksAtQueue (hosted_slot s) new) rest looks;
+        looks = subst (λ (s : BoardSlot). LooksAtQueue (hosted_slot s) new) rest then;
       },
       refl,
     )
 
 -- Nothing was in flight.
-pub idle : {A : Type 0} (slot : BoardSlot) (found : Option Flight) (buffers : List Buffer) (runs : List Segment) (verdict : Verdict) → found ≡ None
+pub idle : (A : Type 0) (slot : BoardSlot) (found : Option Flight) (buffers : List Buffer) (runs : List Segment) (verdict : Verdict) → found ≡ None
     → CompletionGives {A = A} (in_rooms found buffers runs) (record { slot = hosted_slot slot; flight = in_rooms found buffers runs }) verdict (answers (record { slot = hosted_slot slot; flight = None }) Idle)
-idle {A} slot found buffers runs verdict is =
+idle A slot found buffers runs verdict is =
     subst (λ (o : Option Flight). CompletionGives {A = A} (in_rooms o buffers runs) (record { slot = hosted_slot slot; flight = in_rooms o buffers runs }) verdict (answers (record { slot = hosted_slot slot; flight = None }) Idle)) (sym is) refl
 
 -- whether anything is in flight

@@ -8,13 +8,17 @@ use Rattle.board.specs.declared.hosted.reply.HostedReply.TheVariants.{Answered, 
 use Rattle.board.specs.declared.pause.Turn.TheVariants as turn
 use Rattle.board.specs.declared.reply.Reply.{Reply}
 use Rattle.board.specs.declared.reply.Reply.TheVariants.{Done}
-use Rattle.board.specs.Hosting.{AnswersWithin, GivesAtRest, GivesInFlight, HostedEvent, HostedOutcome, HostedState, InFlight, IsBesideDisk, LooksAtQueue, OwnGives, Own, TakesHosted, WaitsOrGives, answers, is_block_task, must_wait, notifies_block, unlimited}
+use Rattle.block_device.specs.declared.device.BlockDevice.{BlockDevice}
+use Rattle.block_device.specs.declared.extent.Extent.{Extent}
+use Rattle.board.specs.Image.{Health, sectors_of}
+use Rattle.board.specs.Hosting.{AnswersWithin, GivesAtRest, GivesInFlight, HostedEvent, HostedOutcome, HostedState, InFlight, IsBesideDisk, LooksAtQueue, OwnGives, Own, TakesHosted, WaitsOrGives, answers, device_at, hosted_slot, is_block_task, must_wait, notifies_block, unlimited, unseen}
 use Rattle.board.specs.Machine.{at_rest, task_at, with_write}
 use Rattle.board.specs.Pausing.{Begins, ServesTurn, readied}
-use Rattle.board.specs.Slot.{SlotState}
+use Rattle.board.specs.Slot.{BoardSlot, SlotState, state_of}
 use Rattle.board.specs.Task.{Task, Nothing, ServeBlock, ServeReceive, ServeTransmit, PutOut}
 use Rattle.board.specs.Within.{BeginsWithin, PutsOutWithin, TakesWithin}
 use Rattle.board.proofs.Answered.{ended_within}
+use Rattle.board.proofs.Flights.{own_count}
 use Rattle.board.proofs.Whole.{whole}
 
 -- the event waits
@@ -95,3 +99,41 @@ notified_within limit old (MemRead addr len) new waiting left reply is = absurd 
 notified_within limit old (MemWrite addr bytes) new waiting left reply is = absurd (cc)
 notified_within limit old (Input bytes) new waiting left reply is = absurd (cc)
 notified_within limit old (Resize cols rows) new waiting left reply is = absurd (cc)
+
+-- ---- a slot's own disk
+
+-- nothing waits, as the slot itself has it
+abbrev pub IsFree : {A : Type 0} → Option InFlight → EventKind A → Type 0
+IsFree flight what = (is_some flight && must_wait what) ≡ false
+
+same_extent : (slot new : BoardSlot) → device_at new ≡ device_at slot → new.extent ≡ slot.extent
+same_extent slot new device = ap (λ (d : BlockDevice). d.extent) device
+
+-- the slot's disk has as many sectors after an event as before
+own_after : (slot new : BoardSlot) → device_at new ≡ device_at slot → state_of (unseen slot.extent.count) new ≡ hosted_slot new
+own_after slot new device = ap (λ (e : Extent). state_of (unseen e.count) new) (sym (same_extent slot new device))
+
+pub beside_slot : {A : Type 0} (slot new : BoardSlot) (flight : Option InFlight) (what : EventKind A) (reply : Reply A) (out out' : List ℕ) → slot.extent.start ≡ 0 → device_at new ≡ device_at slot → IsFree flight what
+    → false ≡ notifies_block what (hosted_slot slot)
+    → ((image : List ℕ) (health : Health) → sectors_of (state_of image slot).extent ≡ slot.extent.count → ServesTurn (Begins what unlimited) (state_of image slot) health health (state_of image new) (turn.Answered reply) out out')
+    → TakesHosted (record { slot = hosted_slot slot; flight = flight }) (Own what) (record { slot = hosted_slot new; flight = flight }) (Answered reply) out out'
+beside_slot slot new flight what reply out out' own device free other serves =
+    beside (record { slot = hosted_slot slot; flight = flight }) (record { slot = hosted_slot new; flight = flight }) what reply out out' free (sym other) refl
+    (subst (λ (s : SlotState). ServesTurn (Begins what unlimited) (hosted_slot slot) at_rest at_rest s (turn.Answered reply) out out') (own_after slot new device)
+    (serves (unseen slot.extent.count) at_rest (own_count slot own)))
+
+pub beside_slot_within : {A : Type 0} (slot new : BoardSlot) (what : EventKind A) (reply : Reply A) (out out' : List ℕ) (o : Option ℕ) → device_at new ≡ device_at slot
+    → ((image : List ℕ) (limit : ℕ) → o ≡ Some limit → BeginsWithin limit what unlimited (state_of image slot) (state_of image new) out out' (turn.Answered reply))
+    → (limit : ℕ) → o ≡ Some limit → TakesWithin limit (hosted_slot slot) what (hosted_slot new) out out' reply
+beside_slot_within slot new what reply out out' o device within limit limited =
+    ended_within limit what unlimited (hosted_slot slot) (hosted_slot new) out out' reply
+    (subst (λ (s : SlotState). BeginsWithin limit what unlimited (hosted_slot slot) s out out' (turn.Answered reply)) (own_after slot new device) (within (unseen slot.extent.count) limit limited))
+
+pub notified_slot : {A : Type 0} (slot mid : BoardSlot) (flight : Option InFlight) (what : EventKind A) (new : HostedState) (out : List ℕ) → device_at mid ≡ device_at slot → IsFree flight what
+    → true ≡ notifies_block what (hosted_slot slot) → ((image : List ℕ) → state_of image mid ≡ readied what (state_of image slot))
+    → (flight ≡ None → LooksAtQueue (hosted_slot mid) new) → (IsSome flight → new ≡ record { slot = hosted_slot mid; flight = flight })
+    → TakesHosted (record { slot = hosted_slot slot; flight = flight }) (Own what) new (Answered Done) out out
+notified_slot slot mid flight what new out device free rings readied_is looks stays =
+    let old : HostedState = record { slot = hosted_slot slot; flight = flight } in
+    let is : hosted_slot mid ≡ readied what (hosted_slot slot) = sym (own_after slot mid device) ∙ readied_is (unseen slot.extent.count) in
+    notified old (record { slot = hosted_slot mid; flight = flight }) new what out free (sym rings) (ap (λ (s : SlotState). record { slot = s; flight = flight }) is) looks stays

@@ -4,7 +4,7 @@
 //! `slot` has one guest, of whose requests one is in flight at most; `reply` is what a call is answered, and `laws` has
 //! what holds of all calls, whatever their order. Nothing is shared between slots: there is no image.
 
-ghost use Rattle.std.specs.Prelude.{◌≡◌, ◌≤◌, ℕ, [], Some, None, length, map, IfOk, IfSome, IsSomeAnd, IfErr, OnOk};
+ghost use Rattle.std.specs.Prelude.{◌≡◌, ◌↔◌, ◌<◌, ◌≤◌, ℕ, [], Some, None, length, map, IfOk, IfSome, IfNone, IsSome, IsSomeAnd, IfErr, OnOk};
 ghost use Rattle.std.specs.List.{slice_get};
 ghost use Rattle.std.specs.Option.{option_and_then};
 ghost use Rattle.block_device.specs.Operation.{LiesInside};
@@ -106,21 +106,31 @@ impl<A: Allocator> HostedBoard<A> {
     pub fn operation(&self, slot: u8) -> Option<Operation>
         ensures { result ≡ option_and_then (λ found. operation_in found.flight) (slice_get self.now slot) }
     {
-        let found = self.slots.get(slot as usize)?;
+        let found = self.slot(slot)?;
         found.operation()
     }
 
-    /// Where the bytes of the slot's operation lie: runs of guest memory, or of a ZEROES of the guest's disk.
+    /// Where the bytes of the operation in flight lie: runs of guest memory, or of a ZEROES of the guest's disk. There is
+    /// no answer for a slot that isn't there.
     pub fn runs(&self, slot: u8) -> Option<&[Segment]>
-        ensures runs { IfSome (slice_get self.now slot) (λ found. IfSome found.flight (λ here.
-            IsSomeAnd result (λ runs. runs.now ≡ here.runs))) }
+        ensures there { IsSome result ↔ (slot < length self.now) }
+        ensures runs { IfSome result (λ runs. IsSomeAnd (slice_get self.now slot) (λ found.
+            IfSome found.flight (λ here. runs.now ≡ here.runs))) }
 
         // nothing that the host is told lies outside the guest's memory or its disk, whatever the guest has done since
-        ensures inside { IfSome (slice_get self.now slot) (λ found. IfSome found.flight (λ here.
-            LiesInside (sectors_of found.slot.extent) found.slot.memory here.flight.operation here.runs)) }
+        ensures inside { IfSome result (λ runs. IsSomeAnd (slice_get self.now slot) (λ found. IfSome found.flight (λ here.
+            LiesInside (sectors_of found.slot.extent) found.slot.memory here.flight.operation here.runs))) }
     {
-        let found = self.slots.get(slot as usize)?;
+        let found = self.slot(slot)?;
         Some(found.runs())
+    }
+
+    // The slot of that number.
+    fn slot(&self, slot: u8) -> Option<&HostedSlot<A>>
+        ensures there { IfSome result (λ found. slice_get self.now slot ≡ Some found.now) }
+        ensures missing { IfNone result (slice_get self.now slot ≡ None) }
+    {
+        self.slots.get(slot as usize)
     }
 
     /// How many slots the board has, from 1 to 64. They are numbered from 0.

@@ -1,4 +1,4 @@
-use Rattle.std.proofs.Common.{◌≡◌, sym, ap, subst, ◌∙◌, refl}
+use Rattle.std.proofs.Common.{◌≡◌, ℕ, List, sym, ap, subst, ◌∙◌, refl}
 use Rattle.guest_memory.specs.Memory.{SameRange}
 use Rattle.guest_memory.proofs.Ranges.{same_trans}
 use Rattle.board.specs.declared.event.EventKind.{EventKind}
@@ -8,6 +8,7 @@ use Rattle.board.specs.Hosting.{device_at}
 use Rattle.board.specs.Machine.{task_at}
 use Rattle.board.specs.Pausing.{Begins, ServesTurn}
 use Rattle.board.specs.Slot.{BoardSlot, state_of}
+use Rattle.board.specs.Task.{Task}
 use Rattle.board.specs.Within.{BeginsWithin}
 use Rattle.board.proofs.Beside.{not_block, written_block, written_device, written_range}
 use Rattle.board.proofs.Turns.{begins_by, begins_within, nothing_asked, nothing_turn, put_out_asked, put_out_turn, put_out_within, serve_asked}
@@ -25,7 +26,7 @@ returns-in-Serve-Block-clause-range g c = written_range c.args.window c.args.off
 pub returns-in-Serve : goal.returns-in-Serve
 returns-in-Serve g c =
     let written = c.write_registers.ensures in
-    let task = λ image. task_at c.args.window c.args.offset c.args.width c.args.value (state_of image c.args.self.now) in
+    let task : (image : List ℕ) → Task = λ image. task_at c.args.window c.args.offset c.args.width c.args.value (state_of image c.args.self.now) in
     let what : EventKind g.row.A.Denot = Write c.args.window c.args.offset c.args.width c.args.value in
     let served = c.serve_console in
     record {
@@ -69,9 +70,8 @@ returns-in-PutOut-clause-within g c = λ image limit limited.
 
 pub returns-in-PutOut-clause-device : goal.returns-in-PutOut-clause-device
 returns-in-PutOut-clause-device g c =
-    rw (c.emergency-put_out.ensures.same)
-    (subst (λ (slot : BoardSlot). device_at slot ≡ device_at c.args.self.now) (sym c.self.view_is)
-    (written_device c.args.window c.args.offset c.args.width c.args.value c.args.self.now c.write_registers.new.self c.write_registers.ensures.written c.write_registers.ensures.extent))
+    subst (λ (slot : BoardSlot). device_at slot ≡ device_at c.args.self.now) (sym c.self.view_is)
+    (written_device c.args.window c.args.offset c.args.width c.args.value c.args.self.now c.write_registers.new.self c.write_registers.ensures.written c.write_registers.ensures.extent)
 
 pub returns-in-PutOut-clause-block : goal.returns-in-PutOut-clause-block
 returns-in-PutOut-clause-block g c =
