@@ -1,6 +1,8 @@
 -- One slot's call, seen as a call of the whole board.
-use Rattle.std.proofs.Common.{◌≡◌, ℕ, Option, Some, None, List, [], ◌++◌, refl, sym, ◌∙◌, ap, subst, append-nil}
-use Rattle.std.specs.Prelude.{slice_set, MatchOption}
+use Rattle.std.proofs.Common.{◌≡◌, ℕ, Option, Some, None, List, [], ◌++◌, Bor, refl, sym, ◌∙◌, ap, subst, append-nil}
+use Rattle.std.specs.Prelude.{slice_set, IfNone, MatchOption}
+use Rattle.std.specs.Slice.{IsItemAt}
+use Rattle.std.proofs.lemmas.Option.{slice_get_past}
 use Rattle.std.specs.List.{slice_get}
 use Rattle.board.specs.declared.hosted.reply.HostedReply.{HostedReply}
 use Rattle.board.specs.declared.hosted.reply.HostedReply.TheVariants.{Answered}
@@ -49,3 +51,8 @@ calls_missing {A} slots h event limit waiting none =
 -- every other slot is kept
 pub others_stay : (slots : List HostedState) (h : ℕ) (new : HostedState) (other : ℕ) → (other ≡ h → ⊥) → slice_get (slice_set slots h new) other ≡ slice_get slots other
 others_stay slots h new other differ = get_set_other slots h other new (λ same. differ (sym same))
+
+-- where a slice has no such item, its list has none
+pub none_there : (slots seen : List HostedState) (i : ℕ) (found : Option (Bor HostedState)) → slots ≡ seen → IsItemAt slots i found → IfNone found (slice_get seen i ≡ None)
+none_there slots seen i None same at = rw (← same) (slice_get_past slots i at.3)
+none_there slots seen i (Some found) same at = tt

@@ -17,14 +17,13 @@ mod laws;
 mod reply;
 mod slot;
 
+use crate::check;
+use crate::event::EventKind;
+use crate::fault::BoardFault;
 pub use crate::hosted::laws::{
     a_flight_outlasts_own_events, each_hosted_guest_is_alone, what_waits_changes_nothing,
 };
 pub use crate::hosted::reply::{HostedReply, HostedTaken};
-
-use crate::check;
-use crate::event::EventKind;
-use crate::fault::BoardFault;
 use crate::hosted::slot::HostedSlot;
 use crate::spec::SlotSpec;
 use block_device::{Operation, Verdict};
@@ -65,12 +64,7 @@ impl<A: Allocator + Copy> HostedBoard<A> {
     }
 
     /// Handles one event of a slot. What its console puts out is appended to `out`.
-    pub fn step<O: Outlet>(
-        &mut self,
-        slot: u8,
-        what: &EventKind<A>,
-        out: &mut O,
-    ) -> HostedTaken<A>
+    pub fn step<O: Outlet>(&mut self, slot: u8, what: &EventKind<A>, out: &mut O) -> HostedTaken<A>
         ensures takes { TakesCall self.old slot (HostedEvent.Own what.now) (O.limit out.old) result.reply
             result.block_irq result.console_irq (O.bytes out.old) (O.bytes out.new) self.new }
         ensures others { KeepsOtherGuests slot self.old self.new }

@@ -33,8 +33,8 @@ pub use event::{Event, EventKind};
 pub use fault::BoardFault;
 pub use guest_memory::{GuestMemory, MemoryFault};
 pub use hosted::{
-    HostedBoard, HostedReply, HostedTaken, a_flight_outlasts_own_events, each_hosted_guest_is_alone,
-    what_waits_changes_nothing,
+    HostedBoard, HostedReply, HostedTaken, a_flight_outlasts_own_events,
+    each_hosted_guest_is_alone, what_waits_changes_nothing,
 };
 pub use laws::{
     a_failed_event_keeps_the_rest, a_guest_alone_has_one_run, a_step_is_a_run, each_guest_is_alone,

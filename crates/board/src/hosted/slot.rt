@@ -78,7 +78,10 @@ impl<A: Allocator + Copy> HostedSlot<A> {
         if self.holds_up(what) {
             return HostedReply::Busy;
         }
-        match self.slot.answer_beside_disk(alloc, what, Budget::UNLIMITED, out) {
+        match self
+            .slot
+            .answer_beside_disk(alloc, what, Budget::UNLIMITED, out)
+        {
             Some(Turn::Answered(reply)) => HostedReply::Answered(reply),
             Some(Turn::More(_)) => unreachable!(),
             None => {

@@ -168,8 +168,7 @@ impl<A: Allocator> Slot<A> {
         ensures rest { self.new ≡ record self.old { memory = self.new.memory; block = self.new.block } }
     {
         let (memory, window) = (&mut self.memory, &mut self.block);
-        self.block_device
-            .host_piece(memory, window, Stage::First, Budget::UNLIMITED, room, runs)
+        self.block_device.host_piece(memory, window, Stage::First, Budget::UNLIMITED, room, runs)
     }
 
     /// Completes the chain in flight, whose buffers stand in `room`.

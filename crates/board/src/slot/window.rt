@@ -106,7 +106,13 @@ impl<A: Allocator + Copy> Slot<A> {
     }
 
     // Writes a window's registers, and tells what is left for its device to do.
-    pub(super) fn write_registers(&mut self, window: DeviceKind, offset: u16, width: u8, value: u32) -> Duty
+    pub(super) fn write_registers(
+        &mut self,
+        window: DeviceKind,
+        offset: u16,
+        width: u8,
+        value: u32,
+    ) -> Duty
         ensures duty { (image : List ℕ) →
             result ≡ duty_of (task_at window offset width value (state_of image self.old)) }
         ensures written { (image : List ℕ) →
