@@ -21,3 +21,10 @@ pub mod Answered
 pub mod Belonging
 pub mod Saving
 pub mod GoingOn
+pub mod Flights
+pub mod Beside
+pub mod Hosts
+pub mod HostedAlone
+pub mod Waiting
+pub mod HostedSpecs
+pub mod HostedSeats

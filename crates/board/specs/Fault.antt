@@ -1,5 +1,5 @@
 -- Which boards there may be, and why others are refused.
-use Rattle.std.specs.Prelude.{◌≡◌, ℕ, Bool, true, false, ◌+◌, ◌<◌, ◌≤◌, List, [], length, take, All, Any, Some}
+use Rattle.std.specs.Prelude.{◌≡◌, ℕ, Bool, true, false, ◌+◌, ◌-◌, ◌/◌, ◌^◌, ◌<◌, ◌≤◌, List, [], length, take, All, Any, Some}
 use Rattle.std.specs.List.{slice_get}
 use Rattle.guest_memory.specs.Limits.{IsSize, IsBase}
 use Rattle.guest_memory.specs.declared.fault.MemoryFault.TheVariants.{BadSize, BadBase}
@@ -94,3 +94,47 @@ is_want_of_memory NoMemory = true
 is_want_of_memory (Memory memory.NoMemory) = true
 is_want_of_memory (Cache cache.NoMemory) = true
 is_want_of_memory _ = false
+
+-- ---- slots whose disks the host serves
+
+-- the slot with a disk of its own, which has as many sectors as the extent counts
+abbrev pub with_own_disk : SlotSpec → SlotSpec
+with_own_disk spec = record spec { extent = record { start = 0; count = spec.extent.count } }
+
+-- the most sectors that a disk may have whose bytes are counted in 64 bits
+abbrev pub most_sectors : ℕ
+most_sectors = (2 ^ 64 - 1) / 512
+
+-- a slot may be had: its memory is good, and its disk isn't too large
+abbrev pub IsGoodHosted : SlotSpec → Type 0
+IsGoodHosted spec = IsGoodSlot most_sectors [] (with_own_disk spec)
+
+abbrev pub GoodHostedBelow : List SlotSpec → ℕ → Type 0
+GoodHostedBelow slots n = (i : ℕ) (spec : SlotSpec) → i < n → slice_get slots i ≡ Some spec → IsGoodHosted spec
+
+-- all the slots can be had together
+pub record AreGoodHosted (slots : List SlotSpec) : Type 0 where
+  pub some : 1 ≤ length slots
+  pub few : length slots ≤ 64
+  pub each : GoodHostedBelow slots (length slots)
+
+-- the first slot that isn't good has this fault
+pub record HasFirstHostedFault (slots : List SlotSpec) (fault : BoardFault) : Type 0 where
+  pub some : 1 ≤ length slots
+  pub few : length slots ≤ 64
+  pub at_slot : ℕ
+  pub spec : SlotSpec
+  pub there : slice_get slots at_slot ≡ Some spec
+  pub before : GoodHostedBelow slots at_slot
+  pub fault_is : IsFaultOf most_sectors [] (with_own_disk spec) fault
+
+-- Why such a board is refused, in the same order as one over an image: there is no image that an extent could pass the
+-- end of, but a disk may be too large; extents share nothing, and there is no cache.
+abbrev pub RefusesHosted : List SlotSpec → BoardFault → Type 0
+RefusesHosted slots NoSlots = slots ≡ []
+RefusesHosted slots TooManySlots = 64 < length slots
+RefusesHosted slots (Memory fault) = HasFirstHostedFault slots (Memory fault)
+RefusesHosted slots ExtentOutside = HasFirstHostedFault slots ExtentOutside
+RefusesHosted slots ExtentsOverlap = ⊥
+RefusesHosted slots (Cache fault) = ⊥
+RefusesHosted slots NoMemory = AreGoodHosted slots

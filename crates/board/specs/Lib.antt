@@ -1,6 +1,8 @@
 pub use Rattle.guest_memory.specs.Memory
 pub use Rattle.mmio_window.specs.Window
 pub use Rattle.sector_cache.specs.Disk
+pub mod Hosting
+pub mod HostedLine
 pub mod Image
 pub mod Extent
 pub mod Slot

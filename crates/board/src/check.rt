@@ -4,7 +4,7 @@ ghost use Rattle.std.specs.Prelude.{◌≡◌, ◌+◌, ◌<◌, ◌≤◌, ◌^
 ghost use Rattle.std.specs.Bool.{OnTrue, OnFalse};
 ghost use Rattle.block_device.specs.Extent.{IsWithin};
 ghost use Rattle.board.specs.Extent.{IsApart, Overlaps};
-ghost use Rattle.board.specs.Fault.{IsGoodSlot, AreGood, IsFaultOf, Refuses};
+ghost use Rattle.board.specs.Fault.{AreGoodHosted, IsGoodSlot, AreGood, IsFaultOf, Refuses, RefusesHosted, with_own_disk};
 
 use crate::fault::BoardFault;
 use crate::spec::SlotSpec;
@@ -13,6 +13,9 @@ use guest_memory::fault_of;
 
 /// How many slots a board may have.
 const MOST_SLOTS: usize = 64;
+
+/// How many sectors a disk may have of which no image holds the bytes: their bytes are counted in 64 bits.
+const MOST_SECTORS: u64 = u64::MAX / 512;
 
 /// Whether the slots can be had together on an image of that many sectors, or the first fault.
 pub(crate) fn slots(slots: &[SlotSpec], sectors: u64) -> Result<(), BoardFault>
@@ -29,6 +32,36 @@ pub(crate) fn slots(slots: &[SlotSpec], sectors: u64) -> Result<(), BoardFault>
         slot(spec, &slots[..i], sectors)?;
     }
     Ok(())
+}
+
+/// Whether the slots can be had together, each with a disk of its own, or the first fault.
+pub(crate) fn hosted_slots(slots: &[SlotSpec]) -> Result<(), BoardFault>
+    ensures ok { OnOk result (AreGoodHosted slots.now) }
+    ensures fault { IfErr result (λ fault. RefusesHosted slots.now fault) }
+{
+    if slots.is_empty() {
+        return Err(BoardFault::NoSlots);
+    }
+    if slots.len() > MOST_SLOTS {
+        return Err(BoardFault::TooManySlots);
+    }
+    for spec in slots {
+        slot(&own_disk(spec), &[], MOST_SECTORS)?;
+    }
+    Ok(())
+}
+
+/// The same slot, with a disk of its own.
+pub(crate) fn own_disk(spec: &SlotSpec) -> SlotSpec
+    ensures { result ≡ with_own_disk spec.now }
+{
+    SlotSpec {
+        extent: Extent {
+            start: 0,
+            count: spec.extent.count,
+        },
+        ..*spec
+    }
 }
 
 // Whether a slot is good beside the earlier ones, or its first fault.

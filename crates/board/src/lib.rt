@@ -17,6 +17,7 @@ mod check;
 mod event;
 mod fault;
 mod features;
+mod hosted;
 mod laws;
 mod pause;
 mod reply;
@@ -24,7 +25,7 @@ mod saved;
 mod slot;
 mod spec;
 
-pub use block_device::Extent;
+pub use block_device::{Extent, Verdict};
 pub use board::{Board, Taken};
 pub use bytes::Bytes;
 pub use chain::Budget;
@@ -32,6 +33,10 @@ pub use console_device::Outlet;
 pub use event::{Event, EventKind};
 pub use fault::BoardFault;
 pub use guest_memory::{GuestMemory, MemoryFault};
+pub use hosted::{
+    HostedBoard, HostedReply, HostedTaken, a_flight_outlasts_own_events,
+    each_hosted_guest_is_alone, what_waits_changes_nothing,
+};
 pub use laws::{
     a_failed_event_keeps_the_rest, a_guest_alone_has_one_run, a_restored_guest_goes_on,
     a_step_is_a_run, each_guest_is_alone, identities_stay, nothing_else_is_seen, one_outcome,

@@ -20,6 +20,7 @@ ghost use Rattle.board.specs.declared.reply.Reply.{Reply};
 ghost use Rattle.std.specs.Borrow.{sem};
 
 mod console;
+mod hosting;
 mod memory;
 mod saved;
 mod service;

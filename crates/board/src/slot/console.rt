@@ -1,6 +1,7 @@
 //! What is done to the guest's console from outside: what is typed, and its size.
 
 ghost use Rattle.std.specs.Prelude.{◌≡◌, ◌⊎◌, ℕ, List, [], Some};
+ghost use Rattle.guest_memory.specs.Memory.{SameRange};
 ghost use Rattle.mmio_window.specs.declared.stage.Stage.{Stage};
 ghost use Rattle.console_device.specs.Input.{fitting};
 ghost use Rattle.board.specs.declared.event.EventKind.{EventKind};
@@ -29,6 +30,12 @@ impl<A: Allocator + Copy> Slot<A> {
             ComesTo (record { service = Service.Receive; taken = Some (fitting self.old.pending bytes.now) })
             Stage.First budget (with_input bytes.now (state_of image self.old)) health health
             (state_of image self.new) [] result }
+        ensures rest { self.new ≡ record self.old {
+          memory = self.new.memory;
+          console = self.new.console;
+          pending = self.new.pending;
+        } }
+        ensures range { SameRange self.old.memory self.new.memory }
         ensures extent { self.new.extent ≡ self.old.extent }
         ensures disturbed { self.new.disturbed ≡ self.old.disturbed }
         ensures limited { (next : Pause) → result ≡ Turn.More next → HasLimit budget }
@@ -50,6 +57,7 @@ impl<A: Allocator + Copy> Slot<A> {
         ensures given { (image : List ℕ) (health : Health) →
             MayGive (state_of image self.old) (EventKind.Resize cols rows) health health
             (replies (state_of image self.new) result) }
+        ensures rest { self.new ≡ record self.old { console = self.new.console; cols = cols; rows = rows } }
         ensures extent { self.new.extent ≡ self.old.extent }
         ensures disturbed { self.new.disturbed ≡ self.old.disturbed }
         ensures done { result ≡ Reply.Done }

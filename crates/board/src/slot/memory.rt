@@ -2,7 +2,7 @@
 
 ghost use Rattle.std.specs.Prelude.{◌≡◌, ◌≢◌, ◌<◌, ℕ, List, length};
 ghost use Rattle.std.specs.Bool.{OnTrue, OnFalse};
-ghost use Rattle.guest_memory.specs.Memory.{Inside, is_inside, put};
+ghost use Rattle.guest_memory.specs.Memory.{Inside, SameRange, is_inside, put};
 ghost use Rattle.board.specs.declared.event.EventKind.{EventKind};
 ghost use Rattle.board.specs.Image.{Health};
 ghost use Rattle.board.specs.Outcome.{replies};
@@ -38,6 +38,8 @@ impl<A: Allocator + Copy> Slot<A> {
         ensures given { (bytes : List ℕ) (health : Health) →
             MayGive (state_of bytes self.old) (EventKind.MemWrite addr new.now) health health
             (replies (state_of bytes self.new) result) }
+        ensures rest { self.new ≡ record self.old { memory = self.new.memory } }
+        ensures range { SameRange self.old.memory self.new.memory }
         ensures extent { self.new.extent ≡ self.old.extent }
         ensures disturbed { self.new.disturbed ≡ self.old.disturbed }
         ensures there { result ≢ Reply.BadSlot }
@@ -59,6 +61,8 @@ impl<A: Allocator> Slot<A> {
         ensures done { OnTrue result
             (self.new ≡ record self.old { memory = put self.old.memory addr new.now }) }
         ensures kept { OnFalse result (self.new ≡ self.old) }
+        ensures rest { self.new ≡ record self.old { memory = self.new.memory } }
+        ensures range { SameRange self.old.memory self.new.memory }
         ensures extent { self.new.extent ≡ self.old.extent }
         ensures disturbed { self.new.disturbed ≡ self.old.disturbed }
     {

@@ -1,6 +1,7 @@
 //! The services of the slot's queues, piece by piece.
 
 ghost use Rattle.std.specs.Prelude.{◌≡◌, ◌≢◌, ℕ, Some, nat_lt, IfOk, OnErr};
+ghost use Rattle.guest_memory.specs.Memory.{SameRange};
 ghost use Rattle.mmio_window.specs.declared.stage.Stage.{Stage};
 ghost use Rattle.mmio_window.specs.Window.{queue_at};
 ghost use Rattle.block_device.specs.Device.{block_device};
@@ -114,6 +115,7 @@ impl<A: Allocator + Copy> Slot<A> {
           console = self.new.console;
           pending = self.new.pending;
         } }
+        ensures range { SameRange self.old.memory self.new.memory }
     {
         let (memory, window) = (&mut self.memory, &mut self.console);
         self.console_device
@@ -121,7 +123,7 @@ impl<A: Allocator + Copy> Slot<A> {
     }
 
     // Puts out the bytes of the chains on offer (5.3.6).
-    fn serve_transmit<O: Outlet>(
+    pub(super) fn serve_transmit<O: Outlet>(
         &mut self,
         stage: Stage,
         budget: Budget,
@@ -134,6 +136,7 @@ impl<A: Allocator + Copy> Slot<A> {
             (queue_at 1 self.old.console) self.old.memory self.new.memory
             self.old.console self.new.console (O.bytes out.old) (O.bytes out.new)) }
         ensures rest { self.new ≡ record self.old { memory = self.new.memory; console = self.new.console } }
+        ensures range { SameRange self.old.memory self.new.memory }
         ensures limit { O.limit out.new ≡ O.limit out.old }
     {
         let (memory, window) = (&mut self.memory, &mut self.console);

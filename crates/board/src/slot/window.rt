@@ -106,7 +106,13 @@ impl<A: Allocator + Copy> Slot<A> {
     }
 
     // Writes a window's registers, and tells what is left for its device to do.
-    fn write_registers(&mut self, window: DeviceKind, offset: u16, width: u8, value: u32) -> Duty
+    pub(super) fn write_registers(
+        &mut self,
+        window: DeviceKind,
+        offset: u16,
+        width: u8,
+        value: u32,
+    ) -> Duty
         ensures duty { (image : List ℕ) →
             result ≡ duty_of (task_at window offset width value (state_of image self.old)) }
         ensures written { (image : List ℕ) →
@@ -159,7 +165,7 @@ fn console_duty(action: Action) -> Duty
 }
 
 // What the guest is answered where there was memory for what its console put out, and where there was none.
-fn reply_to<A: Allocator>(put_out: Result<(), NoMemory>) -> Reply<A>
+pub(super) fn reply_to<A: Allocator>(put_out: Result<(), NoMemory>) -> Reply<A>
     ensures done { OnOk put_out (result ≡ Reply.Done) }
     ensures no_memory { OnErr put_out (result ≡ Reply.NoMemory) }
 {

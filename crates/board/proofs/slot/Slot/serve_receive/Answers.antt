@@ -18,3 +18,6 @@ invariant_of-self g c =
       console_sound = served.ensures.sound;
       pending_fits = piece_fits c.args.stage c.args.budget _ served.result _ _ _ _ _ _ served.ensures.served c.self.invariant.pending_fits;
     }
+
+pub returns-clause-range : goal.returns-clause-range
+returns-clause-range g c = rw (← c.self.view_is) c.serve_receive_piece.ensures.range

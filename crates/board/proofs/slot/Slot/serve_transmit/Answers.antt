@@ -20,3 +20,6 @@ invariant_of-self g c =
       console_sound = served.ensures.sound;
       pending_fits = subst (λ (pending : List ℕ). length pending ≤ 4096) (sym (ap (λ (console : Console). console.pending) served.ensures.same)) c.self.invariant.pending_fits;
     }
+
+pub returns-clause-range : goal.returns-clause-range
+returns-clause-range g c = rw (← c.self.view_is) c.serve_transmit_piece.ensures.range

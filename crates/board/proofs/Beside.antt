@@ -1,0 +1,58 @@
+-- An event in which the disk has no part: what it keeps of the slot.
+use Rattle.std.proofs.Common.{◌≡◌, ◌≢◌, ℕ, List, [], Bool, true, false, refl, sym, ◌∙◌, ap, subst}
+use Rattle.guest_memory.specs.Memory.{Memory, SameRange}
+use Rattle.mmio_window.specs.declared.device_kind.DeviceKind.{DeviceKind}
+use Rattle.mmio_window.specs.declared.device_kind.DeviceKind.TheVariants.{Block, Console}
+use Rattle.board.specs.declared.event.EventKind.TheVariants.{Write}
+use Rattle.board.specs.declared.pause.Service.{Service}
+use Rattle.board.specs.declared.pause.Service.TheVariants as service
+use Rattle.board.specs.declared.slot.window.Duty.TheVariants as duty
+use Rattle.board.specs.Hosting.{block_beside, device_at, is_block_task}
+use Rattle.board.specs.Machine.{with_write}
+use Rattle.board.specs.Pausing.{duty_of}
+use Rattle.board.specs.Slot.{BoardSlot, SlotState, state_of}
+use Rattle.board.specs.Task.{Task, Nothing, ServeBlock, ServeReceive, ServeTransmit, PutOut}
+
+same_device : (s t : BoardSlot) → s.extent ≡ t.extent → s.read_only ≡ t.read_only → s.identity ≡ t.identity → device_at s ≡ device_at t
+same_device s t e r i = rw (e, r, i) refl
+
+-- what a write to a window keeps
+record Kept (old new : SlotState) : Type 0 where
+  memory : new.memory ≡ old.memory
+  read_only : new.read_only ≡ old.read_only
+  identity : new.identity ≡ old.identity
+
+kept_by_write : (window : DeviceKind) (offset width value : ℕ) (state : SlotState) → Kept state (with_write window offset width value state)
+kept_by_write Block offset width value state = record { memory = refl; read_only = refl; identity = refl }
+kept_by_write Console offset width value state = record { memory = refl; read_only = refl; identity = refl }
+
+-- the slot's window was written
+abbrev pub IsWritten : DeviceKind → ℕ → ℕ → ℕ → BoardSlot → BoardSlot → Type 0
+IsWritten window offset width value old new = (image : List ℕ) → state_of image new ≡ with_write window offset width value (state_of image old)
+
+pub written_device : (window : DeviceKind) (offset width value : ℕ) (old new : BoardSlot) → IsWritten window offset width value old new → new.extent ≡ old.extent → device_at new ≡ device_at old
+written_device window offset width value old new is extent =
+    let kept = kept_by_write window offset width value (state_of [] old) in
+    same_device new old extent (ap (λ (s : SlotState). s.read_only) (is []) ∙ kept.read_only) (ap (λ (s : SlotState). s.identity) (is []) ∙ kept.identity)
+
+pub written_block : (A : Type 0) (window : DeviceKind) (offset width value : ℕ) (old new : BoardSlot) → IsWritten window offset width value old new → new.block ≡ block_beside {A = A} (Write window offset width value) old
+written_block A Block offset width value old new is = ap (λ (s : SlotState). s.block) (is [])
+written_block A Console offset width value old new is = ap (λ (s : SlotState). s.block) (is [])
+
+pub same_range : (m : Memory) → SameRange m m
+same_range m = record { base = refl; size = refl }
+
+pub range_of : (m n : Memory) → n ≡ m → SameRange m n
+range_of m n is = subst (λ (k : Memory). SameRange m k) (sym is) (same_range m)
+
+pub written_range : (window : DeviceKind) (offset width value : ℕ) (old new : BoardSlot) → IsWritten window offset width value old new → SameRange old.memory new.memory
+written_range window offset width value old new is =
+    range_of old.memory new.memory (ap (λ (s : SlotState). s.memory) (is []) ∙ (kept_by_write window offset width value (state_of [] old)).memory)
+
+-- a duty of the console is none of the block device
+pub not_block : (task : Task) (which : Service) → duty.Serve which ≡ duty_of task → which ≢ service.Block → false ≡ is_block_task task
+not_block Nothing which is other = refl
+not_block ServeBlock which is other = absurd (other (cc))
+not_block ServeReceive which is other = refl
+not_block ServeTransmit which is other = refl
+not_block (PutOut byte) which is other = refl

@@ -1,0 +1,58 @@
+-- One slot's call, seen as a call of the whole board.
+use Rattle.std.proofs.Common.{◌≡◌, ℕ, Option, Some, None, List, [], ◌++◌, Bor, refl, sym, ◌∙◌, ap, subst, append-nil}
+use Rattle.std.specs.Prelude.{slice_set, IfNone, MatchOption}
+use Rattle.std.specs.Slice.{IsItemAt}
+use Rattle.std.proofs.lemmas.Option.{slice_get_past}
+use Rattle.std.specs.List.{slice_get}
+use Rattle.board.specs.declared.hosted.reply.HostedReply.{HostedReply}
+use Rattle.board.specs.declared.hosted.reply.HostedReply.TheVariants.{Answered}
+use Rattle.board.specs.declared.reply.Reply.TheVariants.{BadSlot}
+use Rattle.board.specs.Hosting.{HostedEvent, HostedState, HostedWithin, TakesHosted}
+use Rattle.board.specs.HostedLine.{Calls, CallsNone, CallsSlot, DecidesBy, HostedCall, TakesCall, Told}
+use Rattle.board.specs.Machine.{block_irq, console_irq}
+use Rattle.board.proofs.Alone.{get_set_other}
+
+decides : {A : Type 0} (limit : Option ℕ) (old : HostedState) (event : HostedEvent A) (new : HostedState) (reply : HostedReply A) (waiting output left : List ℕ) → left ≡ waiting ++ output
+    → ((n : ℕ) → limit ≡ Some n → HostedWithin n old event new waiting left reply) → DecidesBy limit old event new waiting (waiting ++ output) reply
+decides None old event new reply waiting output left is h = tt
+decides (Some n) old event new reply waiting output left is h = subst (λ l. HostedWithin n old event new waiting l reply) is (h n refl)
+
+-- a slot that is there takes the call
+pub calls_there : {A : Type 0} (slots : List HostedState) (h : ℕ) (state : HostedState) (event : HostedEvent A) (limit : Option ℕ) (new : HostedState) (reply : HostedReply A) (waiting left : List ℕ) → slice_get slots h ≡ Some state
+    → TakesHosted state event new reply waiting left → ((n : ℕ) → limit ≡ Some n → HostedWithin n state event new waiting left reply)
+    → TakesCall slots h event limit reply (block_irq new.slot) (console_irq new.slot) waiting left (slice_set slots h new)
+calls_there {A} slots h state event limit new reply waiting left here takes within =
+    let call : HostedCall A = record { event = event; limit = limit; waiting = waiting } in
+    let told : Told A = record { reply = reply; output = takes.output; block_irq = block_irq new.slot; console_irq = console_irq new.slot } in
+    record {
+      output = takes.output;
+      calls =
+          subst (λ (o : Option HostedState). MatchOption o (CallsNone slots told (slice_set slots h new)) (λ s. CallsSlot slots h s call told (slice_set slots h new))) (sym here) (record {
+            outcome = record { state = new; reply = reply; output = takes.output };
+            next = record { next = takes.next; within = decides limit state event new reply waiting takes.output left takes.appended within };
+            told_is = refl;
+            slots = refl;
+          });
+      appended = takes.appended;
+    }
+
+-- and one that isn't there changes nothing
+pub calls_missing : {A : Type 0} (slots : List HostedState) (h : ℕ) (event : HostedEvent A) (limit : Option ℕ) (waiting : List ℕ) → slice_get slots h ≡ None
+    → TakesCall slots h event limit (Answered BadSlot) 0 0 waiting waiting slots
+calls_missing {A} slots h event limit waiting none =
+    let call : HostedCall A = record { event = event; limit = limit; waiting = waiting } in
+    let told : Told A = record { reply = Answered BadSlot; output = []; block_irq = 0; console_irq = 0 } in
+    record {
+      output = [];
+      calls = subst (λ (o : Option HostedState). MatchOption o (CallsNone slots told slots) (λ s. CallsSlot slots h s call told slots)) (sym none) (record { told_is = refl; same = refl });
+      appended = sym (append-nil waiting);
+    }
+
+-- every other slot is kept
+pub others_stay : (slots : List HostedState) (h : ℕ) (new : HostedState) (other : ℕ) → (other ≡ h → ⊥) → slice_get (slice_set slots h new) other ≡ slice_get slots other
+others_stay slots h new other differ = get_set_other slots h other new (λ same. differ (sym same))
+
+-- where a slice has no such item, its list has none
+pub none_there : (slots seen : List HostedState) (i : ℕ) (found : Option (Bor HostedState)) → slots ≡ seen → IsItemAt slots i found → IfNone found (slice_get seen i ≡ None)
+none_there slots seen i None same at = rw (← same) (slice_get_past slots i at.3)
+none_there slots seen i (Some found) same at = tt

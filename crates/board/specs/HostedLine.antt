@@ -1,0 +1,115 @@
+-- A board whose disks the host serves: calls of any slots in any order, and what each guest sees of them. Slots share
+-- nothing, so its world is the list of their states.
+use Rattle.std.specs.Prelude.{◌≡◌, ◌≢◌, ℕ, ◌==◌, ⊤, Option, Some, None, List, [], ◌∷◌, ◌++◌, map, filter, slice_set, MatchOption}
+use Rattle.std.specs.List.{slice_get}
+use Rattle.board.specs.declared.hosted.reply.HostedReply.{HostedReply}
+use Rattle.board.specs.declared.hosted.reply.HostedReply.TheVariants.{Answered}
+use Rattle.board.specs.declared.reply.Reply.TheVariants.{BadSlot}
+use Rattle.board.specs.Hosting.{HostedEvent, HostedOutcome, HostedState, HostedWithin, IsHostedNext}
+use Rattle.board.specs.Machine.{block_irq, console_irq}
+
+-- One call for a guest: what is done, and the outlet of its console, with its limit where that alone decides what it
+-- refuses, and what waits there.
+pub record HostedCall (A : Type 0) : Type 0 where
+  pub event : HostedEvent A
+  pub limit : Option ℕ
+  pub waiting : List ℕ
+
+-- what is told of it: the reply, what the console put out, and InterruptStatus of both windows after it (4.2.2)
+pub record Told (A : Type 0) : Type 0 where
+  pub reply : HostedReply A
+  pub output : List ℕ
+  pub block_irq : ℕ
+  pub console_irq : ℕ
+
+abbrev pub told_of : {A : Type 0} → HostedOutcome A → Told A
+told_of outcome = record {
+  reply = outcome.reply;
+  output = outcome.output;
+  block_irq = block_irq outcome.state.slot;
+  console_irq = console_irq outcome.state.slot;
+}
+
+-- ---- a guest alone
+
+-- what an outlet decides
+abbrev pub DecidesBy : {A : Type 0} → Option ℕ → HostedState → HostedEvent A → HostedState → List ℕ → List ℕ → HostedReply A → Type 0
+DecidesBy None old event new waiting left reply = ⊤
+DecidesBy (Some limit) old event new waiting left reply = HostedWithin limit old event new waiting left reply
+
+-- one call of a guest that is alone with its outlet
+pub record IsCalledNext {A : Type 0} (old : HostedState) (call : HostedCall A) (outcome : HostedOutcome A) : Type 0 where
+  pub next : IsHostedNext old call.event outcome
+  pub within :
+      DecidesBy call.limit old call.event outcome.state call.waiting (call.waiting ++ outcome.output) outcome.reply
+
+-- one call after another: what each is told, and the state after the last
+abbrev pub IsHostedCourse : {A : Type 0} → HostedState → List (HostedCall A) → List (Told A) → HostedState → Type 0
+IsHostedCourse old [] [] last = last ≡ old
+IsHostedCourse old [] (told ∷ rest) last = ⊥
+IsHostedCourse old (call ∷ calls) [] last = ⊥
+IsHostedCourse {A} old (call ∷ calls) (told ∷ rest) last =
+    (outcome : HostedOutcome A)
+    × (IsCalledNext old call outcome × ((told ≡ told_of outcome) × IsHostedCourse outcome.state calls rest last))
+
+-- ---- the whole board
+
+-- A call for slot h, which was in this state: every other slot stays.
+pub record CallsSlot {A : Type 0} (old : List HostedState) (h : ℕ) (state : HostedState) (call : HostedCall A) (told : Told A)
+    (new : List HostedState) : Type 0 where
+  pub outcome : HostedOutcome A
+  pub next : IsCalledNext state call outcome
+  pub told_is : told ≡ told_of outcome
+  pub slots : new ≡ slice_set old h outcome.state
+
+-- A call for a slot that isn't there changes nothing.
+pub record CallsNone {A : Type 0} (old : List HostedState) (told : Told A) (new : List HostedState) : Type 0 where
+  pub told_is : told ≡ record { reply = Answered BadSlot; output = []; block_irq = 0; console_irq = 0 }
+  pub same : new ≡ old
+
+abbrev pub Calls : {A : Type 0} → List HostedState → ℕ → HostedCall A → Told A → List HostedState → Type 0
+Calls old h call told new =
+    MatchOption (slice_get old h) (CallsNone old told new) (λ state. CallsSlot old h state call told new)
+
+-- The board takes a call, whose output was appended to what waited.
+pub record TakesCall {A : Type 0} (old : List HostedState) (h : ℕ) (event : HostedEvent A) (limit : Option ℕ)
+    (reply : HostedReply A) (block console : ℕ) (waiting left : List ℕ) (new : List HostedState) : Type 0 where
+  pub output : List ℕ
+  pub calls :
+      Calls old h (record { event = event; limit = limit; waiting = waiting })
+      (record { reply = reply; output = output; block_irq = block; console_irq = console }) new
+  pub appended : left ≡ waiting ++ output
+
+-- every slot but that one is kept as it was
+abbrev pub KeepsOtherGuests : ℕ → List HostedState → List HostedState → Type 0
+KeepsOtherGuests h old new = (other : ℕ) → other ≢ h → slice_get new other ≡ slice_get old other
+
+-- ---- calls of any slots in any order
+
+-- One call that was taken: whose it was, what was told of it, and the slots after it.
+pub record HostedMove (A : Type 0) : Type 0 where
+  pub slot : ℕ
+  pub call : HostedCall A
+  pub told : Told A
+  pub after : List HostedState
+
+abbrev pub IsHostedLine : {A : Type 0} → List HostedState → List (HostedMove A) → List HostedState → Type 0
+IsHostedLine old [] new = new ≡ old
+IsHostedLine old (move ∷ moves) new = Calls old move.slot move.call move.told move.after × IsHostedLine move.after moves new
+
+-- what is called for guest g, in order, and what it is told
+abbrev pub own_moves : {A : Type 0} → ℕ → List (HostedMove A) → List (HostedMove A)
+own_moves g moves = filter (λ move. move.slot == g) moves
+
+abbrev pub own_calls : {A : Type 0} → ℕ → List (HostedMove A) → List (HostedCall A)
+own_calls g moves = map (λ move. move.call) (own_moves g moves)
+
+abbrev pub own_told : {A : Type 0} → ℕ → List (HostedMove A) → List (Told A)
+own_told g moves = map (λ move. move.told) (own_moves g moves)
+
+-- Guest g, which was in this state, is told what it would be told alone, and its state afterwards is what it would be
+-- alone: its own calls decide both, the outcomes of its completions among them, whatever was called for others.
+pub record RunsHostedAlone {A : Type 0} (g : ℕ) (state : HostedState) (moves : List (HostedMove A)) (new : List HostedState) : Type 0 where
+  pub last : HostedState
+  pub course : IsHostedCourse state (own_calls g moves) (own_told g moves) last
+  pub state_after : slice_get new g ≡ Some last

@@ -1,0 +1,151 @@
+//! A board whose disks the host serves: up to sixty-four guests, each with a disk of its own, of which the board says
+//! what it wants and the host says what came of it.
+//!
+//! `slot` has one guest, of whose requests one is in flight at most; `reply` is what a call is answered, and `laws` has
+//! what holds of all calls, whatever their order. Nothing is shared between slots: there is no image.
+
+ghost use Rattle.std.specs.Prelude.{◌≡◌, ◌↔◌, ◌<◌, ◌≤◌, ℕ, [], Some, None, length, map, IfOk, IfSome, IfNone, IsSome, IsSomeAnd, IfErr, OnOk};
+ghost use Rattle.std.specs.List.{slice_get};
+ghost use Rattle.std.specs.Option.{option_and_then};
+ghost use Rattle.block_device.specs.Operation.{LiesInside};
+ghost use Rattle.board.specs.Image.{sectors_of};
+ghost use Rattle.board.specs.Fault.{AreGoodHosted, RefusesHosted};
+ghost use Rattle.board.specs.Hosting.{HostedEvent, hosted_opened, operation_in};
+ghost use Rattle.board.specs.HostedLine.{KeepsOtherGuests, TakesCall};
+
+mod laws;
+mod reply;
+mod slot;
+
+use crate::check;
+use crate::event::EventKind;
+use crate::fault::BoardFault;
+pub use crate::hosted::laws::{
+    a_flight_outlasts_own_events, each_hosted_guest_is_alone, what_waits_changes_nothing,
+};
+pub use crate::hosted::reply::{HostedReply, HostedTaken};
+use crate::hosted::slot::HostedSlot;
+use crate::spec::SlotSpec;
+use block_device::{Operation, Verdict};
+use chain::Segment;
+use console_device::Outlet;
+use std::alloc::{AllocError, Allocator, Global};
+use std::marker::Model;
+
+/// Up to sixty-four guests whose disks the host serves.
+#[derive(Drop)]
+pub struct HostedBoard<A: Allocator = Global> {
+    slots: Vec<HostedSlot<A>, A>,
+    alloc: A,
+}
+
+impl<A: Allocator> Model for HostedBoard<A> {
+    ghost use Rattle.std.specs.Prelude.{List};
+    ghost use Rattle.board.specs.Hosting.{HostedState};
+
+    ghost Value = { List HostedState };
+
+    ghost view = { λ b. b.slots.items };
+}
+
+impl<A: Allocator + Copy> HostedBoard<A> {
+    /// A board with these slots. Of an extent the count alone is read: each guest has a disk of its own, of so many
+    /// sectors from the first on.
+    pub fn new(alloc: A, slots: &[SlotSpec]) -> Result<HostedBoard<A>, BoardFault>
+        ensures made { IfOk result (λ board. board ≡ map hosted_opened slots.now) }
+        ensures accepted { OnOk result (AreGoodHosted slots.now) }
+        ensures fault { IfErr result (λ fault. RefusesHosted slots.now fault) }
+    {
+        check::hosted_slots(slots)?;
+        match open_all(alloc, slots) {
+            Ok(slots) => Ok(HostedBoard { slots, alloc }),
+            Err(AllocError) => Err(BoardFault::NoMemory),
+        }
+    }
+
+    /// Handles one event of a slot. What its console puts out is appended to `out`.
+    pub fn step<O: Outlet>(&mut self, slot: u8, what: &EventKind<A>, out: &mut O) -> HostedTaken<A>
+        ensures takes { TakesCall self.old slot (HostedEvent.Own what.now) (O.limit out.old) result.reply
+            result.block_irq result.console_irq (O.bytes out.old) (O.bytes out.new) self.new }
+        ensures others { KeepsOtherGuests slot self.old self.new }
+        ensures limit { O.limit out.new ≡ O.limit out.old }
+        ensures block_word { result.block_irq ≤ 3 }
+        ensures console_word { result.console_irq ≤ 3 }
+    {
+        let Some(found) = self.slots.get_mut(slot as usize) else {
+            return HostedTaken::missing();
+        };
+        let reply = found.step(self.alloc, what, out);
+        HostedTaken::after(reply, found)
+    }
+}
+
+impl<A: Allocator> HostedBoard<A> {
+    /// Completes what is in flight of a slot by what came of it.
+    pub fn complete(&mut self, slot: u8, verdict: Verdict) -> HostedTaken<A>
+        ensures takes { TakesCall self.old slot (HostedEvent.Completed verdict) None result.reply
+            result.block_irq result.console_irq [] [] self.new }
+        ensures others { KeepsOtherGuests slot self.old self.new }
+        ensures block_word { result.block_irq ≤ 3 }
+        ensures console_word { result.console_irq ≤ 3 }
+    {
+        let Some(found) = self.slots.get_mut(slot as usize) else {
+            return HostedTaken::missing();
+        };
+        let reply = found.complete(verdict);
+        HostedTaken::after(reply, found)
+    }
+
+    /// What the host is asked to do for a slot. There is no answer where nothing of it is in flight.
+    pub fn operation(&self, slot: u8) -> Option<Operation>
+        ensures { result ≡ option_and_then (λ found. operation_in found.flight) (slice_get self.now slot) }
+    {
+        let found = self.slot(slot)?;
+        found.operation()
+    }
+
+    /// Where the bytes of the operation in flight lie: runs of guest memory, or of a ZEROES of the guest's disk. There is
+    /// no answer for a slot that isn't there.
+    pub fn runs(&self, slot: u8) -> Option<&[Segment]>
+        ensures there { IsSome result ↔ (slot < length self.now) }
+        ensures runs { IfSome result (λ runs. IsSomeAnd (slice_get self.now slot) (λ found.
+            IfSome found.flight (λ here. runs.now ≡ here.runs))) }
+
+        // nothing that the host is told lies outside the guest's memory or its disk, whatever the guest has done since
+        ensures inside { IfSome result (λ runs. IsSomeAnd (slice_get self.now slot) (λ found. IfSome found.flight (λ here.
+            LiesInside (sectors_of found.slot.extent) found.slot.memory here.flight.operation here.runs))) }
+    {
+        let found = self.slot(slot)?;
+        Some(found.runs())
+    }
+
+    // The slot of that number.
+    fn slot(&self, slot: u8) -> Option<&HostedSlot<A>>
+        ensures there { IfSome result (λ found. slice_get self.now slot ≡ Some found.now) }
+        ensures missing { IfNone result (slice_get self.now slot ≡ None) }
+    {
+        self.slots.get(slot as usize)
+    }
+
+    /// How many slots the board has, from 1 to 64. They are numbered from 0.
+    pub fn slots(&self) -> usize
+        ensures { result ≡ length self.now }
+    {
+        self.slots.len()
+    }
+}
+
+// Opens the slots in their order.
+fn open_all<A: Allocator + Copy>(
+    alloc: A,
+    specs: &[SlotSpec],
+) -> Result<Vec<HostedSlot<A>, A>, AllocError>
+    requires { AreGoodHosted specs.now }
+    ensures { IfOk result (λ slots. slots.items ≡ map hosted_opened specs.now) }
+{
+    let mut slots = Vec::with_capacity(alloc, specs.len())?;
+    for spec in specs {
+        slots.push(HostedSlot::open(alloc, spec)?)?;
+    }
+    Ok(slots)
+}

@@ -1,0 +1,33 @@
+//! What holds of every list of calls of a board whose disks the host serves. The bodies are empty: each contract is a
+//! theorem.
+
+ghost use Rattle.std.specs.Prelude.{◌≡◌, ℕ, List, Some, true};
+ghost use Rattle.std.specs.List.{slice_get};
+ghost use Rattle.board.specs.declared.event.EventKind.{EventKind};
+ghost use Rattle.board.specs.declared.hosted.reply.HostedReply.{HostedReply};
+ghost use Rattle.board.specs.Hosting.{HostedEvent, HostedOutcome, HostedState, InFlight, IsHostedNext, must_wait};
+ghost use Rattle.board.specs.HostedLine.{HostedMove, IsHostedLine, RunsHostedAlone};
+
+use std::alloc::Allocator;
+
+/// Whatever is called of a board and in which order, events and completions of any slots: each guest is told what it
+/// would be told alone, and is left as it would be.
+pub fn each_hosted_guest_is_alone<A: Allocator>()
+    ensures { (g : ℕ) (old new : List HostedState) (moves : List (HostedMove A)) → IsHostedLine old moves new →
+        (state : HostedState) → slice_get old g ≡ Some state → RunsHostedAlone g state moves new }
+{}
+
+/// What is in flight stays in flight, whatever its guest does: only the completion ends it.
+pub fn a_flight_outlasts_own_events<A: Allocator>()
+    ensures { (old : HostedState) (here : InFlight) (what : EventKind A) (outcome : HostedOutcome A) →
+        old.flight ≡ Some here → IsHostedNext old (HostedEvent.Own what) outcome → outcome.state.flight ≡ Some here }
+{}
+
+/// A write that waits changes nothing, and only the two writes that may wait do; nor does a completion of nothing.
+pub fn what_waits_changes_nothing<A: Allocator>()
+    ensures busy { (old : HostedState) (what : EventKind A) (outcome : HostedOutcome A) →
+        IsHostedNext old (HostedEvent.Own what) outcome → outcome.reply ≡ HostedReply.Busy →
+        (outcome.state ≡ old) × (must_wait what ≡ true) }
+    ensures idle { (old : HostedState) (event : HostedEvent A) (outcome : HostedOutcome A) →
+        IsHostedNext old event outcome → outcome.reply ≡ HostedReply.Idle → outcome.state ≡ old }
+{}

@@ -1,0 +1,188 @@
+//! One slot whose disk the host serves.
+//!
+//! At most one of its requests is in flight. Meanwhile its guest runs on: two writes of the block window wait for the
+//! completion, and everything else is done at once.
+
+ghost use Rattle.std.specs.Prelude.{◌≡◌, ◌≤◌, ◌<◌, ◌*◌, ◌^◌, ℕ, Some, None, [], IfOk, IfSome, IsSome, is_some, ◌&&◌};
+ghost use Rattle.block_device.specs.Extent.{sector_len};
+ghost use Rattle.block_device.specs.Operation.{LiesInside};
+ghost use Rattle.board.specs.Fault.{IsMemory};
+ghost use Rattle.board.specs.Image.{sectors_of};
+ghost use Rattle.board.specs.Machine.{block_irq, console_irq};
+ghost use Rattle.board.specs.Hosting.{HostedEvent, HostedWithin, IsHostedNext, LooksAtQueue, TakesHosted, flight_by, hosted_opened, must_wait, operation_in};
+
+use crate::check::own_disk;
+use crate::event::EventKind;
+use crate::hosted::reply::HostedReply;
+use crate::pause::Turn;
+use crate::reply::Reply;
+use crate::slot::Slot;
+use crate::spec::SlotSpec;
+use block_device::{Flight, Hosted, Operation, Verdict};
+use chain::{Budget, Chain, Runs, Segment};
+use console_device::Outlet;
+use mmio_window::{DeviceKind, may_stop_queues};
+use std::alloc::{AllocError, Allocator, Global};
+use std::marker::Model;
+
+/// One guest's part of a board whose disks the host serves.
+#[derive(Drop)]
+pub(crate) struct HostedSlot<A: Allocator = Global> {
+    slot: Slot<A>,
+    // What the host works on.
+    flight: Option<Flight>,
+    // The rooms for the buffers of the chain in flight, which the console's services don't touch, and for its runs.
+    room: Chain,
+    runs: Runs,
+}
+
+impl<A: Allocator> Model for HostedSlot<A> {
+    ghost use Rattle.board.specs.Hosting.{HostedState, IsSoundHosted, hosted_slot, in_rooms};
+
+    ghost Value = { HostedState };
+
+    ghost view = { λ s. record { slot = hosted_slot s.slot; flight = in_rooms s.flight s.room s.runs } };
+
+    ghost invariant = { λ s. IsSoundHosted s.slot (in_rooms s.flight s.room s.runs) };
+}
+
+impl<A: Allocator + Copy> HostedSlot<A> {
+    /// Opens a slot. Its disk has as many sectors as the extent counts, from the first on.
+    pub(crate) fn open(alloc: A, spec: &SlotSpec) -> Result<HostedSlot<A>, AllocError>
+        requires memory { IsMemory spec.now.base spec.now.len }
+        requires disk { sector_len * spec.now.extent.count < 2 ^ 64 }
+        ensures { IfOk result (λ slot. slot ≡ hosted_opened spec.now) }
+    {
+        let slot = Slot::open(alloc, &own_disk(spec))?;
+        Ok(HostedSlot {
+            slot,
+            flight: None,
+            room: Chain::new(),
+            runs: Runs::new(),
+        })
+    }
+
+    /// Handles one event of the slot's guest, unless it waits for what is in flight. What its console puts out is
+    /// appended to `out`.
+    pub(crate) fn step<O: Outlet>(
+        &mut self,
+        alloc: A,
+        what: &EventKind<A>,
+        out: &mut O,
+    ) -> HostedReply<A>
+        ensures takes { TakesHosted self.old (HostedEvent.Own what.now) self.new result (O.bytes out.old) (O.bytes out.new) }
+        ensures within { (limit : ℕ) → O.limit out.old ≡ Some limit →
+            HostedWithin limit self.old (HostedEvent.Own what.now) self.new (O.bytes out.old) (O.bytes out.new) result }
+        ensures limit { O.limit out.new ≡ O.limit out.old }
+    {
+        if self.holds_up(what) {
+            return HostedReply::Busy;
+        }
+        match self
+            .slot
+            .answer_beside_disk(alloc, what, Budget::UNLIMITED, out)
+        {
+            Some(Turn::Answered(reply)) => HostedReply::Answered(reply),
+            Some(Turn::More(_)) => unreachable!(),
+            None => {
+                self.notified();
+                HostedReply::Answered(Reply::Done)
+            }
+        }
+    }
+}
+
+impl<A: Allocator> HostedSlot<A> {
+    // Whether an event waits for the completion.
+    fn holds_up(&self, what: &EventKind<A>) -> bool
+        ensures { result ≡ (is_some self.now.flight && must_wait what.now) }
+    {
+        self.flight.is_some() && waits(what)
+    }
+
+    /// InterruptStatus of the block window and of the console window.
+    pub(crate) fn interrupts(&self) -> (u8, u8)
+        ensures block { result.0 ≡ block_irq self.now.slot }
+        ensures console { result.1 ≡ console_irq self.now.slot }
+        ensures block_word { result.0 ≤ 3 }
+        ensures console_word { result.1 ≤ 3 }
+    {
+        self.slot.interrupts()
+    }
+
+    /// What the host is asked to do: the operation in flight.
+    pub(crate) fn operation(&self) -> Option<Operation>
+        ensures { result ≡ operation_in self.now.flight }
+    {
+        match &self.flight {
+            Some(flight) => Some(flight.operation),
+            None => None,
+        }
+    }
+
+    /// Where the bytes of the operation in flight lie.
+    pub(crate) fn runs(&self) -> &[Segment]
+        ensures runs { IfSome self.now.flight (λ here. result.now ≡ here.runs) }
+
+        // nothing that the host is told lies outside the guest's memory or its disk, whatever the guest has done since
+        ensures inside { IfSome self.now.flight (λ here.
+            LiesInside (sectors_of self.now.slot.extent) self.now.slot.memory here.flight.operation here.runs) }
+    {
+        self.runs.as_slice()
+    }
+
+    /// Completes what is in flight by what came of it, and looks at the queue again.
+    pub(crate) fn complete(&mut self, verdict: Verdict) -> HostedReply<A>
+        ensures next { IsHostedNext self.old (HostedEvent.Completed verdict)
+            (record { state = self.new; reply = result; output = [] }) }
+    {
+        let Some(flight) = self.flight.take() else {
+            return HostedReply::Idle;
+        };
+        self.slot.complete(flight, &self.room, verdict);
+        self.look();
+        HostedReply::Answered(Reply::Done)
+    }
+
+    // The block device was notified: it looks at its queue, unless something is in flight.
+    fn notified(&mut self)
+        ensures looks { self.old.flight ≡ None → LooksAtQueue self.old.slot self.new }
+        ensures stays { IsSome self.old.flight → self.new ≡ self.old }
+    {
+        if self.flight.is_none() {
+            self.look();
+        }
+    }
+
+    // Looks at the block device's queue, up to a chain that asks the host for something.
+    fn look(&mut self)
+        requires { self.old.flight ≡ None }
+        ensures { LooksAtQueue self.old.slot self.new }
+    {
+        self.flight = flight_of(self.slot.host_piece(&mut self.room, &mut self.runs));
+    }
+}
+
+// What is in flight once a look came out so.
+fn flight_of(hosted: Hosted) -> Option<Flight>
+    ensures { result ≡ flight_by hosted }
+{
+    match hosted {
+        Hosted::Asks(flight) => Some(flight),
+        Hosted::More | Hosted::Done => None,
+    }
+}
+
+// Whether an event waits for what is in flight: a write of the block window that may stop its queue.
+fn waits<A: Allocator>(what: &EventKind<A>) -> bool
+    ensures { result ≡ must_wait what.now }
+{
+    match what {
+        EventKind::Write {
+            window: DeviceKind::Block,
+            offset,
+            ..
+        } => may_stop_queues(*offset),
+        _ => false,
+    }
+}
