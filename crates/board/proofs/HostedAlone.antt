@@ -1,10 +1,10 @@
 -- Each guest of a board whose disks the host serves sees what it would see alone.
-use Rattle.std.proofs.Common.{◌≡◌, ◌≢◌, ◌⊎◌, inl, inr, ℕ, true, false, List, [], ◌∷◌, ◌++◌, Option, Some, None, eqb, refl, sym, ◌∙◌, ap, subst}
-use Rattle.std.specs.Prelude.{slice_set, MatchOption, IsSome}
+use Rattle.std.proofs.Common.{◌≡◌, ◌≢◌, ◌⊎◌, inl, inr, ℕ, true, false, List, [], ◌∷◌, Option, Some, None, eqb, refl, ◌∙◌, ap, subst}
+use Rattle.std.specs.Prelude.{MatchOption}
 use Rattle.std.specs.List.{slice_get}
 use Rattle.std.proofs.lemmas.Bool.Decides.{eqb_tells}
-use Rattle.board.specs.Hosting.{HostedOutcome, HostedState}
-use Rattle.board.specs.HostedLine.{Calls, CallsNone, CallsSlot, HostedCall, HostedMove, IsCalledNext, IsHostedCourse, IsHostedLine, RunsHostedAlone, Told, own_calls, own_told, told_of}
+use Rattle.board.specs.Hosting.{HostedState}
+use Rattle.board.specs.HostedLine.{Calls, CallsNone, CallsSlot, HostedMove, IsHostedLine, RunsHostedAlone}
 use Rattle.board.proofs.Alone.{get_set, get_set_other}
 
 -- a call for another slot leaves this one as it is

@@ -1,5 +1,5 @@
 -- One slot's call, seen as a call of the whole board.
-use Rattle.std.proofs.Common.{◌≡◌, ℕ, Option, Some, None, List, [], ◌++◌, Bor, refl, sym, ◌∙◌, ap, subst, append-nil}
+use Rattle.std.proofs.Common.{◌≡◌, ℕ, Option, Some, None, List, [], ◌++◌, Bor, refl, sym, subst, append-nil}
 use Rattle.std.specs.Prelude.{slice_set, IfNone, MatchOption}
 use Rattle.std.specs.Slice.{IsItemAt}
 use Rattle.std.proofs.lemmas.Option.{slice_get_past}
@@ -8,7 +8,7 @@ use Rattle.board.specs.declared.hosted.reply.HostedReply.{HostedReply}
 use Rattle.board.specs.declared.hosted.reply.HostedReply.TheVariants.{Answered}
 use Rattle.board.specs.declared.reply.Reply.TheVariants.{BadSlot}
 use Rattle.board.specs.Hosting.{HostedEvent, HostedState, HostedWithin, TakesHosted}
-use Rattle.board.specs.HostedLine.{Calls, CallsNone, CallsSlot, DecidesBy, HostedCall, TakesCall, Told}
+use Rattle.board.specs.HostedLine.{CallsNone, CallsSlot, DecidesBy, HostedCall, TakesCall, Told}
 use Rattle.board.specs.Machine.{block_irq, console_irq}
 use Rattle.board.proofs.Alone.{get_set_other}
 

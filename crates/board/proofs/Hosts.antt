@@ -1,9 +1,8 @@
 -- What a slot does whose disk the host serves, as the one-slot machine has it.
-use Rattle.std.proofs.Common.{◌≡◌, inl, inr, ℕ, Bool, true, false, Option, Some, None, List, [], ◌++◌, refl, sym, ◌∙◌, ap, subst, append-nil}
-use Rattle.std.specs.Prelude.{◌&&◌, IsSome, is_some, is_none}
+use Rattle.std.proofs.Common.{◌≡◌, ℕ, Bool, true, false, Option, Some, None, List, [], refl, sym, ◌∙◌, ap, subst, append-nil}
+use Rattle.std.specs.Prelude.{◌&&◌, IsSome, is_some}
 use Rattle.board.specs.declared.event.EventKind.{EventKind}
 use Rattle.board.specs.declared.event.EventKind.TheVariants.{Read, Write, MemRead, MemWrite, Input, Resize}
-use Rattle.board.specs.declared.hosted.reply.HostedReply.{HostedReply}
 use Rattle.board.specs.declared.hosted.reply.HostedReply.TheVariants.{Answered, Busy}
 use Rattle.board.specs.declared.pause.Turn.TheVariants as turn
 use Rattle.board.specs.declared.reply.Reply.{Reply}
@@ -11,7 +10,7 @@ use Rattle.board.specs.declared.reply.Reply.TheVariants.{Done}
 use Rattle.block_device.specs.declared.device.BlockDevice.{BlockDevice}
 use Rattle.block_device.specs.declared.extent.Extent.{Extent}
 use Rattle.board.specs.Image.{Health, sectors_of}
-use Rattle.board.specs.Hosting.{AnswersWithin, GivesAtRest, GivesInFlight, HostedEvent, HostedOutcome, HostedState, InFlight, IsBesideDisk, LooksAtQueue, OwnGives, Own, TakesHosted, WaitsOrGives, answers, device_at, hosted_slot, is_block_task, must_wait, notifies_block, unlimited, unseen}
+use Rattle.board.specs.Hosting.{AnswersWithin, GivesAtRest, GivesInFlight, HostedOutcome, HostedState, InFlight, IsBesideDisk, LooksAtQueue, OwnGives, Own, TakesHosted, WaitsOrGives, answers, device_at, hosted_slot, is_block_task, must_wait, notifies_block, unlimited, unseen}
 use Rattle.board.specs.Machine.{at_rest, task_at, with_write}
 use Rattle.board.specs.Pausing.{Begins, ServesTurn, readied}
 use Rattle.board.specs.Slot.{BoardSlot, SlotState, state_of}

@@ -27,4 +27,5 @@ pub mod Hosts
 pub mod HostedAlone
 pub mod Waiting
 pub mod HostedSpecs
+pub mod HostedWindows
 pub mod HostedSeats

@@ -1,7 +1,7 @@
 -- A slot takes up the snapshot of every slot of its description.
-use Rattle.std.proofs.Common.{◌≡◌, ◌∙◌, ℕ, Bool, List, length, Option, Some, None, Result, Ok, Err, refl, sym, ap, subst}
-use Rattle.std.specs.Prelude.{◌++◌, IfErr, IfOk, IsOk, IsOkAnd, OnErr, OnOk}
-use Rattle.guest_memory.specs.Memory.{Memory, SameRange}
+use Rattle.std.proofs.Common.{◌≡◌, ◌∙◌, ℕ, List, Option, Some, None, Result, Ok, Err, refl, sym, ap, subst}
+use Rattle.std.specs.Prelude.{◌++◌, IfErr, IfOk, IsOk, OnOk}
+use Rattle.guest_memory.specs.Memory.{Memory}
 use Rattle.mmio_window.specs.declared.device_kind.DeviceKind.{DeviceKind}
 use Rattle.mmio_window.specs.declared.device_kind.DeviceKind.TheVariants.{Block, Console}
 use Rattle.mmio_window.specs.Saved.{saved_window, window_restored}
@@ -15,7 +15,7 @@ use Rattle.snapshot.specs.Spelling.{snapshot}
 use Rattle.board.specs.declared.saved.RestoreFault.{RestoreFault}
 use Rattle.board.specs.declared.saved.RestoreFault.TheVariants.{Snapshot, OtherSlot, BadBlock, BadConsole}
 use Rattle.board.specs.Saved.{IsAs, IsCauseOf, IsLike, IsRestored, IsSnapshotOf, OffersFeatures, Prevents, RestoresIt, Suits, TakesUp, saved_slot}
-use Rattle.board.specs.Slot.{BoardSlot, IsSoundSlot, block_features, console_features}
+use Rattle.board.specs.Slot.{BoardSlot, IsSoundSlot, block_features}
 
 -- ---- what is saved
 

@@ -1,5 +1,5 @@
 -- What waits for what is in flight, and what doesn't end it.
-use Rattle.std.proofs.Common.{◌≡◌, Bool, true, false, Option, Some, None, refl, sym, ◌∙◌, ap}
+use Rattle.std.proofs.Common.{◌≡◌, Bool, true, false, Option, Some, None, refl, ◌∙◌, ap}
 use Rattle.board.specs.declared.event.EventKind.{EventKind}
 use Rattle.board.specs.declared.hosted.reply.HostedReply.TheVariants.{Busy, Idle}
 use Rattle.board.specs.Hosting.{Completed, CompletionGives, GivesAtRest, GivesInFlight, HostedEvent, HostedOutcome, HostedState, InFlight, IsHostedNext, Own, OwnGives, WaitsOrGives, must_wait, notifies_block}

@@ -1,5 +1,5 @@
 -- The snapshot of a slot, and what a slot becomes that takes one up.
-use Rattle.std.specs.Prelude.{◌≡◌, ℕ, ◌≤◌, IsOkAnd, Option, None, Some, Ok, Err, List, length, ◌++◌}
+use Rattle.std.specs.Prelude.{◌≡◌, ℕ, IsOkAnd, None, Some, Ok, Err, List, length, ◌++◌}
 use Rattle.std.specs.List.{slice_get}
 use Rattle.guest_memory.specs.Memory.{Memory, SameRange}
 use Rattle.mmio_window.specs.declared.device_kind.DeviceKind.{DeviceKind}
@@ -10,12 +10,11 @@ use Rattle.sector_cache.specs.Sector.{extent_of}
 use Rattle.snapshot.specs.declared.saved.SavedSlot.{SavedSlot}
 use Rattle.snapshot.specs.Reading.{snapshot_at}
 use Rattle.snapshot.specs.Spelling.{snapshot}
-use Rattle.board.specs.declared.reply.Record.{Record}
 use Rattle.board.specs.declared.saved.RestoreFault.{RestoreFault}
 use Rattle.board.specs.declared.saved.RestoreFault.TheVariants.{Snapshot, OtherSlot, BadBlock, BadConsole}
 use Rattle.board.specs.Line.{Move, events_of, own_events, own_records, records_of}
 use Rattle.board.specs.Machine.{RunsOnItsOwn}
-use Rattle.board.specs.Slot.{BoardSlot, SlotState, block_features, console_features, state_of}
+use Rattle.board.specs.Slot.{BoardSlot, SlotState, block_features, console_features}
 use Rattle.board.specs.World.{World}
 
 -- ---- what is saved

@@ -1,5 +1,4 @@
-use Rattle.std.proofs.Common.{refl, ap, sym, subst}
-use Rattle.guest_memory.specs.Memory.{SameRange}
+use Rattle.std.proofs.Common.{refl, ap}
 use Rattle.board.specs.declared.event.EventKind.TheVariants.{Input}
 use Rattle.board.specs.Hosting.{device_at}
 use Rattle.board.specs.Slot.{BoardSlot, state_of}

@@ -1,4 +1,4 @@
-use Rattle.std.proofs.Common.{◌≡◌, ◌∙◌, ap, subst}
+use Rattle.std.proofs.Common.{◌∙◌, ap, subst}
 use Rattle.board.specs.Slot.{BoardSlot, IsSoundSlot}
 use Rattle.board.proofs.Saving.{saved_as}
 use Rattle.board.proofs.slot.Slot.save.Goals as goal

@@ -1,4 +1,4 @@
-use Rattle.std.proofs.Common.{sym, ◌∙◌, arith, refl}
+use Rattle.std.proofs.Common.{refl}
 use Rattle.board.specs.Slot.{state_of}
 use Rattle.board.proofs.Turns.{refuses, sends, silent_turn}
 use Rattle.board.proofs.slot.Slot.serve_console.Goals as goal
