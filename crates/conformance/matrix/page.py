@@ -19,6 +19,7 @@ TABLES = [
     "segments",
     "sectors",
     "chains",
+    "sizes",
     "guests",
     "orders",
     "rounds",
