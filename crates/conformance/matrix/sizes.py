@@ -1,7 +1,7 @@
 """Rings and tables of each size: the last member and one more, the last position and the offset behind it."""
-from .drivers import EVENT_IDX, FAULT, INDIRECT, INDIRECT_DESC, NEXT, Buffer, Packed, Split, number
+from .drivers import EVENT_IDX, FAULT, INDIRECT, INDIRECT_DESC, KINDS, NEXT, QUEUE_NUM, QUEUE_READY, Buffer, Packed, Split, number
 from .places import TABLE, TEXT, content, places, shown
-from .story import BASE, Story
+from .story import BASE, Slot, Story
 
 TITLE = "Rings and tables of each size"
 HOW = ("Split rings have 1, 2, 4, .. 256 descriptors; packed rings, lists and tables each number up to 17, and each power of two up to "
@@ -13,22 +13,48 @@ RINGS = [2 ** power for power in range(9)]
 SIZES = sorted(set(range(1, 18)) | set(places(256)))
 # Room behind 256 descriptors for one more, which lies outside each ring.
 AREAS = [BASE + 0x1000, BASE + 0x3000, BASE + 0xe000]
+# Sizes that are tried: powers of two and what is near them, and numbers of two bits.
+TRIED = sorted({*range(34), *(2 ** power + by for power in range(17) for by in (-2, -1, 0, 1, 2) if 2 ** power + by > 0),
+                *(3 * 2 ** power for power in range(15))})
 # A ring of 64: each place that a service of one list passes, and doesn't.
 NAMED = [*range(5), 6, 7, 8, 9, 14, 15, 16, 17, 30, 31, 32, 33, 47, 62, 63]
 
 
 def stories():
+    yield from shown("sizes that are taken", "0 to 65538", map(sizes_of_rings, KINDS))
     yield from shown("a path of N members, and Loop", "split rings of each size", [ring_paths()])
     yield from shown("a path of N members, and Loop", "split tables of each number of entries", [table_paths()])
     yield from shown("Index of `next`", "N - 1 and N, split rings of each size", [ring_nexts()])
     yield from shown("Index of `next`", "N - 1 and N, split tables of each number of entries", [table_nexts()])
     yield from shown("Index of a head", "N - 1 and N, split rings of each size", [ring_heads()])
     yield from shown("a table as the Nth member", "split rings of each size", [tables_at_the_end()])
+    yield from shown("Jump", "N chains and N + 1, split rings of each size", [chains_on_offer()])
     yield from shown("the id of a list", "the last descriptor of each length", [ids_of_lists()])
     yield from shown("how many positions a service passes", "N, packed rings of each size", [laps_of_single_lists()])
     yield from shown("a packed event's offset", "N, packed rings of each size", [offsets_of_no_place()])
     yield from shown("a packed event's offset", "N - 1, packed rings of each size", [offsets_of_the_last_place()])
     yield from shown("a packed event's place", "places of a ring of 64, passed alone, and not passed", map(named_places, (0, 64)))
+
+
+def is_size(kind, size):
+    """Whether a ring of this kind may have so many descriptors."""
+    return 1 <= size <= 256 and (kind == "packed" or size in RINGS)
+
+
+def sizes_of_rings(kind):
+    """Each size for each queue, in a memory that has room for all."""
+    story = Story(f"positions_sizes/sizes_of_{kind}_rings", f"Sizes of {kind} rings from 0 to 65538: a queue is made ready with those alone that are right.",
+                  [Slot(length=0x120000)])
+    for window, index in (("b", 0), ("c", 0), ("c", 1)):
+        queue = KINDS[kind](story, window, index, 4, areas=[BASE] * 3)
+        queue.begin()
+        queue.make_ready()
+        for size in TRIED:
+            queue.write(QUEUE_READY, 0)
+            queue.write(QUEUE_NUM, size)
+            queue.write(QUEUE_READY, 1)
+            story.read(window, QUEUE_READY, int(is_size(kind, size)))
+    return story
 
 
 # --- split
@@ -152,6 +178,32 @@ def tables_at_the_end():
         queue.notify(output=content(size - 1) + b"!")
         letter(queue, AREAS[0], size - 1, NEXT)
     return story
+
+
+def chains_on_offer():
+    """One chain again and again, from place 0 and from place N on."""
+    story = Story("positions_sizes/chains_on_offer_in_split_rings",
+                  "N chains on offer are served in rings of 1, 2, 4, .. 256, and N more; N + 1 at once are a fault, at place 0 as in the next lap.")
+    for size in RINGS:
+        for laps in (0, 1, 2):
+            queue = split(story, size)
+            queue.put_chain([Buffer(TEXT, 1)])
+            queue.put(AREAS[1] + 4, bytes(2 * size))
+            for _ in range(laps):
+                offer_more(queue, size)
+                queue.notify(output=bytes(size))
+                queue.look_at_used(0)
+            offer_more(queue, size + 1)
+            queue.notify(FAULT)
+            queue.look(AREAS[2] + 2, 2, number(laps * size, 2))
+            queue.put(AREAS[2] + 2, bytes(2))
+    return story
+
+
+def offer_more(queue, count):
+    """The available idx so many chains further."""
+    queue.offered = queue.place + count
+    queue.put(AREAS[1] + 2, number(queue.offered, 2))
 
 
 # --- packed
