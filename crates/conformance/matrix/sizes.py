@@ -1,6 +1,7 @@
 """Rings and tables of each size: the last member and one more, the last position and the offset behind it."""
-from .drivers import EVENT_IDX, FAULT, INDIRECT, INDIRECT_DESC, KINDS, NEXT, QUEUE_NUM, QUEUE_READY, Buffer, Packed, Split, number
-from .places import TABLE, TEXT, content, places, shown
+from .drivers import (EVENT_IDX, FAULT, INDIRECT, INDIRECT_DESC, KINDS, NEXT, QUEUE_NUM, QUEUE_READY, USED_FLAG, WRITE, Buffer, Packed,
+                      Split, number)
+from .places import ROOM, TABLE, TEXT, content, places, shown
 from .story import BASE, Slot, Story
 
 TITLE = "Rings and tables of each size"
@@ -31,6 +32,7 @@ def stories():
     yield from shown("Jump", "N chains and N + 1, split rings of each size", [chains_on_offer()])
     yield from shown("the id of a list", "the last descriptor of each length", [ids_of_lists()])
     yield from shown("how many positions a service passes", "N, packed rings of each size", [laps_of_single_lists()])
+    yield from shown("how many positions a service passes", "no more than N, packed rings of each size", [laps_that_feed_the_next()])
     yield from shown("a packed event's offset", "N, packed rings of each size", [offsets_of_no_place()])
     yield from shown("a packed event's offset", "N - 1, packed rings of each size", [offsets_of_the_last_place()])
     yield from shown("a packed event's place", "places of a ring of 64, passed alone, and not passed", map(named_places, (0, 64)))
@@ -43,8 +45,8 @@ def is_size(kind, size):
 
 def sizes_of_rings(kind):
     """Each size for each queue, in a memory that has room for all."""
-    story = Story(f"positions_sizes/sizes_of_{kind}_rings", f"Sizes of {kind} rings from 0 to 65538: a queue is made ready with those alone that are right.",
-                  [Slot(length=0x120000)])
+    story = Story(f"positions_sizes/sizes_of_{kind}_rings",
+                  f"Sizes of {kind} rings from 0 to 65538: a queue is made ready with those alone that are right.", [Slot(length=0x120000)])
     for window, index in (("b", 0), ("c", 0), ("c", 1)):
         queue = KINDS[kind](story, window, index, 4, areas=[BASE] * 3)
         queue.begin()
@@ -238,6 +240,25 @@ def laps_of_single_lists():
     return story
 
 
+def laps_that_feed_the_next():
+    """The last buffer of a lap is the ring's first descriptor, which the typed bytes offer once more."""
+    story = Story("positions_sizes/services_that_end_behind_n_positions",
+                  "Typed bytes offer position 0 again in a service of N positions, in rings of 2, 3, .. 256: it is left to the next service.")
+    for size in SIZES[1:]:
+        queue = Packed(story, "c", 0, size).bring_up()
+        again = queue.entry(Buffer(ROOM, 1, WRITE | USED_FLAG), 0)
+        queue.put_chain([Buffer(TEXT, 1, WRITE)] * (size - 1) + [Buffer(queue.areas[0], 16, WRITE)])
+        queue.put(ROOM, b"\xee")
+        typed = bytes(size - 1) + again + b"!"
+        story.type(typed, len(typed), told=1)
+        queue.look(ROOM, 1, b"\xee")
+        queue.look(queue.areas[0] + 16 * (size - 1) + 8, 8, number(16, 4) + number(0, 2) + number(0x8082, 2))
+        queue.look(queue.areas[0], 16, again)
+        story.type(b"", 0, told=1)
+        queue.look(ROOM, 1, b"!")
+    return story
+
+
 def name(queue, offset, wrap):
     """The driver's event: an offset and a wrap counter, and flags of 2, so that they count."""
     queue.put(queue.areas[1], number(offset | (0x8000 if wrap else 0), 2) + number(2, 2))
@@ -277,7 +298,7 @@ def offsets_of_the_last_place():
 def named_places(lap):
     """In the lap of the place named: the list before it, one descriptor there, and the list behind it. In the other: a list of all."""
     story = Story(f"positions_sizes/places_{lap}_to_{lap + 63}_of_a_packed_ring_of_64",
-                  f"An event names a place from {lap} to {lap + 63}: of three services of a lap the one that passes it is told, and none of the other lap.")
+                  f"An event names a place from {lap} to {lap + 63}: the service that passes it is told, and none before, behind or in the other lap.")
     queue = Packed(story, "c", 1, 64, low=EVENT_IDX).bring_up()
     queue.put(queue.areas[0], b"".join(queue.entry(Buffer(TEXT, 0, NEXT), 0) for _ in range(64)))
     for place in NAMED:
