@@ -1,4 +1,5 @@
 """Rings and tables of each size: the last member and one more, the last position and the offset behind it."""
+from .drivers import AREAS as AREA_REGISTERS
 from .drivers import (EVENT_IDX, FAULT, INDIRECT, INDIRECT_DESC, KINDS, NEXT, QUEUE_NUM, QUEUE_READY, USED_FLAG, WRITE, Buffer, Packed,
                       Split, number)
 from .places import ROOM, TABLE, TEXT, content, places, shown
@@ -14,6 +15,7 @@ RINGS = [2 ** power for power in range(9)]
 SIZES = sorted(set(range(1, 18)) | set(places(256)))
 # Room behind 256 descriptors for one more, which lies outside each ring.
 AREAS = [BASE + 0x1000, BASE + 0x3000, BASE + 0xe000]
+END = BASE + 0x10000
 # Sizes that are tried: powers of two and what is near them, and numbers of two bits.
 TRIED = sorted({*range(34), *(2 ** power + by for power in range(17) for by in (-2, -1, 0, 1, 2) if 2 ** power + by > 0),
                 *(3 * 2 ** power for power in range(15))})
@@ -30,7 +32,12 @@ def stories():
     yield from shown("Index of a head", "N - 1 and N, split rings of each size", [ring_heads()])
     yield from shown("a table as the Nth member", "split rings of each size", [tables_at_the_end()])
     yield from shown("Jump", "N chains and N + 1, split rings of each size", [chains_on_offer()])
+    yield from shown("positions of both rings", "two laps, split rings of each size", [heads_in_order()])
+    yield from shown("places of used_event and avail_event", "split rings of each size", [event_indices()])
+    yield from shown("areas that end with the memory", "rings of each size", map(areas_at_the_end, KINDS))
+    yield from shown("tables that end with the memory", "tables of each number of entries", map(tables_that_end, KINDS))
     yield from shown("the id of a list", "the last descriptor of each length", [ids_of_lists()])
+    yield from shown("a list across the ring's end", "packed rings of each size", [lists_across_the_end()])
     yield from shown("how many positions a service passes", "N, packed rings of each size", [laps_of_single_lists()])
     yield from shown("how many positions a service passes", "no more than N, packed rings of each size", [laps_that_feed_the_next()])
     yield from shown("a packed event's offset", "N, packed rings of each size", [offsets_of_no_place()])
@@ -47,15 +54,46 @@ def sizes_of_rings(kind):
     """Each size for each queue, in a memory that has room for all."""
     story = Story(f"positions_sizes/sizes_of_{kind}_rings",
                   f"Sizes of {kind} rings from 0 to 65538: a queue is made ready with those alone that are right.", [Slot(length=0x120000)])
-    for window, index in (("b", 0), ("c", 0), ("c", 1)):
-        queue = KINDS[kind](story, window, index, 4, areas=[BASE] * 3)
-        queue.begin()
-        queue.make_ready()
+    for queue in each_queue(story, kind, [BASE] * 3):
         for size in TRIED:
             queue.write(QUEUE_READY, 0)
             queue.write(QUEUE_NUM, size)
             queue.write(QUEUE_READY, 1)
-            story.read(window, QUEUE_READY, int(is_size(kind, size)))
+            story.read(queue.window, QUEUE_READY, int(is_size(kind, size)))
+    return story
+
+
+def each_queue(story, kind, areas):
+    """Each queue of a slot, made ready with four descriptors."""
+    for window, index in (("b", 0), ("c", 0), ("c", 1)):
+        queue = KINDS[kind](story, window, index, 4, areas=list(areas))
+        queue.begin()
+        queue.make_ready()
+        yield queue
+
+
+def lengths_of_areas(kind, size):
+    """The length and the alignment of each area."""
+    return [(16 * size, 16), (6 + 2 * size, 2), (6 + 8 * size, 4)] if kind == "split" else [(16 * size, 16), (4, 4), (4, 4)]
+
+
+def areas_at_the_end(kind):
+    """Each area as far behind as it may lie, and one step further."""
+    story = Story(f"positions_sizes/areas_of_{kind}_rings_at_the_end_of_the_memory",
+                  f"Each area of {kind} rings of each size ends with the memory: ready; one step further it isn't.")
+    for queue in each_queue(story, kind, AREAS):
+        for size in RINGS if kind == "split" else SIZES:
+            queue.write(QUEUE_READY, 0)
+            queue.write(QUEUE_NUM, size)
+            for offset, area, (length, alignment) in zip(AREA_REGISTERS, AREAS, lengths_of_areas(kind, size)):
+                last = (END - length) // alignment * alignment
+                for address, is_ready in ((last, 1), (last + alignment, 0)):
+                    queue.write(QUEUE_READY, 0)
+                    queue.write(offset, address)
+                    queue.write(QUEUE_READY, 1)
+                    story.read(queue.window, QUEUE_READY, is_ready)
+                queue.write(QUEUE_READY, 0)
+                queue.write(offset, area)
     return story
 
 
@@ -208,6 +246,69 @@ def offer_more(queue, count):
     queue.put(AREAS[1] + 2, number(queue.offered, 2))
 
 
+def heads_in_order():
+    """N chains of one descriptor, in another order in each lap."""
+    story = Story("positions_sizes/two_laps_of_heads_in_split_rings",
+                  "N chains in one order and then in another are served and used in that order, in rings of 1, 2, 4, .. 256.")
+    for size in RINGS:
+        queue = split(story, size)
+        if size == 1:
+            letters(queue, AREAS[0], 0)
+        for lap in range(2):
+            heads = [(size - 1 - at + lap) % size for at in range(size)]
+            queue.put(AREAS[1] + 4, b"".join(number(head, 2) for head in heads))
+            queue.put(AREAS[2] + 4, b"\xee" * 8 * size)
+            offer_more(queue, size)
+            queue.notify(output=bytes(heads))
+            queue.look(AREAS[2] + 4, 8 * size, b"".join(number(head, 8) for head in heads))
+    return story
+
+
+def event_indices():
+    """used_event stands behind N heads, avail_event behind N used entries; what stands behind them names no place."""
+    story = Story("positions_sizes/event_indices_in_split_rings",
+                  "used_event decides, and avail_event is written, where they stand in rings of 1, 2, 4, .. 256.")
+    for size in RINGS:
+        queue = split(story, size, EVENT_IDX)
+        queue.put_chain([Buffer(TEXT, 0)])
+        queue.put(AREAS[1] + 4, bytes(2 * size) + b"\x55" * 64)
+        for count, event, told in ((1, 0, True), (1, 1, False), (size, size - 1, True), (size, size, False)):
+            queue.put(AREAS[1] + 4 + 2 * size, number(queue.place + event, 2))
+            offer_more(queue, count)
+            queue.notify(told=1 if told else 0)
+            queue.look(AREAS[2] + 4 + 8 * size, 4, number(queue.place, 4))
+            if told:
+                queue.acknowledge()
+        queue.put(AREAS[2] + 4 + 8 * size, bytes(2))
+    return story
+
+
+# --- tables
+
+def tables_that_end(kind):
+    """A table of each number of entries, which ends with the memory, and one byte further."""
+    story = Story(f"positions_sizes/{kind}_tables_at_the_end_of_the_memory",
+                  f"A {kind} table of 1, 2, .. 256 entries ends with the memory: it is served; one byte further it is a fault.")
+    queue = KINDS[kind](story, "c", 1, 2, low=INDIRECT_DESC, areas=[BASE + 0x1000, BASE + 0x3000, BASE + 0x4000]).bring_up()
+    queue.put(TEXT, content())
+    entries = b"".join(queue.entry(Buffer(TEXT + at, 1), 0) for at in range(256))
+    queue.put(END - 4096, entries)
+    for size in SIZES:
+        first = END - 16 * size
+        if kind == "split" and size > 1:
+            queue.put(first, queue.entry(Buffer(TEXT + 256 - size, 1, NEXT, size - 1), 0))
+        queue.offer([Buffer(first, 16 * size, INDIRECT)])
+        queue.notify(output=bytes([256 - size, 255]) if kind == "split" and size > 1 else content()[256 - size:])
+    # All but the last byte of the same entries.
+    queue.put(END - 4095, entries[:-1])
+    for size in SIZES:
+        queue.offer([Buffer(END - 16 * size + 1, 16 * size, INDIRECT)])
+        queue.notify(FAULT)
+        queue.clear()
+        queue.bring_up()
+    return story
+
+
 # --- packed
 
 def ids_of_lists():
@@ -222,6 +323,32 @@ def ids_of_lists():
         queue.look_at_used(0, link=ids[-1], wrote=False, count=length)
         queue.acknowledge()
     return story
+
+
+def lists_across_the_end():
+    """A list of N - 1 positions, one of N from the last position on, one more in the next lap, and one of the last position alone."""
+    story = Story("positions_sizes/lists_across_the_end_of_packed_rings",
+                  "A list of all positions begins at the last in rings of 2, 3, .. 256, in two laps: it goes on at the front, and is used where it began.")
+    for size in SIZES[1:]:
+        queue = Packed(story, "c", 1, size).bring_up()
+        if size == 2:
+            queue.put(TEXT, content())
+        ring = [Buffer(TEXT + at, 1, 0 if at == size - 2 else NEXT, at) for at in range(size)]
+        queue.put(queue.areas[0] + 16, b"".join(queue.entry(one, 0) for one in ring[1:]))
+        serve_list(queue, ring[0], size - 1, content(size - 1), size - 2)
+        queue.put(queue.areas[0], queue.entry(ring[0], 0))
+        for _ in range(2):
+            serve_list(queue, ring[-1], size, content(size)[-1:] + content(size - 1), size - 2)
+        serve_list(queue, Buffer(TEXT, 1, 0, 7), 1, b"\0", 7)
+    return story
+
+
+def serve_list(queue, first, count, output, link):
+    """The first descriptor of a list that stands in the ring is offered: what goes out, and the id that its used entry tells."""
+    queue.put_chain([first])
+    queue.offered = (queue.offered + count) % (2 * queue.size)
+    queue.notify(output=output)
+    queue.look_at_used(0, link=link, wrote=False, count=count)
 
 
 def laps_of_single_lists():
