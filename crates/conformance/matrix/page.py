@@ -11,6 +11,7 @@ TABLES = [
     "rings",
     "requests",
     "registers",
+    "pairs",
     "lines",
     "large",
     "sums",
