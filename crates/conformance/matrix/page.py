@@ -12,6 +12,7 @@ TABLES = [
     "requests",
     "registers",
     "pairs",
+    "statuses",
     "lines",
     "large",
     "sums",
