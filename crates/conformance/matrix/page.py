@@ -23,6 +23,7 @@ TABLES = [
     "chains",
     "sizes",
     "guests",
+    "spellings",
     "orders",
     "rounds",
 ]
