@@ -34,7 +34,7 @@ def stories():
     yield from shown("the header behind empty buffers", plain, map(header_at, SHAPES))
     yield from shown("the header's last byte behind empty buffers", plain, map(header_ends_at, SHAPES))
     yield from shown("INDIRECT", "split ring, packed list, split table, packed table",
-                     (table_behind(), joined_table(), nested(), ignored_in_a_packed_table()))
+                     (table_behind(), *map(joined_table, (True, False)), *map(nested, (True, False)), ignored_in_a_packed_table()))
     yield from shown("Index of `next`", "split ring, table, both", map(next_outside, split))
     yield from shown("Loop", "split ring, table, both; packed rings of each size", [*map(next_back, split), circle_of_a_list()])
     yield from shown("`next` in falling order", "split ring, table, both", map(backwards, split))
@@ -198,26 +198,30 @@ def table_behind():
     return story
 
 
-def joined_table():
-    """A packed descriptor with INDIRECT is the first of its list, or a fault."""
-    story = Story("positions_buffers/a_table_in_a_packed_list",
-                  "INDIRECT at each position of a list of 256 but the first is a fault.")
+def joined_table(is_last):
+    """A packed descriptor with INDIRECT is the first of its list, or a fault. `is_last`: NEXT is clear in it, so that its place alone
+    is wrong."""
+    which, what = ("at_the_end_of", "without NEXT") if is_last else ("in", "with NEXT")
+    story = Story(f"positions_buffers/a_table_{which}_a_packed_list",
+                  f"INDIRECT {what} at each position of a list of up to 256 but the first is a fault.")
     queue = LIST.queue(story).bring_up()
     queue.put(TEXT, b"-" * 256)
     queue.put(TABLE, queue.entry(Buffer(TEXT + 255, 1), 0))
     LIST.write(queue, texts())
-    faulty(LIST, queue, texts(), lambda one: Buffer(TABLE, 16, INDIRECT), PLACES[1:])
+    faulty(LIST, queue, texts(), lambda one: Buffer(TABLE, 16, INDIRECT | (0 if is_last else NEXT)), PLACES[1:])
     return story
 
 
-def nested():
-    story = Story("positions_buffers/a_table_in_a_split_table",
-                  "INDIRECT in each entry of a table of 256, which names a good table, is a fault.")
+def nested(is_last):
+    """`is_last`: NEXT is clear in the entry with INDIRECT, so that it is wrong in a table alone."""
+    which, what = ("at_the_end_of", "without NEXT") if is_last else ("in", "with NEXT")
+    story = Story(f"positions_buffers/a_table_{which}_a_split_table",
+                  f"INDIRECT {what} in each entry of a table of 256, which names a good table, is a fault.")
     queue = TABLE_OF_256.queue(story).bring_up()
     queue.put(TEXT, b"-" * 256)
     TABLE_OF_256.write(queue, texts())
     queue.put(ROOM, queue.entry(Buffer(TEXT, 1), -1))
-    faulty(TABLE_OF_256, queue, texts(), lambda one: Buffer(ROOM, 16, INDIRECT))
+    faulty(TABLE_OF_256, queue, texts(), lambda one: Buffer(ROOM, 16, INDIRECT | (0 if is_last else NEXT)))
     return story
 
 

@@ -11,6 +11,8 @@ TABLES = [
     "rings",
     "requests",
     "registers",
+    "pairs",
+    "statuses",
     "lines",
     "large",
     "sums",
@@ -19,7 +21,9 @@ TABLES = [
     "segments",
     "sectors",
     "chains",
+    "sizes",
     "guests",
+    "spellings",
     "orders",
     "rounds",
 ]

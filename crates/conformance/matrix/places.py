@@ -43,9 +43,10 @@ class Shape:
         return self.kind(story, window, index, self.size, low=INDIRECT_DESC, areas=areas)
 
     def entry(self, queue, place, buffers):
-        """The buffer at a place, counted from 1, as it stands in memory: joined to the next but in a packed table."""
+        """The buffer at a place, counted from 1, as it stands in memory: joined to the next but in a packed table. One with INDIRECT
+        is joined where it says so itself."""
         one, in_table = buffers[place - 1], place > self.plain
-        follows = place < len(buffers) and not (self.is_packed and in_table)
+        follows = place < len(buffers) and not (self.is_packed and in_table) and not one.flags & INDIRECT
         mark = queue.mark(0) if self.is_packed and not in_table else 0
         at = place - 1 - (self.plain if in_table else 0)
         return queue.entry(dataclasses.replace(one, flags=one.flags | (NEXT if follows else 0) | mark), at)
