@@ -28,6 +28,7 @@ TABLES = [
     "guests",
     "beside",
     "spellings",
+    "words",
     "orders",
     "rounds",
 ]
