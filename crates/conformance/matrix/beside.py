@@ -1,5 +1,7 @@
 """One guest's work beside another guest of each kind, which sees nothing of it and takes nothing from it."""
-from .drivers import FAULT, KINDS, STATUS, WRITE, Buffer
+import dataclasses
+
+from .drivers import FAULT, KINDS, STATUS, VERSION_1, WRITE, Buffer
 from .requests import FLUSH, GET_ID, IDENTITY, IN, OUT, WRITE_ZEROES, header, segment
 from .story import BASE, CHANGED, SECTOR, USED, Slot, Story, plain_image
 
@@ -29,18 +31,31 @@ def stories():
 class Guest:
     """A disk and a console with both queues; `windows` are those that are brought up."""
 
+    # Features of the two windows, as words.
+    LOW, HIGH = {"b": 0, "c": 0}, VERSION_1
+
     def __init__(self, story, slot, kind="split", windows="bc"):
         self.story, self.slot, self.base = story, slot, story.slots[slot].base
+        self.holds = [0x10 + story.slots[slot].start + sector for sector in range(SECTORS)]
         self.size = story.slots[slot].columns, story.slots[slot].rows
         self.resizes, self.queues, self.has_text = 0, {}, False
         for at, (window, index) in enumerate((("b", 0), ("c", 0), ("c", 1))):
-            self.queues[window, index] = KINDS[kind](story, window, index, 4, slot=slot, at=self.base + 0x1000 + 0x4000 * at)
+            self.queues[window, index] = KINDS[kind](story, window, index, 4, self.LOW[window], self.base + 0x1000 + 0x4000 * at, slot,
+                                                      high=self.HIGH)
+        self.bring_up(windows)
+
+    def bring_up(self, windows):
+        """From a reset on: each window with all its queues."""
         for window in windows:
             queues = [queue for (where, _), queue in self.queues.items() if where == window]
             queues[0].begin()
             for queue in queues:
+                queue.start_over()
                 queue.make_ready()
             queues[0].go()
+
+    def offer(self, queue, buffers):
+        queue.offer(buffers)
 
     def put(self, at, content):
         self.story.put(self.base + at, content, slot=self.slot)
@@ -54,7 +69,7 @@ class Guest:
         self.put(HEADER, header(kind, sector) + data)
         self.put(DONE, NOT_YET)
         chain = [Buffer(self.base + HEADER, 16 + len(data)), Buffer(self.base + ROOM, room, WRITE), Buffer(self.base + DONE, 1, WRITE)]
-        queue.offer(chain if room else [chain[0], chain[2]])
+        self.offer(queue, chain if room else [chain[0], chain[2]])
         queue.notify()
         self.look(DONE, bytes([status]))
         queue.acknowledge()
@@ -66,7 +81,7 @@ class Guest:
             self.put(TEXT, mark * max(LENGTHS))
             self.has_text = True
         self.put(TEXT + length - 1, b"\n")
-        queue.offer([Buffer(self.base + TEXT + at, min(step, length - at)) for at in range(0, length, step)])
+        self.offer(queue, [Buffer(self.base + TEXT + at, min(step, length - at)) for at in range(0, length, step)])
         queue.notify(output=mark * (length - 1) + b"\n")
         self.put(TEXT + length - 1, mark)
         queue.acknowledge()
@@ -74,7 +89,7 @@ class Guest:
     def typed(self, length):
         """Typed bytes, for which a chain waits."""
         queue, mark = self.queues["c", 0], 0x60 + self.slot
-        queue.offer([Buffer(self.base + ROOM, length, WRITE)])
+        self.offer(queue, [Buffer(self.base + ROOM, length, WRITE)])
         self.story.type(bytes([mark]) * length, took=length, told=USED, slot=self.slot)
         queue.place = queue.offered
         self.look(ROOM, bytes([mark]) * min(length, 300))
@@ -94,13 +109,13 @@ class Guest:
             for offset, found in ((0x000, 0x74726976), (0x034, 256), (0x070, status), (0x060, story.words[self.slot, window]), (0x100, shown)):
                 story.read(window, offset, found, slot=self.slot)
 
-    def work(self):
+    def work(self, lengths=LENGTHS):
         """All that a guest does."""
         self.registers()
-        for length in LENGTHS:
+        for length in lengths:
             self.text(length)
         self.text(257, parts=3)
-        for length in LENGTHS:
+        for length in lengths:
             self.typed(length)
         self.emergency()
         self.resize(0x1234, 0x5678)
@@ -112,22 +127,22 @@ class Guest:
             self.story.write("c", 0x108, 0x40 + self.slot, output=bytes([0x40 + self.slot]), width=width, slot=self.slot)
 
     def disk(self):
-        mark = bytes([0xc0 + self.slot])
-        first = self.story.slots[self.slot].start
+        mark, may_write = 0xc0 + self.slot, self.story.slots[self.slot].mode == "rw"
         for count in (1, 2, SECTORS):
             self.request(IN, room=SECTOR * count)
-            self.look(ROOM + SECTOR * count - 1, bytes([0x10 + first + count - 1]))
+            self.look(ROOM + SECTOR * count - 1, bytes([self.holds[count - 1]]))
         self.request(IN, IOERR, sector=SECTORS, room=SECTOR)
-        self.request(OUT, sector=2, data=mark * 2 * SECTOR)
-        self.request(OUT, IOERR, sector=SECTORS - 1, data=mark * 2 * SECTOR)
-        self.request(WRITE_ZEROES, data=segment(0, 1) + segment(SECTORS - 1, 1))
+        self.request(OUT, OK if may_write else IOERR, sector=2, data=bytes([mark]) * 2 * SECTOR)
+        self.request(OUT, IOERR, sector=SECTORS - 1, data=bytes([mark]) * 2 * SECTOR)
+        self.request(WRITE_ZEROES, OK if may_write else IOERR, data=segment(0, 1) + segment(SECTORS - 1, 1))
+        if may_write:
+            self.holds[2:4], self.holds[0], self.holds[-1] = [mark, mark], 0, 0
         self.request(FLUSH)
         self.request(GET_ID, room=20)
         self.look(ROOM, IDENTITY)
         self.request(IN, room=SECTOR * SECTORS)
-        for sector in range(SECTORS):
-            byte = b"\0" if sector in (0, SECTORS - 1) else mark if sector in (2, 3) else bytes([0x10 + first + sector])
-            self.look(ROOM + SECTOR * sector, byte)
+        for sector, byte in enumerate(self.holds):
+            self.look(ROOM + SECTOR * sector, bytes([byte]))
 
 
 # --- the other guest
@@ -228,19 +243,25 @@ NEIGHBOURS = {
     "with_typed_bytes": lambda story, slot: Other(story, slot).with_typed_bytes(4096),
     "that_failed": lambda story, slot: Other(story, slot).with_failed_driver(),
     "with_faults": lambda story, slot: Other(story, slot).with_faults(),
+    "that_may_only_read": lambda story, slot: Other(story, slot),
+    "at_another_base": lambda story, slot: Other(story, slot).with_work_before(),
+    "of_the_largest_size": lambda story, slot: Other(story, slot),
 }
+# What is otherwise on the other guest's slot.
+CHANGES = {"that_may_only_read": {"mode": "ro"}, "at_another_base": {"base": BASE + LENGTH}, "of_the_largest_size": {"columns": 0xffff, "rows": 0xffff}}
 
 
-def board(count, **more):
+def board(count):
     """Slots at one base, each with its sectors and its size."""
-    return [Slot(length=LENGTH, start=SECTORS * slot, columns=0x50 + slot, rows=0x20 + slot, **more) for slot in range(count)]
+    return [Slot(length=LENGTH, start=SECTORS * slot, columns=0x50 + slot, rows=0x20 + slot) for slot in range(count)]
 
 
 def beside(name, make, place):
     """The guest at a place, and the other one at the other place."""
-    where = "before" if place == 0 else "behind"
+    where, slots = "before" if place == 0 else "behind", board(2)
+    slots[1 - place] = dataclasses.replace(slots[1 - place], **CHANGES.get(name, {}))
     story = Story(f"beside/{where}_one_{name}", f"A guest works {where} one {name.replace('_', ' ')}: each record is as alone.",
-                  board(2), image=plain_image(2 * SECTORS), shows=[("a guest's work beside one", name.replace("_", " "))])
+                  slots, image=plain_image(2 * SECTORS), shows=[("a guest's work beside one", name.replace("_", " "))])
     other = make(story, 1 - place)
     other.before()
     Guest(story, place, "packed" if "packed" not in name and place else "split").work()

@@ -27,6 +27,7 @@ TABLES = [
     "sizes",
     "guests",
     "beside",
+    "at_work",
     "spellings",
     "words",
     "orders",
