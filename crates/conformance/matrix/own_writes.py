@@ -19,6 +19,7 @@ def stories():
     for kind, in_table in KINDS_OF_RINGS:
         for name in NAMES:
             yield over_the_header(kind, in_table, name)
+        yield refused(kind, in_table)
         yield over_data(kind, in_table)
         yield over_segments(kind, in_table)
         yield room_over_all(kind, in_table)
@@ -90,6 +91,24 @@ def over_the_header(kind, in_table, name):
             disk.queue.put(HEADER, header(OUT, 5))
             disk.queue.put(DATA, b"\x15" * SECTOR)
             disk.serve([Buffer(HEADER, 16), Buffer(DATA, SECTOR), Buffer(STATUS, 1, WRITE)], 1)
+    return story
+
+
+def refused(kind, in_table):
+    """The status of a refused request over each byte of its header: the header says why, and is left but for that byte."""
+    story = story_of("status_over_the_header_of_refused_requests", kind, in_table,
+                     "The status of a refused request lies over a byte of its header, which is read before.", "status over the header",
+                     "requests that are refused")
+    disk = Disk(story, kind, in_table)
+    cases = [(header(3), 0, UNSUPP), (header(0x80000000), 0, UNSUPP), (header(IN, 8), SECTOR, IOERR), (header(IN, 1 << 63), SECTOR, IOERR),
+             (header(GET_ID), 19, IOERR), (header(WRITE_ZEROES), 0, IOERR), (header(FLUSH)[:15], 0, IOERR), (header(OUT, 9), 0, IOERR)]
+    for front, room, status in cases:
+        for at in range(len(front)):
+            disk.queue.put(HEADER, front)
+            between = [Buffer(DATA, room, WRITE)] if room else []
+            disk.serve([Buffer(HEADER, len(front)), *between, Buffer(HEADER + at, 1, WRITE)], 0 if room else 1)
+            disk.queue.look(HEADER, len(front), front[:at] + bytes([status]) + front[at + 1:])
+    disk.queue.look(DATA, SECTOR, bytes(SECTOR))
     return story
 
 
