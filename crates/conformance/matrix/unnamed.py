@@ -16,6 +16,8 @@ ROOM, NOT_YET = BASE + 0xe000, b"\xee"
 VALUES = [0, 1, 2, 3, 8, 0x80, 0x80008000, ALL]
 STAGES = ("before_features_ok", "before_queue_ready", "while_live")
 CONTROL = range(0, 0x100, 4)
+# Written without effect, and the one byte of a configuration that has one.
+SHM_SEL, EMERG_WR = 0x0ac, 0x108
 
 
 def stories():
@@ -40,21 +42,21 @@ def unnamed(window, kind, stage):
         for takes_back in (False, True) if stage == STAGES[0] else (False,):
             at_work = Stage(story, window, kind, stage, takes_back)
             for offset in CONTROL:
-                if offset not in WRITABLE:
+                if offset not in WRITABLE or offset == SHM_SEL:
                     story.write(window, offset, value)
             at_work.goes_on()
     return story
 
 
 def widths(window, stage):
-    """All control offsets in widths 1 and 2, and those between in width 4."""
-    story = story_of("control offsets of another width, and between", "widths", window, stage,
-                     "no control offset is written in another width, or beside it")
+    """All control offsets in widths 1 and 2, and those between in width 4; the configuration in each width."""
+    story = story_of("control offsets of another width, and between; the configuration", "widths", window, stage,
+                     "no control offset is written in another width, or beside it, and no configuration")
     for value in (0, 1, 0xff):
         at_work = Stage(story, window, "split", stage, False)
-        for offset in range(0x100):
+        for offset in range(0x140):
             for width in (1, 2, 4):
-                if width < 4 or offset % 4:
+                if (width < 4 or offset % 4 or offset >= 0x100) and (window, offset) != ("c", EMERG_WR):
                     story.write(window, offset, value << 8 * (width - 1) | value, width=width)
         at_work.goes_on()
     return story
