@@ -226,8 +226,9 @@ def large_disk():
     """Reads, writes and zeroes at each power of two."""
     story = story_of("a_disk_of_260_sectors", "each bit below 9 of a sector, and of a segment's sector and count, leads to another sector",
                      "request's sector", "0..8, inside", slots=[Slot(length=0x40000, count=MANY)], image=large_image())
-    story.shows += [("segment's sector", "0..8, inside"), ("segment's count", "0..8, inside"), ("sectors of a read", "0..8, inside")]
+    story.shows += [("segment's sector", "0..8, inside"), ("segment's count", "0..8, inside"), ("sectors of a read", "0..8, inside"), ("capacity", "0..8")]
     disk = Disk(story)
+    story.read("b", 0x100, MANY)
     for bit in range(9):
         length = SECTOR << bit
         disk.request(header(IN), length, OK, length + 1, at=BASE + 0x10000)
