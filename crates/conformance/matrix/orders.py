@@ -268,6 +268,9 @@ def boards():
                       "TooManySlots", identity=bytes(20))
         yield refused(f"{words(fault)}_of_slot_16_of_17", "In version 1 a slot too many comes before its own fault.",
                       [{}] + [{}] * 15 + [change], "TooManySlots")
+    for place in (0, 8, 16):
+        yield refused(f"a_memory_too_long_in_slot_{place}_of_17", "Too many slots come before a memory that is too long.",
+                      [{"length": 0x10001000} if at == place else {"count": 0} for at in range(17)], "TooManySlots")
     yield refused("17_slots_and_a_cache_of_none", "Too many slots come before the cache.", [{}] * 17, "TooManySlots", cache=0)
     yield refused("65_slots_and_a_cache_of_none", "Too many slots come before the cache.", [{}] * 65, "TooManySlots", cache=0,
                   identity=bytes(20))

@@ -65,4 +65,4 @@ def spellings(kind, right):
         return {"with_a_digit_less": right[1:], "with_a_digit_more": "0" + right, "in_upper_case": right[:-1] + "A",
                 "with_another_letter": right[:-1] + "g", "left_empty": ""}
     return {"with_a_leading_zero": "0" + right, "in_upper_case": "A", "with_another_letter": "g", "left_empty": "",
-            "with_a_bit_too_many": f"{1 << kind:x}"}
+            "with_a_bit_too_many": f"{1 << kind:x}", "of_all_bits_and_one_more": f"{(2 << kind) - 1:x}"}
