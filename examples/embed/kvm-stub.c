@@ -1,0 +1,162 @@
+/*
+ * What the library answers to kvm.c, for a machine where it isn't built. It is no board: it knows the registers that
+ * kvm-guest.S uses, serves a queue's first chain once, and looks at no flag. Its outlets are those of the library: a byte
+ * that finds no room is refused with KALYUBOS_NO_ROOM, and nothing changes.
+ */
+#include <stdlib.h>
+#include <string.h>
+
+#include "kalyubos.h"
+
+enum { MAGIC = 0x000, DEVICE_ID = 0x008, NOTIFY = 0x050, INTERRUPT_ACK = 0x064, STATUS = 0x070, DESC = 0x080, DEVICE = 0x0a0 };
+enum { EMERGENCY = 0x108, GUESTS = 2, PAGE = 0x1000, SECTOR = 512 };
+
+struct window {
+    uint32_t status, interrupt, descriptors, used;
+};
+
+static struct slot {
+    uint8_t *memory, disk[SECTOR], output[PAGE];
+    size_t len, outlet, waiting;
+    struct window windows[2];
+} guests[GUESTS];
+
+static uint32_t tell(const struct slot *guest, struct kalyubos_pending *pending, uint32_t answer)
+{
+    *pending = (struct kalyubos_pending){ guest->windows[KALYUBOS_BLOCK].interrupt,
+                                          guest->windows[KALYUBOS_CONSOLE].interrupt, guest->waiting };
+    return answer;
+}
+
+static uint32_t number(const struct slot *guest, uint32_t at)
+{
+    uint32_t found;
+    memcpy(&found, guest->memory + at, sizeof found);
+    return found;
+}
+
+/* All of the bytes wait behind those that waited, or none. */
+static bool put_out(struct slot *guest, const uint8_t *bytes, size_t len)
+{
+    if (len > guest->outlet - guest->waiting)
+        return false;
+    memcpy(guest->output + guest->waiting, bytes, len);
+    guest->waiting += len;
+    return true;
+}
+
+/* Descriptor 1 of the disk's chain gets its sector, descriptor 2 the status OK. */
+static uint32_t serve_disk(struct slot *guest, struct window *disk)
+{
+    memcpy(guest->memory + number(guest, disk->descriptors + 16), guest->disk, SECTOR);
+    guest->memory[number(guest, disk->descriptors + 32)] = 0;
+    guest->memory[disk->used + 2] = 1;
+    disk->interrupt = 1;
+    return KALYUBOS_DONE;
+}
+
+/* Both buffers of the console's chain are put out. */
+static uint32_t serve_console(struct slot *guest, struct window *console)
+{
+    uint8_t text[PAGE];
+    size_t len = 0;
+    for (uint32_t at = console->descriptors; at < console->descriptors + 32; at += 16) {
+        memcpy(text + len, guest->memory + number(guest, at), number(guest, at + 8));
+        len += number(guest, at + 8);
+    }
+    if (!put_out(guest, text, len))
+        return KALYUBOS_NO_ROOM;
+    guest->memory[console->used + 2] = 1;
+    console->interrupt = 1;
+    return KALYUBOS_DONE;
+}
+
+uint32_t kalyubos_create(struct kalyubos *board, const struct kalyubos_slot *slots, size_t slots_len,
+                         const uint8_t *image, size_t image_len, uint32_t cache, uint32_t chains, uint64_t bytes)
+{
+    (void)image_len, (void)cache, (void)chains, (void)bytes;
+    for (size_t i = 0; i < slots_len; i++) {
+        guests[i] = (struct slot){ .memory = aligned_alloc(PAGE, slots[i].len), .len = slots[i].len, .outlet = slots[i].outlet };
+        if (guests[i].memory == NULL)
+            return KALYUBOS_NO_MEMORY;
+        memset(guests[i].memory, 0, slots[i].len);
+        memcpy(guests[i].disk, image + slots[i].start * SECTOR, SECTOR);
+    }
+    board->at = guests;
+    return KALYUBOS_DONE;
+}
+
+uint32_t kalyubos_destroy(struct kalyubos *board)
+{
+    for (size_t i = 0; i < GUESTS; i++)
+        free(guests[i].memory);
+    board->at = NULL;
+    return KALYUBOS_DONE;
+}
+
+uint32_t kalyubos_memory(struct kalyubos *board, uint8_t slot, uint8_t **bytes, size_t *len)
+{
+    (void)board;
+    *bytes = guests[slot].memory;
+    *len = guests[slot].len;
+    return KALYUBOS_DONE;
+}
+
+uint32_t kalyubos_read(struct kalyubos *board, uint8_t slot, uint8_t window, uint16_t offset, uint8_t width,
+                       uint32_t *value)
+{
+    const struct window *found = &guests[slot].windows[window];
+    (void)board, (void)width;
+    *value = offset == MAGIC       ? 0x74726976
+             : offset == DEVICE_ID ? 2u + window
+             : offset == STATUS    ? found->status
+                                   : found->interrupt;
+    return KALYUBOS_DONE;
+}
+
+uint32_t kalyubos_write(struct kalyubos *board, uint8_t slot, uint8_t window, uint16_t offset, uint8_t width,
+                        uint32_t value, struct kalyubos_pending *pending)
+{
+    struct slot *guest = &guests[slot];
+    struct window *found = &guest->windows[window];
+    uint32_t answer = KALYUBOS_DONE;
+    (void)board, (void)width;
+    if (offset == STATUS)
+        found->status = value;
+    else if (offset == DESC)
+        found->descriptors = value;
+    else if (offset == DEVICE)
+        found->used = value;
+    else if (offset == INTERRUPT_ACK)
+        found->interrupt &= ~value;
+    else if (offset == NOTIFY)
+        answer = window == KALYUBOS_BLOCK ? serve_disk(guest, found) : serve_console(guest, found);
+    else if (offset == EMERGENCY && !put_out(guest, &(uint8_t){ value }, 1))
+        answer = KALYUBOS_NO_ROOM;
+    return tell(guest, pending, answer);
+}
+
+/* Nothing of it pauses. */
+uint32_t kalyubos_go_on(struct kalyubos *board, uint8_t slot, struct kalyubos_pending *pending)
+{
+    (void)board;
+    return tell(&guests[slot], pending, KALYUBOS_DONE);
+}
+
+uint32_t kalyubos_disturbed(struct kalyubos *board, uint8_t slot, bool *disturbed)
+{
+    (void)board, (void)slot;
+    *disturbed = false;
+    return KALYUBOS_DONE;
+}
+
+uint32_t kalyubos_take_output(struct kalyubos *board, uint8_t slot, uint8_t *into, size_t into_len, size_t *taken)
+{
+    struct slot *guest = &guests[slot];
+    (void)board;
+    *taken = guest->waiting < into_len ? guest->waiting : into_len;
+    memcpy(into, guest->output, *taken);
+    memmove(guest->output, guest->output + *taken, guest->waiting - *taken);
+    guest->waiting -= *taken;
+    return KALYUBOS_DONE;
+}
