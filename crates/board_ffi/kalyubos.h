@@ -72,7 +72,7 @@ enum {
     KALYUBOS_BAD_IMAGE = 7,         /* the image isn't whole sectors of 512 bytes */
     KALYUBOS_NO_SLOTS = 8,          /* a board needs a slot */
     KALYUBOS_TOO_MANY_SLOTS = 9,    /* a board has sixty-four slots at most */
-    KALYUBOS_BAD_MEMORY_SIZE = 10,  /* a memory's size is no multiple of 4096 from 4096 to 2^28 */
+    KALYUBOS_BAD_MEMORY_SIZE = 10,  /* a memory's size is no multiple of 4096 from 4096 to 2^46 */
     KALYUBOS_BAD_MEMORY_BASE = 11,  /* a memory's base is no multiple of 4096, or the memory passes 2^64 */
     KALYUBOS_EXTENT_OUTSIDE = 12,   /* an extent passes the image's end */
     KALYUBOS_EXTENTS_OVERLAP = 13,  /* two extents share a sector */

@@ -109,7 +109,7 @@ impl fmt::Display for CreateError {
             BadImage => "the image is not whole sectors of 512 bytes",
             NoSlots => "a board needs a slot",
             TooManySlots => "a board has sixty-four slots at most",
-            BadMemorySize => "a memory's length is a multiple of 4096, from 4096 to 2^28",
+            BadMemorySize => "a memory's length is a multiple of 4096, from 4096 to 2^46",
             BadMemoryBase => "a memory begins at a multiple of 4096 and ends at 2^64 or before",
             ExtentOutside => "a slot's sectors pass the image's end",
             ExtentsOverlap => "two slots share a sector",

@@ -49,7 +49,7 @@ pub fn two_guests<A: Allocator + Copy>(
 pub fn advice(why: BoardFault) -> &'static str {
     match why {
         BoardFault::NoSlots | BoardFault::TooManySlots => "a board has 1 to 64 guests",
-        BoardFault::Memory(MemoryFault::BadSize) => "a guest has 4 KiB to 256 MiB, in whole pages",
+        BoardFault::Memory(MemoryFault::BadSize) => "a guest has 4 KiB to 64 TiB, in whole pages",
         BoardFault::Memory(_) => "a guest's memory begins at a page and ends at 2^64",
         BoardFault::ExtentOutside => "the disk is too short for its guests",
         BoardFault::ExtentsOverlap => "two guests would have a sector in common",

@@ -1,10 +1,11 @@
 -- Going through the slots of a refused board up to the one with the fault.
-use Rattle.std.proofs.Common.{◌≡◌, ◌⊎◌, inl, inr, ℕ, ◌+◌, ◌<◌, ◌≤◌, List, Option, None, Some, IfSome, IsTrue, false, length, take, get_or, ap, subst, sym, ◌∙◌, arith}
+use Rattle.std.proofs.Common.{◌≡◌, ◌⊎◌, inl, inr, ℕ, ◌+◌, ◌<◌, ◌≤◌, List, Option, None, Some, IfSome, IsTrue, false, length, take, get_or, map, ap, subst, sym, ◌∙◌, arith}
 use Rattle.std.proofs.lemmas.Bool.{cases_lt}
 use Rattle.std.proofs.lemmas.Option.{slice_get-get_or, slice_get_within}
 use Rattle.board.specs.declared.fault.BoardFault.{BoardFault}
 use Rattle.board.specs.declared.spec.SlotSpec.{SlotSpec}
 use Rattle.board.specs.Fault.{HasFirstFault, IsFaultOf, IsGoodSlot}
+use Rattle.replay.specs.Limits.{asked_of_board}
 use Rattle.trace.specs.Printable.{InRange, IsPrintable}
 use Rattle.trace.specs.Reading.{IsTraceOf}
 use Rattle.trace.specs.Text.{Content, text}
@@ -40,9 +41,9 @@ moved : (sectors : ℕ) (old new : List SlotSpec) (fault : BoardFault) (number :
 moved sectors old new fault number same has refused =
     subst (λ (slots : List SlotSpec). (refused : HasFirstFault sectors slots fault) → number ≡ refused.at_slot) (sym same) (λ r. cc (has r)) refused
 
--- what is said of the slots that were read is said of those of the text, which has one trace
-pub of_the_text : {A : Type 0} (sectors : ℕ) (bytes : List ℕ) (read : Content A) (slots : List SlotSpec) (fault : BoardFault) (answer : Option ℕ) → slots ≡ read.slots → ((other : Content A) → InRange other → IsPrintable other → bytes ≡ text other → other ≡ read) → ((refused : HasFirstFault sectors slots fault) → answer ≡ Some refused.at_slot) → IfSome answer (λ number. (trace : Content A) → IsTraceOf bytes trace → (refused : HasFirstFault sectors trace.slots fault) → number ≡ refused.at_slot)
+-- what is said of the slots that were read, as a board is asked for them, is said of those of the text, which has one trace
+pub of_the_text : {A : Type 0} (sectors : ℕ) (bytes : List ℕ) (read : Content A) (slots : List SlotSpec) (fault : BoardFault) (answer : Option ℕ) → slots ≡ map asked_of_board read.slots → ((other : Content A) → InRange other → IsPrintable other → bytes ≡ text other → other ≡ read) → ((refused : HasFirstFault sectors slots fault) → answer ≡ Some refused.at_slot) → IfSome answer (λ number. (trace : Content A) → IsTraceOf bytes trace → (refused : HasFirstFault sectors (map asked_of_board trace.slots) fault) → number ≡ refused.at_slot)
 of_the_text sectors bytes read slots fault None is only has = tt
 of_the_text {A} sectors bytes read slots fault (Some number) is only has = λ trace its.
-    let same : trace.slots ≡ slots = ap (λ (t : Content A). t.slots) (only trace its.range its.printable its.found) ∙ sym is in
-    moved sectors trace.slots slots fault number same has
+    let same : map asked_of_board trace.slots ≡ slots = ap (λ (t : Content A). map asked_of_board t.slots) (only trace its.range its.printable its.found) ∙ sym is in
+    moved sectors (map asked_of_board trace.slots) slots fault number same has

@@ -1,15 +1,17 @@
 //! Which slot of a trace is meant, for people.
 
-ghost use Rattle.std.specs.Prelude.{◌≡◌, Some, IfSome, IsTrue, All, Any};
+ghost use Rattle.std.specs.Prelude.{◌≡◌, Some, IfSome, IsTrue, All, Any, map};
 ghost use Rattle.std.specs.Bool.{OnFalse, OnTrue};
 ghost use Rattle.std.specs.List.{position};
 ghost use Rattle.board.specs.Extent.{IsApart, Overlaps, has_sector};
 ghost use Rattle.board.specs.Fault.{HasFirstFault, IsFaultOf, IsGoodSlot};
+ghost use Rattle.replay.specs.Limits.{asked_of_board};
 ghost use Rattle.trace.specs.Reading.{IsTraceOf};
 ghost use Rattle.trace.specs.Text.{Content};
 
 use board::{BoardFault, Extent, SlotSpec};
 use guest_memory::fault_of;
+use replay::limit_memories;
 use std::alloc::Allocator;
 use trace::read_trace;
 
@@ -21,11 +23,12 @@ pub fn slot_at_fault<A: Allocator + Copy>(
     fault: BoardFault,
 ) -> Option<usize>
     ensures { IfSome result (λ number. (trace : Content A) → IsTraceOf text.now trace →
-        (refused : HasFirstFault sectors trace.slots fault) → number ≡ refused.at_slot) }
+        (refused : HasFirstFault sectors (map asked_of_board trace.slots) fault) → number ≡ refused.at_slot) }
 {
-    let Ok(trace) = read_trace(alloc, text) else {
+    let Ok(mut trace) = read_trace(alloc, text) else {
         return None;
     };
+    limit_memories(&mut trace.slots);
     first_at_fault(&trace.slots, sectors, fault)
 }
 

@@ -9,13 +9,13 @@ use thiserror::Error;
 const PAGE: u64 = 4096;
 
 /// The largest guest memory, in bytes.
-const MOST: u64 = 1 << 28;
+const MOST: u64 = 1 << 46;
 
 /// Why a memory was refused: the first of these that holds.
 #[derive(Clone, Copy, Debug, PartialEq, Eq, Error)]
 pub enum MemoryFault {
-    /// The size isn't a multiple of 4096 from 4096 to 2^28 bytes.
-    #[error("the size is no multiple of 4096 from 4096 to 2^28")]
+    /// The size isn't a multiple of 4096 from 4096 to 2^46 bytes.
+    #[error("the size is no multiple of 4096 from 4096 to 2^46, or to 2^28 in a trace")]
     BadSize,
     /// The base isn't a multiple of 4096, or the last byte's address is above 2^64 - 1.
     #[error("the base is no multiple of 4096, or the memory passes 2^64")]

@@ -1,3 +1,4 @@
+pub mod Limiting
 pub mod Versions
 pub mod LastLines
 pub mod Gathering

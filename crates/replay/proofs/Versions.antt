@@ -1,5 +1,6 @@
 -- Two traces that differ in their version alone are replayed alike.
 use Rattle.std.proofs.Common.{◌≡◌, ℕ, List, Option, Some, Result, Ok, Err, refl, sym, subst, arith, inl, inr}
+use Rattle.std.specs.Prelude.{All}
 use Rattle.sector_cache.specs.Disk.{Disk}
 use Rattle.board.specs.declared.event.Event.{Event}
 use Rattle.board.specs.declared.fault.BoardFault.{BoardFault}
@@ -9,6 +10,7 @@ use Rattle.trace.specs.declared.fault.TraceFault.{TraceFault}
 use Rattle.replay.specs.declared.fault.ReplayFault.{ReplayFault}
 use Rattle.replay.specs.declared.fault.ReplayFault.TheVariants.{Read, Trace, Board, Run, Write, NoMemory}
 use Rattle.trace.specs.Printable.{IsPrintable}
+use Rattle.replay.specs.Limits.{IsSmallMemory}
 use Rattle.replay.specs.Replay.{AfterRun, HasTooMany, Plays, RefusesBoard, RefusesBoardOf, RefusesTrace, Replays}
 use Rattle.trace.specs.Reading.{IsTraceOf}
 use Rattle.trace.specs.Text.{Content, as_version_2, text}
@@ -60,6 +62,7 @@ module _ {A I : Type 0} (disk : I → Disk) (old new : Option (List ℕ)) (befor
         trace = other;
         read = is_trace other second.fits;
         few = second.few;
+        small = subst (λ (t : Content A). All IsSmallMemory t.slots) is p.small;
         accepted = subst (λ (t : Content A). IsAccepted (disk before).sector_count t.slots t.cache) is p.accepted;
         ended = subst (λ (t : Content A). AfterRun disk t.slots t.events before after old new outcome) is p.ended;
       }

@@ -1,3 +1,4 @@
+pub mod Limits
 pub mod LastLine
 pub mod OneSlot
 pub mod Replay

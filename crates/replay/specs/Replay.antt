@@ -1,5 +1,5 @@
 -- What a replay comes to: the trace that it read, the run on that trace's board, and what it wrote.
-use Rattle.std.specs.Prelude.{◌≡◌, ◌≢◌, ◌⊎◌, ℕ, ◌<◌, ⊤, List, [], ◌∷◌, length, map, take, Option, IfSome, Result, Ok, Err}
+use Rattle.std.specs.Prelude.{◌≡◌, ◌≢◌, ◌⊎◌, ℕ, ◌<◌, ⊤, All, List, [], ◌∷◌, length, map, take, Option, IfSome, Result, Ok, Err}
 use Rattle.std.specs.Io.KnownBytes.{Appends, IsAtEnd, Keeps}
 use Rattle.sector_cache.specs.Disk.{Disk}
 use Rattle.board.specs.declared.event.Event.{Event}
@@ -17,6 +17,7 @@ use Rattle.trace.specs.declared.fault.TraceFault.{TraceFault}
 use Rattle.replay.specs.declared.fault.ReplayFault.{ReplayFault}
 use Rattle.replay.specs.declared.fault.ReplayFault.TheVariants.{Read, Trace, Board, Run, Write, NoMemory}
 use Rattle.trace.specs.Sends.{AppendsFront}
+use Rattle.replay.specs.Limits.{IsSmallMemory, asked_of_board}
 use Rattle.replay.specs.OneSlot.{IsMachine}
 use Rattle.trace.specs.Reading.{IsTraceFault, IsTraceOf}
 use Rattle.trace.specs.Records.{records_text}
@@ -56,22 +57,27 @@ AfterRun disk slots events before after old new (Err Write) = RecordedFront disk
 AfterRun disk slots events before after old new (Err NoMemory) = RecordedFront disk slots events before after (λ _. Keeps old new)
 AfterRun disk slots events before after old new (Err _) = ⊥
 
+-- what a trace has before its events
+abbrev pub front : (A : Type 0) → ℕ → ℕ → List SlotSpec → Content A
+front A version cache slots = record { version = version; cache = cache; slots = slots; events = [] }
+
 -- a trace of version 1 has at most sixteen slots, whatever a board may have
 pub record HasTooMany {A : Type 0} (trace : Content A) : Type 0 where
   pub version : trace.version ≡ 1
   pub many : 16 < length trace.slots
 
 -- Why there is no board for a trace: it has too many slots for its version, before any of them is looked at; else it
--- is the board's own fault.
+-- is the fault of the board that is asked for.
 abbrev pub RefusesBoardOf : {A : Type 0} → ℕ → Content A → BoardFault → Type 0
 RefusesBoardOf sectors trace fault =
-    (HasTooMany trace × (fault ≡ TooManySlots)) ⊎ ((¬ HasTooMany trace) × Refuses sectors trace.slots trace.cache fault)
+    (HasTooMany trace × (fault ≡ TooManySlots)) ⊎ ((¬ HasTooMany trace) × Refuses sectors (map asked_of_board trace.slots) trace.cache fault)
 
 -- the trace was read, there is a board for it, and this came of its events
 pub record Plays {I : Type 0} (A : Type 0) (disk : I → Disk) (input old new : Option (List ℕ)) (before after : I) (outcome : Result (Unit {0}) ReplayFault) : Type 0 where
   pub trace : Content A
   pub read : IfSome input (λ bytes. IsTraceOf bytes trace)
   pub few : ¬ HasTooMany trace
+  pub small : All IsSmallMemory trace.slots
   pub accepted : IsAccepted (disk before).sector_count trace.slots trace.cache
   pub ended : AfterRun disk trace.slots trace.events before after old new outcome
 

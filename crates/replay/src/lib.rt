@@ -2,13 +2,15 @@
 //!
 //! `replaying` has both passes over a text: `trace` judges it whole, and `running` then runs it line by line. `input`
 //! gathers what a reader gives, `fault` says why a replay did not come to its end, `last_line` tells how a program ends
-//! after it, and `laws` says that the version of a trace says nothing of what comes of it.
+//! after it, `limits` says which memories a trace may describe, and `laws` that the version of a trace says nothing of what
+//! comes of it.
 #![tactic(auto)]
 
 mod fault;
 mod input;
 mod last_line;
 mod laws;
+mod limits;
 mod replaying;
 mod running;
 
@@ -16,4 +18,5 @@ pub use fault::ReplayFault;
 pub use input::gather;
 pub use last_line::finish;
 pub use laws::the_version_changes_no_replay;
+pub use limits::limit_memories;
 pub use replaying::{replay, replay_text};

@@ -2,19 +2,21 @@
 //!
 //! The text goes through two passes: `judge` looks at all of it, and `run_lines` then reads and runs line by line.
 
-ghost use Rattle.std.specs.Prelude.{◌≡◌, ◌≢◌, ℕ, List, Some, Err, IfErr, IfOk, OnOk, length, map};
+ghost use Rattle.std.specs.Prelude.{◌≡◌, ◌≢◌, ℕ, All, List, Some, Err, IfErr, IfOk, OnOk, length, map};
 ghost use Rattle.board.specs.declared.event.Event.{Event};
 ghost use Rattle.board.specs.declared.spec.SlotSpec.{SlotSpec};
 ghost use Rattle.board.specs.Fault.{IsAccepted};
 ghost use Rattle.board.specs.Slot.{opened};
 ghost use Rattle.replay.specs.declared.fault.ReplayFault.{ReplayFault};
 ghost use Rattle.trace.specs.Judging.{AreEventLines, AreLinesOf, judgement, kept};
-ghost use Rattle.replay.specs.Replay.{AfterRun, EndsReading, HasTooMany, RefusesBoardOf, Replays};
+ghost use Rattle.replay.specs.Limits.{IsSmallMemory};
+ghost use Rattle.replay.specs.Replay.{AfterRun, EndsReading, HasTooMany, RefusesBoardOf, Replays, front};
 
 use crate::fault::ReplayFault;
 use crate::input::gather;
+use crate::limits::limit_memories;
 use crate::running::run_lines;
-use board::{Board, BoardFault};
+use board::{Board, BoardFault, SlotSpec};
 use sector_cache::{Image, Refused};
 use std::alloc::Allocator;
 use std::io::{Read, Write};
@@ -69,29 +71,40 @@ pub fn replay_text<W: Write, I: Image, A: Allocator + Copy>(
     let Ok(mut room) = vec![in alloc; 0; judged.longest] else {
         return (image, Err(ReplayFault::Trace(judged.no_room())));
     };
-    match board_of(alloc, &judged, image) {
-        Ok(board) => run_judged(alloc, board, judged.events, room.as_mut_slice(), writer),
+    let Judged {
+        version,
+        cache,
+        slots,
+        events,
+        ..
+    } = judged;
+    match board_of(alloc, version, cache, slots, image) {
+        Ok(board) => run_judged(alloc, board, events, room.as_mut_slice(), writer),
         Err(Refused { image, why }) => (image, Err(ReplayFault::Board(why))),
     }
 }
 
-// The board of a trace that was judged, over an image.
+// The board of a trace of this version, with this cache and these slots, over an image.
 fn board_of<I: Image, A: Allocator + Copy>(
     alloc: A,
-    judged: &Judged<'_, A>,
+    version: u8,
+    cache: u32,
+    mut slots: Vec<SlotSpec, A>,
     image: I,
 ) -> Result<Board<I, A>, Refused<I, BoardFault>>
-    ensures made { IfOk result (λ board. board ≡ record { slots = map opened judged.now.slots.items; image = image }) }
-    ensures few { OnOk result (¬ HasTooMany (kept A (judgement judged.now))) }
-    ensures accepted { OnOk result (IsAccepted (I.disk image).sector_count judged.now.slots.items judged.now.cache) }
-    ensures fault { IfErr result (λ refused. RefusesBoardOf (I.disk image).sector_count (kept A (judgement judged.now)) refused.why) }
+    ensures made { IfOk result (λ board. board ≡ record { slots = map opened slots.items; image = image }) }
+    ensures few { OnOk result (¬ HasTooMany (front A version cache slots.items)) }
+    ensures small { OnOk result (All IsSmallMemory slots.items) }
+    ensures accepted { OnOk result (IsAccepted (I.disk image).sector_count slots.items cache) }
+    ensures fault { IfErr result (λ refused. RefusesBoardOf (I.disk image).sector_count (front A version cache slots.items) refused.why) }
     ensures returned { IfErr result (λ refused. refused.image ≡ image) }
 {
-    if judged.version == VERSION_1 && judged.slots.len() > MOST_SLOTS_IN_VERSION_1 {
+    if version == VERSION_1 && slots.len() > MOST_SLOTS_IN_VERSION_1 {
         let why = BoardFault::TooManySlots;
         return Err(Refused { image, why });
     }
-    Board::new(alloc, &judged.slots, image, judged.cache)
+    limit_memories(&mut slots);
+    Board::new(alloc, &slots, image, cache)
 }
 
 // Runs the events of the lines on their board, which is new, and writes the text of their records.

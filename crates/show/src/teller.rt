@@ -3,6 +3,7 @@
 use crate::watch::Watcher;
 use crate::weave::{Tell, Text, take_line};
 use board::Board;
+use replay::limit_memories;
 use sector_cache::MemoryImage;
 use std::alloc::Global;
 use trace::{event_of_line, read_trace};
@@ -83,7 +84,8 @@ fn watcher_of(
     before: MemoryImage,
     text: &mut Text,
 ) -> Option<Watcher> {
-    let trace = read_trace(alloc, front).ok()?;
+    let mut trace = read_trace(alloc, front).ok()?;
+    limit_memories(&mut trace.slots);
     let board = Board::new(alloc, &trace.slots, before, trace.cache).ok()?;
     let watcher = Watcher::new(alloc, board).ok()?;
     watcher.say_board(&trace, text);

@@ -1,0 +1,56 @@
+-- Slots of a trace that a board takes have memories as a trace may describe them.
+use Rattle.std.proofs.Common.{◌≡◌, ◌∙◌, ◌⊎◌, inl, inr, ℕ, suc, ◌+◌, ◌<◌, ◌≤◌, List, [], ◌∷◌, ◌++◌, Some, true, ap, drop, get_or, length, map, refl, slice_set, sym, subst, take, arith}
+use Rattle.std.specs.Prelude.{All, ◌^◌, nat_lt}
+use Rattle.std.specs.List.{slice_get}
+use Rattle.std.specs.Option.{option_map}
+use Rattle.std.proofs.lemmas.Option.{slice_get-get_or, slice_get-map, slice_get_within}
+use Rattle.std.proofs.lemmas.Bool.{cases_lt, le-ltb}
+use Rattle.std.proofs.lemmas.List.{get_or_default}
+use Rattle.std.proofs.lemmas.List.Edits.{map_over_more}
+use Rattle.board.specs.declared.spec.SlotSpec.{SlotSpec}
+use Rattle.board.specs.Fault.{IsAccepted}
+use Rattle.replay.specs.Limits.{IsSmallMemory, asked_of_board}
+
+-- ---- the loop that asks for no memory in place of a large one
+
+pub one_more : {X : Type 0} (f : X → X) (xs ys : List X) (i : ℕ) (d new : X) → i < length xs → length ys ≡ length xs
+    → ys ≡ map f (take i xs) ++ drop i xs → new ≡ f (get_or ys i d) → slice_set ys i new ≡ map f (take (i + 1) xs) ++ drop (i + 1) xs
+one_more {X} f xs ys i d new below same is written =
+    let within : i < length ys = omega (arith, below, same) in
+    ap (λ (x : X). slice_set ys i x) written
+    ∙ map_over_more f xs ys i (get_or ys i d) below is (get_or_default ys i d (get_or ys i d) within)
+
+-- ---- what a board accepts
+
+-- a memory of 2^28 bytes at most is asked for as it is
+asked_small : (spec : SlotSpec) → IsSmallMemory spec → asked_of_board spec ≡ spec
+asked_small spec small = rw (le-ltb (2 ^ 28) spec.len small) refl
+
+asked_large : (spec : SlotSpec) → 2 ^ 28 < spec.len → (asked_of_board spec).len ≡ 0
+asked_large spec large =
+    let test : nat_lt (2 ^ 28) spec.len ≡ true = grind (arith, large) in
+    rw test refl
+
+small_or_none : (spec : SlotSpec) → 4096 ≤ (asked_of_board spec).len → (2 ^ 28 < spec.len) ⊎ (spec.len ≤ 2 ^ 28) → IsSmallMemory spec
+small_or_none spec some (inl large) = absurd (omega (arith, some, asked_large spec large))
+small_or_none spec some (inr small) = small
+
+-- slots of which the board is asked for some memory each
+pub all_small : (slots : List SlotSpec) → ((i : ℕ) (spec : SlotSpec) → slice_get (map asked_of_board slots) i ≡ Some spec → 4096 ≤ spec.len) → All IsSmallMemory slots
+all_small slots some = λ k d below.
+    let there : slice_get (map asked_of_board slots) k ≡ Some (asked_of_board (get_or slots k d))
+    = slice_get-map asked_of_board slots k ∙ ap (option_map asked_of_board) (slice_get-get_or slots k d below) in
+    small_or_none (get_or slots k d) (some k (asked_of_board (get_or slots k d)) there) (cases_lt (2 ^ 28) (get_or slots k d).len)
+
+pub all_asked : (slots : List SlotSpec) → All IsSmallMemory slots → map asked_of_board slots ≡ slots
+all_asked [] small = refl
+all_asked (spec ∷ slots) small =
+    rw (asked_small spec (small 0 spec (omega arith)), all_asked slots (λ k d below. small (suc k) d (omega (arith, below)))) refl
+
+-- what a board took of these slots is what the trace describes
+pub taken_small : (sectors cache : ℕ) (slots : List SlotSpec) → IsAccepted sectors (map asked_of_board slots) cache → All IsSmallMemory slots
+taken_small sectors cache slots accepted =
+    all_small slots (λ i spec there. (accepted.slots_good.each i spec (slice_get_within (map asked_of_board slots) i spec there) there).memory.size.least)
+
+pub taken_asked : (sectors cache : ℕ) (slots : List SlotSpec) → IsAccepted sectors (map asked_of_board slots) cache → map asked_of_board slots ≡ slots
+taken_asked sectors cache slots accepted = all_asked slots (taken_small sectors cache slots accepted)
