@@ -31,7 +31,7 @@ pub enum CreateError {
     NoSlots,
     /// There are more than sixty-four slots.
     TooManySlots,
-    /// A memory's length is no multiple of 4096 from 4096 to 2^28.
+    /// A memory's length is no multiple of 4096 from 4096 to 2^46.
     BadMemorySize,
     /// A memory's base is no multiple of 4096, or the memory passes 2^64.
     BadMemoryBase,

@@ -41,7 +41,7 @@ fn each_refusal_of_create_is_told() {
         CreateError::BadMemorySize
     );
     assert_eq!(
-        of_one(Slot::new(MEMORY, (1 << 28) + 4096, 0..1)),
+        of_one(Slot::new(MEMORY, (1 << 46) + 4096, 0..1)),
         CreateError::BadMemorySize
     );
     assert_eq!(
