@@ -28,8 +28,15 @@ pub fn slot_at_fault<A: Allocator + Copy>(
     let Ok(mut trace) = read_trace(alloc, text) else {
         return None;
     };
-    limit_memories(&mut trace.slots);
-    first_at_fault(&trace.slots, sectors, fault)
+    first_refused(&mut trace.slots, sectors, fault)
+}
+
+// The slot at which a board of these slots is refused with this fault, where it is asked for them as a trace is.
+fn first_refused(slots: &mut [SlotSpec], sectors: u64, fault: BoardFault) -> Option<usize>
+    ensures { (refused : HasFirstFault sectors (map asked_of_board slots.old) fault) → result ≡ Some refused.at_slot }
+{
+    limit_memories(slots);
+    first_at_fault(slots, sectors, fault)
 }
 
 /// The slot whose extent has this sector.

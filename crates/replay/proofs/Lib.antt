@@ -1,4 +1,5 @@
 pub mod Limiting
+pub mod Playing
 pub mod Versions
 pub mod LastLines
 pub mod Gathering

@@ -1,6 +1,6 @@
 -- Slots of a trace that a board takes have memories as a trace may describe them.
 use Rattle.std.proofs.Common.{◌≡◌, ◌∙◌, ◌⊎◌, inl, inr, ℕ, suc, ◌+◌, ◌<◌, ◌≤◌, List, [], ◌∷◌, ◌++◌, Some, true, ap, drop, get_or, length, map, refl, slice_set, sym, subst, take, arith}
-use Rattle.std.specs.Prelude.{All, ◌^◌, nat_lt}
+use Rattle.std.specs.Prelude.{All, ◌^◌, nat_lt, IfOk, OnOk, Result, Ok, Err}
 use Rattle.std.specs.List.{slice_get}
 use Rattle.std.specs.Option.{option_map}
 use Rattle.std.proofs.lemmas.Option.{slice_get-get_or, slice_get-map, slice_get_within}
@@ -54,3 +54,20 @@ taken_small sectors cache slots accepted =
 
 pub taken_asked : (sectors cache : ℕ) (slots : List SlotSpec) → IsAccepted sectors (map asked_of_board slots) cache → map asked_of_board slots ≡ slots
 taken_asked sectors cache slots accepted = all_asked slots (taken_small sectors cache slots accepted)
+
+module _ (sectors cache : ℕ) (slots asked : List SlotSpec) (same : asked ≡ map asked_of_board slots) where
+  as_described : IsAccepted sectors asked cache → asked ≡ slots
+  as_described accepted = same ∙ taken_asked sectors cache slots (subst (λ (s : List SlotSpec). IsAccepted sectors s cache) same accepted)
+
+  pub small_when : {V E : Type 0} (result : Result V E) → OnOk result (IsAccepted sectors asked cache) → OnOk result (All IsSmallMemory slots)
+  small_when (Ok v) accepted = taken_small sectors cache slots (subst (λ (s : List SlotSpec). IsAccepted sectors s cache) same accepted)
+  small_when (Err e) accepted = tt
+
+  pub accepted_when : {V E : Type 0} (result : Result V E) → OnOk result (IsAccepted sectors asked cache) → OnOk result (IsAccepted sectors slots cache)
+  accepted_when (Ok v) accepted = subst (λ (s : List SlotSpec). IsAccepted sectors s cache) (as_described accepted) accepted
+  accepted_when (Err e) accepted = tt
+
+  -- what is said of a board of the slots that were asked for is said of one of those that are described
+  pub made_when : {V E : Type 0} (Made : V → List SlotSpec → Type 0) (result : Result V E) → OnOk result (IsAccepted sectors asked cache) → IfOk result (λ v. Made v asked) → IfOk result (λ v. Made v slots)
+  made_when Made (Ok v) accepted made = subst (λ (s : List SlotSpec). Made v s) (as_described accepted) made
+  made_when Made (Err e) accepted made = tt

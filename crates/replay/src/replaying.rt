@@ -20,7 +20,7 @@ use board::{Board, BoardFault, SlotSpec};
 use sector_cache::{Image, Refused};
 use std::alloc::Allocator;
 use std::io::{Read, Write};
-use trace::{Buffer, FaultKind, Judged, TraceFault, VERSION_1, judge};
+use trace::{Buffer, FaultKind, TraceFault, VERSION_1, judge};
 
 /// The fault where there is no memory for the input.
 const NO_ROOM: TraceFault = TraceFault {
@@ -64,22 +64,21 @@ pub fn replay_text<W: Write, I: Image, A: Allocator + Copy>(
     ensures read { result.1 ≢ Err ReplayFault.Read }
     ensures whole { (done : ℕ) → result.1 ≢ Err (ReplayFault.Run done) }
 {
-    let judged = match judge(alloc, text) {
+    let mut judged = match judge(alloc, text) {
         Ok(judged) => judged,
         Err(fault) => return (image, Err(ReplayFault::Trace(fault))),
     };
     let Ok(mut room) = vec![in alloc; 0; judged.longest] else {
         return (image, Err(ReplayFault::Trace(judged.no_room())));
     };
-    let Judged {
-        version,
-        cache,
-        slots,
-        events,
-        ..
-    } = judged;
-    match board_of(alloc, version, cache, slots, image) {
-        Ok(board) => run_judged(alloc, board, events, room.as_mut_slice(), writer),
+    match board_of(
+        alloc,
+        judged.version,
+        judged.cache,
+        &mut judged.slots,
+        image,
+    ) {
+        Ok(board) => run_judged(alloc, board, judged.events, room.as_mut_slice(), writer),
         Err(Refused { image, why }) => (image, Err(ReplayFault::Board(why))),
     }
 }
@@ -89,22 +88,22 @@ fn board_of<I: Image, A: Allocator + Copy>(
     alloc: A,
     version: u8,
     cache: u32,
-    mut slots: Vec<SlotSpec, A>,
+    slots: &mut [SlotSpec],
     image: I,
 ) -> Result<Board<I, A>, Refused<I, BoardFault>>
-    ensures made { IfOk result (λ board. board ≡ record { slots = map opened slots.items; image = image }) }
-    ensures few { OnOk result (¬ HasTooMany (front A version cache slots.items)) }
-    ensures small { OnOk result (All IsSmallMemory slots.items) }
-    ensures accepted { OnOk result (IsAccepted (I.disk image).sector_count slots.items cache) }
-    ensures fault { IfErr result (λ refused. RefusesBoardOf (I.disk image).sector_count (front A version cache slots.items) refused.why) }
+    ensures made { IfOk result (λ board. board ≡ record { slots = map opened slots.old; image = image }) }
+    ensures few { OnOk result (¬ HasTooMany (front A version cache slots.old)) }
+    ensures small { OnOk result (All IsSmallMemory slots.old) }
+    ensures accepted { OnOk result (IsAccepted (I.disk image).sector_count slots.old cache) }
+    ensures fault { IfErr result (λ refused. RefusesBoardOf (I.disk image).sector_count (front A version cache slots.old) refused.why) }
     ensures returned { IfErr result (λ refused. refused.image ≡ image) }
 {
     if version == VERSION_1 && slots.len() > MOST_SLOTS_IN_VERSION_1 {
         let why = BoardFault::TooManySlots;
         return Err(Refused { image, why });
     }
-    limit_memories(&mut slots);
-    Board::new(alloc, &slots, image, cache)
+    limit_memories(slots);
+    Board::new(alloc, slots, image, cache)
 }
 
 // Runs the events of the lines on their board, which is new, and writes the text of their records.

@@ -1,0 +1,45 @@
+-- What comes of a text that is a trace's, once there is a board for it.
+use Rattle.std.proofs.Common.{◌≡◌, ◌∙◌, ℕ, ◌<◌, List, Option, Some, Result, Ok, Err, length, map, ap, subst, sym}
+use Rattle.std.specs.Prelude.{All}
+use Rattle.sector_cache.specs.Disk.{Disk}
+use Rattle.board.specs.declared.event.Event.{Event}
+use Rattle.board.specs.declared.spec.SlotSpec.{SlotSpec}
+use Rattle.board.specs.Fault.{IsAccepted}
+use Rattle.board.specs.Slot.{opened}
+use Rattle.board.specs.World.{BoardState}
+use Rattle.trace.specs.Judging.{AreLinesOf, IsJudged, Judgement}
+use Rattle.replay.specs.declared.fault.ReplayFault.{ReplayFault}
+use Rattle.replay.specs.declared.fault.ReplayFault.TheVariants.{Read, Trace, Board, Run, Write, NoMemory}
+use Rattle.replay.specs.Limits.{IsSmallMemory}
+use Rattle.replay.specs.Replay.{AfterRun, HasTooMany, Plays, Replays, front}
+
+replays : {A I : Type 0} (disk : I → Disk) (input old new : Option (List ℕ)) (before after : I) (outcome : Result (Unit {0}) ReplayFault) → Plays A disk input old new before after outcome → Replays A disk input old new before after outcome
+replays disk input old new before after (Ok done) plays = plays
+replays disk input old new before after (Err Read) plays = absurd plays.ended
+replays disk input old new before after (Err (Trace fault)) plays = absurd plays.ended
+replays disk input old new before after (Err (Board fault)) plays = absurd plays.ended
+replays disk input old new before after (Err (Run done)) plays = plays
+replays disk input old new before after (Err Write) plays = plays
+replays disk input old new before after (Err NoMemory) plays = plays
+
+-- the board of the slots that were judged, and what came of the lines of their events
+pub played : {A I : Type 0} (disk : I → Disk) (text : List ℕ) (old new : Option (List ℕ)) (before after : I) (outcome : Result (Unit {0}) ReplayFault) (j : Judgement) (slots : List SlotSpec) (board : BoardState I)
+    → IsJudged A text j → slots ≡ j.slots → board ≡ record { slots = map opened slots; image = before }
+    → (¬ HasTooMany (front A j.version j.cache slots)) → All IsSmallMemory slots → IsAccepted (disk before).sector_count slots j.cache
+    → ((specs : List SlotSpec) (events : List (Event A)) → board.slots ≡ map opened specs → AreLinesOf events j.events → AfterRun disk specs events board.image after old new outcome)
+    → Replays A disk (Some text) old new before after outcome
+played {A} {I} disk text old new before after outcome j slots board is same made few small accepted ended =
+    let described : slots ≡ is.trace.slots = same ∙ sym is.slots in
+    let run = ended is.trace.slots is.trace.events (ap (λ (b : BoardState I). b.slots) made ∙ ap (map opened) described) is.lines_of in
+    replays disk (Some text) old new before after outcome (record {
+      trace = is.trace;
+      read = is.read;
+      few = λ many. few (record {
+        version = sym is.version ∙ many.version;
+        many = subst (λ (s : List SlotSpec). 16 < length s) (sym described) many.many;
+      });
+      small = subst (λ (s : List SlotSpec). All IsSmallMemory s) described small;
+      accepted = subst (λ (s : List SlotSpec). IsAccepted (disk before).sector_count s is.trace.cache) described
+          (subst (λ (n : ℕ). IsAccepted (disk before).sector_count slots n) (sym is.cache) accepted);
+      ended = subst (λ (b : BoardState I). AfterRun disk is.trace.slots is.trace.events b.image after old new outcome) made run;
+    })
