@@ -29,3 +29,4 @@ pub mod Waiting
 pub mod HostedSpecs
 pub mod HostedWindows
 pub mod HostedSeats
+pub mod HostedAccess
