@@ -70,7 +70,7 @@ put_whole memory bytes same =
     let front : memory.base - memory.base ≡ 0 = omega arith in
     ap (λ (bs : List ℕ). record memory { bytes = bs }) (rw front (put_all memory.bytes bytes same))
 
-whole_inside : (memory : Memory) (n : ℕ) → n ≡ length memory.bytes → Inside memory memory.base n
+pub whole_inside : (memory : Memory) (n : ℕ) → n ≡ length memory.bytes → Inside memory memory.base n
 whole_inside memory n same = record { above = omega arith; below = omega (arith, same) }
 
 -- what is left of a memory that was lent

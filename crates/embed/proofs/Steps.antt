@@ -73,7 +73,7 @@ write_suits : (A : Type 0) (state after : SlotState) (addr : ℕ) (bytes : List 
 write_suits A state after addr bytes true = tt
 write_suits A state after addr bytes false = tt
 
-given_suits : {A : Type 0} (state : SlotState) (what : EventKind A) (old new : Health) (outcome : Outcome A) → MayGive state what old new outcome → Suits what outcome.reply
+pub given_suits : {A : Type 0} (state : SlotState) (what : EventKind A) (old new : Health) (outcome : Outcome A) → MayGive state what old new outcome → Suits what outcome.reply
 given_suits state (Read window offset width) old new outcome (inl served) = rw served.alike.alike tt
 given_suits state (Write window offset width value) old new outcome (inl served) = finished_suits window offset width value _ _ old new outcome served.alike
 given_suits {A} state (MemRead addr len) old new outcome (inl served) = rw served.alike.alike (read_suits A state addr len _ _)
