@@ -1,8 +1,8 @@
 -- When each refusal of a session comes whose disks the host serves.
 use Rattle.std.proofs.Common.{◌≡◌, ◌≢◌, ◌⊎◌, ◌↔◌, inl, inr, ℕ, ◌<◌, ◌≤◌, Bool, true, false, List, length, Option, Some, None, refl, sym, ◌∙◌, ap, subst, arith}
-use Rattle.std.specs.Prelude.{◌&&◌, is_some, if◌then◌else◌, IsErrOf, IsSomeAnd, IsTrue, MatchOption}
+use Rattle.std.specs.Prelude.{◌&&◌, is_some, if◌then◌else◌, IsErrOf, IsSomeAnd, IsTrue, MatchOption, Result, Ok, Err}
 use Rattle.std.specs.List.{slice_get}
-use Rattle.std.proofs.lemmas.Option.{slice_get_past, slice_get_within, slice_get_cases}
+use Rattle.std.proofs.lemmas.Option.{slice_get_within, slice_get_cases, same_Some}
 use Rattle.guest_memory.specs.Memory.{is_inside}
 use Rattle.mmio_window.specs.declared.device_kind.DeviceKind.{DeviceKind}
 use Rattle.block_device.specs.declared.operation.Verdict.{Verdict}
@@ -11,6 +11,7 @@ use Rattle.board.specs.declared.event.EventKind.TheVariants.{Read, Write, MemRea
 use Rattle.board.specs.declared.hosted.reply.HostedReply.{HostedReply}
 use Rattle.board.specs.declared.hosted.reply.HostedReply.TheVariants.{Answered, Busy, Idle}
 use Rattle.board.specs.declared.reply.Reply.{Reply}
+use Rattle.board.specs.declared.reply.Reply.TheVariants as reply
 use Rattle.board.specs.declared.reply.Reply.TheVariants.{Done, Bytes, BadSlot, BadRange, NoMemory}
 use Rattle.board.specs.Hosting.{CompletionGives, Completed, GivesAtRest, GivesInFlight, HostedEvent, HostedOutcome, HostedState, InFlight, IsBesideDisk, Own, OwnGives, WaitsOrGives, must_wait, notifies_block}
 use Rattle.board.specs.Image.{Health}
@@ -20,6 +21,10 @@ use Rattle.board.specs.Slot.{SlotState}
 use Rattle.board.specs.Task.{Task, Nothing, ServeBlock, ServeReceive, ServeTransmit, PutOut, Finishes}
 use Rattle.board.specs.Within.{IsPuttingOut, MayPutOut}
 use Rattle.board.specs.World.{IsCutShort, MayGive}
+use Rattle.embed.specs.declared.hosted.progress.HostedProgress.{HostedProgress}
+use Rattle.embed.specs.declared.refusal.Refusal.{Refusal}
+use Rattle.embed.specs.declared.refusal.Refusal.TheVariants as refusal
+use Rattle.embed.specs.HostedAnswering.{hosted_done, hosted_refusing, hosted_served, hosted_value}
 use Rattle.embed.specs.Hosted.{HoldsUp, HostedSessionState, IsAtRest, IsHostedCall}
 use Rattle.embed.specs.Session.{HasNoRead}
 use Rattle.embed.proofs.HostedLaws.{came_to, told_none}
@@ -151,8 +156,8 @@ pub record IsExactCompletion {A : Type 0} (slots : List HostedState) (h : ℕ) (
   pub idle : (reply ≡ Idle) ↔ IsAtRest slots h
 
 completed_from : {A : Type 0} (slots : List HostedState) (h : ℕ) (state : HostedState) (verdict : Verdict) (outcome : HostedOutcome A) (flight : Option InFlight) → CompletionGives flight state verdict outcome → (outcome.reply ≢ Answered BadSlot) × ((outcome.reply ≡ Idle) ↔ (flight ≡ None))
-completed_from {A} slots h state verdict outcome None gives = let told = ap (λ (o : HostedOutcome A). o.reply) gives in (λ no. absurd (cc), λ is. refl, λ is. told)
-completed_from {A} slots h state verdict outcome (Some here) gives = let told = ap (λ (o : HostedOutcome A). o.reply) gives.1 in (λ no. absurd (cc), λ is. absurd (cc), λ is. absurd (cc))
+completed_from {A} slots h state verdict outcome None gives = let told = ap (λ (o : HostedOutcome A). o.reply) gives in (λ no. absurd (cc), (λ is. refl, λ is. told))
+completed_from {A} slots h state verdict outcome (Some here) gives = let told = ap (λ (o : HostedOutcome A). o.reply) gives.1 in (λ no. absurd (cc), (λ is. absurd (cc), λ is. absurd (cc)))
 
 exact_completion_from : {A : Type 0} (old new : HostedSessionState) (h : ℕ) (verdict : Verdict) (reply : HostedReply A) (o : Option HostedState) → slice_get old.slots h ≡ o → IsHostedCall old h (Completed verdict) reply new → IsExactCompletion old.slots h reply
 exact_completion_from old new h verdict reply None here is =
@@ -170,3 +175,62 @@ exact_completion_from {A} old new h verdict reply (Some state) here is =
 
 pub exact_completion : {A : Type 0} (old new : HostedSessionState) (h : ℕ) (verdict : Verdict) (reply : HostedReply A) → IsHostedCall old h (Completed verdict) reply new → IsExactCompletion old.slots h reply
 exact_completion old new h verdict reply is = exact_completion_from old new h verdict reply (slice_get old.slots h) refl is
+
+-- ---- and what a call answers
+
+-- the refusal that a reply says, and that a call answers
+abbrev pub refusal_in : {A : Type 0} → HostedReply A → Option Refusal
+refusal_in (Answered BadSlot) = Some refusal.BadSlot
+refusal_in (Answered BadRange) = Some refusal.BadRange
+refusal_in (Answered NoMemory) = Some refusal.NoRoom
+refusal_in (Answered (reply.Value value)) = None
+refusal_in (Answered Done) = None
+refusal_in (Answered (Bytes bytes)) = None
+refusal_in (Answered (reply.Took taken)) = None
+refusal_in Busy = Some refusal.Busy
+refusal_in Idle = Some refusal.Idle
+
+abbrev pub refused : {T : Type 0} → Result T Refusal → Option Refusal
+refused (Ok value) = None
+refused (Err why) = Some why
+
+pub refusing_in : (A : Type 0) (why : Refusal) → refusal_in {A = A} (hosted_refusing why) ≡ Some why
+refusing_in A refusal.BadSlot = refl
+refusing_in A refusal.BadRange = refl
+refusing_in A refusal.NoRoom = refl
+refusing_in A refusal.Busy = refl
+refusing_in A refusal.Idle = refl
+
+telling : {A : Type 0} (r : HostedReply A) (why : Refusal) → refusal_in r ≡ Some why → r ≡ hosted_refusing why
+telling {A} (Answered BadSlot) why is = ap (λ w. hosted_refusing {A = A} w) (same_Some refusal.BadSlot why is)
+telling {A} (Answered BadRange) why is = ap (λ w. hosted_refusing {A = A} w) (same_Some refusal.BadRange why is)
+telling {A} (Answered NoMemory) why is = ap (λ w. hosted_refusing {A = A} w) (same_Some refusal.NoRoom why is)
+telling (Answered (reply.Value value)) why is = absurd (cc)
+telling (Answered Done) why is = absurd (cc)
+telling (Answered (Bytes bytes)) why is = absurd (cc)
+telling (Answered (reply.Took taken)) why is = absurd (cc)
+telling {A} Busy why is = ap (λ w. hosted_refusing {A = A} w) (same_Some refusal.Busy why is)
+telling {A} Idle why is = ap (λ w. hosted_refusing {A = A} w) (same_Some refusal.Idle why is)
+
+is_err : {T : Type 0} (r : Result T Refusal) (why : Refusal) → refused r ≡ Some why → IsErrOf r why
+is_err (Ok value) why is = absurd (cc)
+is_err (Err w) why is = ap (λ x. Err x) (same_Some w why is)
+
+pub refused_only : {A T : Type 0} (told : HostedReply A) (r : Result T Refusal) (why : Refusal) (P : Type 0) → refusal_in told ≡ refused r → (told ≡ hosted_refusing why → P) → IsErrOf r why → P
+refused_only {A} {T} told r why P same says is = says (telling told why (same ∙ ap (λ (x : Result T Refusal). refused x) is))
+
+pub refused_where : {A T : Type 0} (told : HostedReply A) (r : Result T Refusal) (why : Refusal) (P : Type 0) → refusal_in told ≡ refused r → (told ≡ hosted_refusing why) ↔ P → IsErrOf r why ↔ P
+refused_where {A} told r why P same when =
+    (refused_only told r why P same when.0, λ p. is_err r why (sym same ∙ (ap (λ (t : HostedReply A). refusal_in t) (when.1 p) ∙ refusing_in A why)))
+
+pub served_in : {A : Type 0} (told : HostedReply A) (r : Result HostedProgress Refusal) → told ≡ hosted_served r → refusal_in told ≡ refused r
+served_in told (Ok progress) is = rw is refl
+served_in {A} told (Err why) is = rw is (refusing_in A why)
+
+pub value_in : {A : Type 0} (told : HostedReply A) (r : Result ℕ Refusal) → told ≡ hosted_value r → refusal_in told ≡ refused r
+value_in told (Ok value) is = rw is refl
+value_in {A} told (Err why) is = rw is (refusing_in A why)
+
+pub done_in : {A : Type 0} (told : HostedReply A) (r : Result (Unit {0}) Refusal) → told ≡ hosted_done r → refusal_in told ≡ refused r
+done_in told (Ok value) is = rw is refl
+done_in {A} told (Err why) is = rw is (refusing_in A why)

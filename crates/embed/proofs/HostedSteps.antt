@@ -1,6 +1,6 @@
 -- What a board tells whose disks the host serves, as a call of the session.
-use Rattle.std.proofs.Common.{◌≡◌, ℕ, ◌<◌, ◌≤◌, Bool, true, false, List, [], length, Option, Some, None, refl, sym, ◌∙◌, ap, subst, arith}
-use Rattle.std.specs.Prelude.{if◌then◌else◌, slice_set, MatchOption, unwrap_or, IfNone, IfSome, IsSome, Result, Ok, Err}
+use Rattle.std.proofs.Common.{◌≡◌, ℕ, ◌<◌, ◌≤◌, ◌↔◌, Bool, true, false, List, [], length, Option, Some, None, refl, sym, ◌∙◌, ap, subst, arith}
+use Rattle.std.specs.Prelude.{if◌then◌else◌, slice_set, MatchOption, unwrap_or, IfNone, IfSome, IsErrOf, IsSome, Result, Ok, Err}
 use Rattle.std.specs.List.{slice_get}
 use Rattle.std.proofs.lemmas.List.{length-map, length-set}
 use Rattle.std.proofs.lemmas.Option.{slice_get_past, slice_get_within}
@@ -197,3 +197,11 @@ typed_call A slots new outputs h bytes (Some n) takes others there missing resul
 pub typed_many : (A : Type 0) (slots new : List HostedState) (h : ℕ) (bytes : List ℕ) (taken : Option ℕ) → IfSome taken (λ n. TakesQuietly {A = A} slots h (Own (Input bytes)) (Answered (Took n)) new) → IfNone taken (new ≡ slots) → length new ≡ length slots
 typed_many A slots new h bytes None takes missing = ap (λ (s : List HostedState). length s) missing
 typed_many A slots new h bytes (Some n) takes missing = as_many_slots slots h (Own (Input bytes)) None (Answered (Took n)) takes.block takes.console [] [] new (takes.takes None [])
+
+pub typed_missing : (count h : ℕ) (taken : Option ℕ) (result : Result ℕ Refusal) → (IsSome taken → h < count) × (h < count → IsSome taken) → result ≡ typed_or taken → IsErrOf result refusal.BadSlot ↔ (count ≤ h)
+typed_missing count h None result there is =
+    let past : count ≤ h = grind (arith, there.1) in
+    (λ yes. past, λ yes. is)
+typed_missing count h (Some n) result there is =
+    let below : h < count = there.0 refl in
+    (λ no. absurd (cc), λ past. absurd (omega (arith, below, past)))

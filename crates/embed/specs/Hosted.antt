@@ -2,6 +2,7 @@
 use Rattle.std.specs.Prelude.{◌≡◌, ◌≢◌, ℕ, ◌==◌, ◌&&◌, Bool, List, map, Option, Some, None, IsSomeAnd, IsTrue, is_some}
 use Rattle.std.specs.List.{slice_get}
 use Rattle.std.specs.Option.{option_and_then}
+use Rattle.guest_memory.specs.Memory.{Inside}
 use Rattle.block_device.specs.declared.operation.Operation.{Operation}
 use Rattle.board.specs.declared.event.EventKind.{EventKind}
 use Rattle.board.specs.declared.fault.BoardFault.{BoardFault}
@@ -62,6 +63,11 @@ HoldsUp slots slot what = IsSomeAnd (slice_get slots slot) (λ found. IsTrue (is
 -- the slot is there, and nothing of it is in flight
 abbrev pub IsAtRest : List HostedState → ℕ → Type 0
 IsAtRest slots slot = IsSomeAnd (slice_get slots slot) (λ found. found.flight ≡ None)
+
+-- the slot is there, and not all of a range of so many bytes lies in its memory
+abbrev pub IsOutside : ℕ → ℕ → ℕ → HostedSessionState → Type 0
+IsOutside slot addr count session =
+    IsSomeAnd (slice_get session.slots slot) (λ found. ¬ Inside found.slot.memory addr count)
 
 -- a session with these bytes in the memory of a slot, from its first byte on
 abbrev pub with_hosted_bytes : ℕ → HostedSessionState → List ℕ → HostedSessionState

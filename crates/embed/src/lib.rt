@@ -25,8 +25,8 @@ pub use chain::Segment;
 pub use fault::SessionFault;
 pub use guest::GuestSpec;
 pub use hosted::{
-    HostedProgress, HostedSession, a_flight_outlasts_own_events, a_hosted_write_in_place_is_an_event,
-    each_hosted_guest_is_alone, what_waits_changes_nothing,
+    HostedProgress, HostedSession, a_flight_outlasts_own_events,
+    a_hosted_write_in_place_is_an_event, each_hosted_guest_is_alone, what_waits_changes_nothing,
 };
 pub use laws::{
     a_guest_with_room_runs_alone, a_guest_with_room_runs_alone_where_services_pause,

@@ -1,8 +1,9 @@
 //! A guest's console, from the outside: what is typed, its size, and what it puts out.
 
-ghost use Rattle.std.specs.Prelude.{◌≡◌, ◌<◌, ◌↔◌, length, min, take, drop, ◌++◌, IsSome, IfSome, IfNone};
+ghost use Rattle.std.specs.Prelude.{◌≡◌, ◌<◌, ◌≤◌, ◌↔◌, length, min, take, drop, ◌++◌, IsSome, IfSome, IfNone, IsErrOf};
 ghost use Rattle.board.specs.declared.event.EventKind.{EventKind};
 ghost use Rattle.board.specs.Hosting.{HostedEvent};
+ghost use Rattle.embed.specs.declared.refusal.Refusal.{Refusal};
 ghost use Rattle.embed.specs.Hosted.{IsHostedCall};
 ghost use Rattle.embed.specs.HostedAnswering.{hosted_done, hosted_typed};
 ghost use Rattle.embed.specs.HostedCourse.{IsHostedTaken};
@@ -19,6 +20,7 @@ impl<A: Allocator + Copy> HostedSession<A> {
     pub fn input(&mut self, slot: u8, bytes: &[u8]) -> Result<usize, Refusal>
         ensures call { IsHostedCall {A = A} self.old slot (HostedEvent.Own (EventKind.Input bytes.now))
             (hosted_typed result) self.new }
+        ensures bad_slot { IsErrOf result Refusal.BadSlot ↔ (length self.old.slots ≤ slot) }
     {
         match self.board.input(slot, bytes) {
             Some(taken) => Ok(taken),
@@ -30,6 +32,7 @@ impl<A: Allocator + Copy> HostedSession<A> {
     pub fn resize(&mut self, slot: u8, cols: u16, rows: u16) -> Result<(), Refusal>
         ensures call { IsHostedCall {A = A} self.old slot (HostedEvent.Own (EventKind.Resize cols rows))
             (hosted_done result) self.new }
+        ensures bad_slot { IsErrOf result Refusal.BadSlot ↔ (length self.old.slots ≤ slot) }
     {
         let what = EventKind::Resize { cols, rows };
         match self.step(slot, &what) {

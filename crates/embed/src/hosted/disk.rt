@@ -6,7 +6,7 @@ ghost use Rattle.block_device.specs.Operation.{LiesInside};
 ghost use Rattle.board.specs.Hosting.{HostedEvent};
 ghost use Rattle.board.specs.Image.{sectors_of};
 ghost use Rattle.embed.specs.declared.refusal.Refusal.{Refusal};
-ghost use Rattle.embed.specs.Hosted.{IsHostedCall, operation_at, progress_by};
+ghost use Rattle.embed.specs.Hosted.{IsAtRest, IsHostedCall, operation_at, progress_by};
 ghost use Rattle.embed.specs.HostedAnswering.{IsHostedServing, hosted_served};
 
 use crate::hosted::{HostedProgress, HostedSession};
@@ -22,6 +22,8 @@ impl<A: Allocator> HostedSession<A> {
     pub fn completed(&mut self, slot: u8, verdict: Verdict) -> Result<HostedProgress, Refusal>
         ensures call { IsHostedCall {A = A} self.old slot (HostedEvent.Completed verdict) (hosted_served result) self.new }
         ensures asks { IfOk result (λ progress. progress ≡ progress_by None (operation_at slot self.new)) }
+        ensures bad_slot { IsErrOf result Refusal.BadSlot ↔ (length self.old.slots ≤ slot) }
+        ensures idle { IsErrOf result Refusal.Idle ↔ IsAtRest self.old.slots slot }
     {
         let reply = self.land(slot, verdict);
         self.progress(slot, None, &reply)

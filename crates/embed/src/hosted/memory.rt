@@ -6,7 +6,7 @@ ghost use Rattle.std.specs.List.{slice_get};
 ghost use Rattle.board.specs.declared.event.EventKind.{EventKind};
 ghost use Rattle.board.specs.Hosting.{HostedEvent};
 ghost use Rattle.embed.specs.declared.refusal.Refusal.{Refusal};
-ghost use Rattle.embed.specs.Hosted.{IsHostedCall, with_hosted_bytes};
+ghost use Rattle.embed.specs.Hosted.{IsHostedCall, IsOutside, with_hosted_bytes};
 ghost use Rattle.embed.specs.HostedAnswering.{hosted_bytes, hosted_done};
 ghost use Rattle.embed.specs.contracts.hosted.HostedSession.{the_row};
 
@@ -21,6 +21,8 @@ impl<A: Allocator> HostedSession<A> {
     pub fn read_memory(&self, slot: u8, addr: u64, into: &mut [u8]) -> Result<(), Refusal>
         ensures call { IsHostedCall {A = A} self.now slot (HostedEvent.Own (EventKind.MemRead addr (length into.old)))
             (hosted_bytes result into.new) self.now }
+        ensures bad_slot { IsErrOf result Refusal.BadSlot ↔ (length self.now.slots ≤ slot) }
+        ensures bad_range { IsErrOf result Refusal.BadRange ↔ IsOutside slot addr (length into.old) self.now }
         ensures kept { OnErr result (into.new ≡ into.old) }
     {
         if self.board.read_memory(slot, addr, into) {
@@ -33,6 +35,8 @@ impl<A: Allocator> HostedSession<A> {
     pub fn write_memory(&mut self, slot: u8, addr: u64, from: &[u8]) -> Result<(), Refusal>
         ensures call { IsHostedCall {A = A} self.old slot (HostedEvent.Own (EventKind.MemWrite addr from.now))
             (hosted_done result) self.new }
+        ensures bad_slot { IsErrOf result Refusal.BadSlot ↔ (length self.old.slots ≤ slot) }
+        ensures bad_range { IsErrOf result Refusal.BadRange ↔ IsOutside slot addr (length from.now) self.old }
     {
         if self.board.write_memory(slot, addr, from) {
             return Ok(());

@@ -28,6 +28,7 @@ impl<A: Allocator + Copy> HostedSession<A> {
     ) -> Result<u32, Refusal>
         ensures call { IsHostedCall {A = A} self.old slot (HostedEvent.Own (EventKind.Read window offset width))
             (hosted_value result) self.new }
+        ensures bad_slot { IsErrOf result Refusal.BadSlot ↔ (length self.old.slots ≤ slot) }
     {
         let what = EventKind::Read {
             window,
@@ -56,6 +57,11 @@ impl<A: Allocator + Copy> HostedSession<A> {
             (HostedEvent.Own (EventKind.Write window offset width value)) (hosted_served result) self.new }
         ensures asks { IfOk result (λ progress.
             progress ≡ progress_by (operation_at slot self.old) (operation_at slot self.new)) }
+        ensures bad_slot { IsErrOf result Refusal.BadSlot ↔ (length self.old.slots ≤ slot) }
+        ensures busy { IsErrOf result Refusal.Busy ↔
+            HoldsUp {A = A} self.old.slots slot (EventKind.Write window offset width value) }
+        ensures no_room { IsErrOf result Refusal.NoRoom → IsSomeAnd (slice_get self.old.slots slot) (λ found.
+            MayPutOut {A = A} found.slot (EventKind.Write window offset width value)) }
     {
         let what = EventKind::Write {
             window,

@@ -1,6 +1,6 @@
 -- What is typed is what the session does.
-use Rattle.std.proofs.Common.{◌≡◌, refl, sym, ◌∙◌}
-use Rattle.embed.proofs.HostedSteps.{typed_call, typed_many, typed_or}
+use Rattle.std.proofs.Common.{◌≡◌, length, refl, sym, ◌∙◌}
+use Rattle.embed.proofs.HostedSteps.{typed_call, typed_many, typed_missing, typed_or}
 use Rattle.embed.proofs.hosted.HostedSession.input.Goals as goal
 use Rattle.embed.proofs.hosted.HostedSession.input.Goals.{in-Some, in-None}
 
@@ -15,7 +15,10 @@ told g c =
       | in-None w ↦ rw (w.result-is, w.in-None.is) refl
     ]
 
-pub returns : goal.returns
-returns g c =
+pub returns-clause-call : goal.returns-clause-call
+returns-clause-call g c =
     rw (← c.self.view_is)
-    (record { call = typed_call _ c.self.inside.board c.input.new.self c.self.inside.outputs.items c.args.slot c.args.bytes.now c.input.result c.input.ensures.takes c.input.ensures.others c.input.ensures.there c.input.ensures.missing c.match-input.result (told g c) })
+    (typed_call _ c.self.inside.board c.input.new.self c.self.inside.outputs.items c.args.slot c.args.bytes.now c.input.result c.input.ensures.takes c.input.ensures.others c.input.ensures.there c.input.ensures.missing c.match-input.result (told g c))
+
+pub returns-clause-bad_slot : goal.returns-clause-bad_slot
+returns-clause-bad_slot g c = rw (← c.self.view_is) (typed_missing (length c.self.inside.board) c.args.slot c.input.result c.match-input.result c.input.ensures.there (told g c))
