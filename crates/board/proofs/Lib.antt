@@ -30,3 +30,4 @@ pub mod HostedSpecs
 pub mod HostedWindows
 pub mod HostedSeats
 pub mod HostedAccess
+pub mod Honest
