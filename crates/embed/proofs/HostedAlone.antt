@@ -1,14 +1,14 @@
 -- Each guest of a session whose disks the host serves, as its own calls decide it.
-use Rattle.std.proofs.Common.{◌≡◌, ◌≢◌, ◌⊎◌, inl, inr, ℕ, ◌==◌, eqb, true, false, Option, Some, None, List, [], ◌∷◌, ◌++◌, take, drop, refl, sym, ◌∙◌, ap, subst}
-use Rattle.std.specs.Prelude.{MatchOption, slice_set, unwrap_or, if◌then◌else◌}
+use Rattle.std.proofs.Common.{◌≡◌, ◌≢◌, ◌⊎◌, inl, inr, ℕ, eqb, true, false, Option, Some, List, [], ◌∷◌, ◌++◌, take, drop, refl, sym, ◌∙◌, ap, subst}
+use Rattle.std.specs.Prelude.{MatchOption, unwrap_or}
 use Rattle.std.specs.List.{slice_get}
 use Rattle.std.proofs.lemmas.Bool.Decides.{eqb_tells}
 use Rattle.board.specs.declared.hosted.reply.HostedReply.{HostedReply}
-use Rattle.board.specs.Hosting.{HostedEvent, HostedOutcome, HostedState}
+use Rattle.board.specs.Hosting.{HostedEvent, HostedState}
 use Rattle.board.specs.HostedLine.{CallsNone, CallsSlot, HostedCall, IsCalledNext, Told}
 use Rattle.board.proofs.Alone.{get_set}
 use Rattle.embed.specs.Hosted.{HostedSessionState, IsHostedCall}
-use Rattle.embed.specs.HostedCourse.{Called, Gave, HostedAnswer, HostedAsking, HostedDeed, HostedSeat, IsHostedAlone, IsHostedCourse, IsHostedSeatCourse, IsHostedTaken, IsSeatCalled, Replied, Takes, Took, hosted_seat, own_askings, own_hosted_answers}
+use Rattle.embed.specs.HostedCourse.{Called, HostedAnswer, HostedAsking, HostedDeed, HostedSeat, IsHostedAlone, IsHostedCourse, IsHostedSeatCourse, IsHostedTaken, IsSeatCalled, Took, hosted_seat, own_askings, own_hosted_answers}
 use Rattle.embed.specs.Session.{KeepsOtherOutputs, Waiting, none_waiting, waiting_at}
 
 -- what a guest's own call comes to

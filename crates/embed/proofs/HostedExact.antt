@@ -1,9 +1,8 @@
 -- When each refusal of a session comes whose disks the host serves.
-use Rattle.std.proofs.Common.{◌≡◌, ◌≢◌, ◌⊎◌, ◌↔◌, inl, inr, ℕ, ◌<◌, ◌≤◌, Bool, true, false, List, length, Option, Some, None, refl, sym, ◌∙◌, ap, subst, arith}
-use Rattle.std.specs.Prelude.{◌&&◌, is_some, if◌then◌else◌, IsErrOf, IsSomeAnd, IsTrue, MatchOption, Result, Ok, Err}
+use Rattle.std.proofs.Common.{◌≡◌, ◌≢◌, ◌⊎◌, ◌↔◌, inl, inr, ℕ, ◌≤◌, Bool, true, false, List, length, Option, Some, None, refl, sym, ◌∙◌, ap, subst, arith}
+use Rattle.std.specs.Prelude.{◌&&◌, is_some, if◌then◌else◌, IsErrOf, IsSomeAnd, Result, Ok, Err}
 use Rattle.std.specs.List.{slice_get}
 use Rattle.std.proofs.lemmas.Option.{slice_get_within, slice_get_cases, same_Some}
-use Rattle.guest_memory.specs.Memory.{is_inside}
 use Rattle.mmio_window.specs.declared.device_kind.DeviceKind.{DeviceKind}
 use Rattle.block_device.specs.declared.operation.Verdict.{Verdict}
 use Rattle.board.specs.declared.event.EventKind.{EventKind}
@@ -13,7 +12,7 @@ use Rattle.board.specs.declared.hosted.reply.HostedReply.TheVariants.{Answered, 
 use Rattle.board.specs.declared.reply.Reply.{Reply}
 use Rattle.board.specs.declared.reply.Reply.TheVariants as reply
 use Rattle.board.specs.declared.reply.Reply.TheVariants.{Done, Bytes, BadSlot, BadRange, NoMemory}
-use Rattle.board.specs.Hosting.{CompletionGives, Completed, GivesAtRest, GivesInFlight, HostedEvent, HostedOutcome, HostedState, InFlight, IsBesideDisk, Own, OwnGives, WaitsOrGives, must_wait, notifies_block}
+use Rattle.board.specs.Hosting.{CompletionGives, Completed, GivesAtRest, GivesInFlight, HostedOutcome, HostedState, InFlight, IsBesideDisk, Own, OwnGives, WaitsOrGives, must_wait, notifies_block}
 use Rattle.board.specs.Image.{Health}
 use Rattle.board.specs.Machine.{at_rest, task_at}
 use Rattle.board.specs.Outcome.{Outcome, replies}

@@ -1,24 +1,23 @@
 -- What holds of each call of a session whose disks the host serves.
-use Rattle.std.proofs.Common.{◌≡◌, ◌≢◌, ◌⊎◌, inl, inr, ℕ, ◌==◌, eqb, true, false, Option, Some, None, List, [], ◌++◌, length, refl, sym, ◌∙◌, ap, subst, append-nil}
-use Rattle.std.specs.Prelude.{MatchOption, slice_set, unwrap_or}
+use Rattle.std.proofs.Common.{◌≡◌, ℕ, true, Option, Some, None, List, length, refl, sym, ◌∙◌, ap, subst}
+use Rattle.std.specs.Prelude.{MatchOption, slice_set}
 use Rattle.std.specs.List.{slice_get}
 use Rattle.std.specs.Option.{option_and_then}
-use Rattle.std.proofs.lemmas.Bool.Decides.{eqb_tells}
-use Rattle.guest_memory.specs.Memory.{Memory, put}
+use Rattle.guest_memory.specs.Memory.{Memory}
 use Rattle.guest_memory.proofs.Ranges.{is_inside-tells}
 use Rattle.board.specs.declared.event.EventKind.{EventKind}
 use Rattle.board.specs.declared.event.EventKind.TheVariants.{MemWrite}
 use Rattle.board.specs.declared.hosted.reply.HostedReply.{HostedReply}
 use Rattle.board.specs.declared.hosted.reply.HostedReply.TheVariants.{Answered, Busy, Idle}
 use Rattle.board.specs.declared.reply.Reply.TheVariants.{BadSlot, Done}
-use Rattle.board.specs.Hosting.{CompletionGives, Completed, HostedEvent, HostedOutcome, HostedState, InFlight, IsHostedNext, Own, answers, must_wait}
-use Rattle.board.specs.HostedLine.{CallsNone, CallsSlot, HostedCall, KeepsOtherGuests, Told, put_back, with_bytes}
+use Rattle.board.specs.Hosting.{HostedEvent, HostedOutcome, HostedState, InFlight, IsHostedNext, Own, must_wait}
+use Rattle.board.specs.HostedLine.{CallsNone, CallsSlot, HostedCall, Told, put_back, with_bytes}
 use Rattle.board.proofs.Alone.{get_set}
 use Rattle.board.proofs.HostedAccess.{set_same, was_written}
 use Rattle.board.proofs.HostedSeats.{others_stay}
 use Rattle.board.proofs.Waiting.{busy_stays, idle_stays, outlasts}
 use Rattle.embed.specs.Hosted.{HostedSessionState, IsHostedCall, flight_at, with_hosted_bytes}
-use Rattle.embed.specs.Session.{Waiting, none_waiting, waiting_at}
+use Rattle.embed.specs.Session.{waiting_at}
 use Rattle.embed.proofs.HostedSteps.{quiet}
 use Rattle.embed.proofs.InPlace.{whole_inside}
 

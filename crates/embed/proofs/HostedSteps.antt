@@ -2,7 +2,7 @@
 use Rattle.std.proofs.Common.{◌≡◌, ℕ, ◌<◌, ◌≤◌, ◌↔◌, Bool, true, false, List, [], length, Option, Some, None, refl, sym, ◌∙◌, ap, subst, arith}
 use Rattle.std.specs.Prelude.{if◌then◌else◌, slice_set, MatchOption, unwrap_or, IfNone, IfSome, IsErrOf, IsSome, Result, Ok, Err}
 use Rattle.std.specs.List.{slice_get}
-use Rattle.std.proofs.lemmas.List.{length-map, length-set}
+use Rattle.std.proofs.lemmas.List.{length-set}
 use Rattle.std.proofs.lemmas.Option.{slice_get_past, slice_get_within}
 use Rattle.mmio_window.specs.declared.device_kind.DeviceKind.{DeviceKind}
 use Rattle.board.specs.declared.event.EventKind.{EventKind}
@@ -13,8 +13,8 @@ use Rattle.board.specs.declared.reply.Reply.{Reply}
 use Rattle.board.specs.declared.reply.Reply.TheVariants as reply
 use Rattle.board.specs.declared.reply.Reply.TheVariants.{Done, BadSlot, BadRange, Took}
 use Rattle.block_device.specs.declared.operation.Verdict.{Verdict}
-use Rattle.board.specs.Hosting.{CompletionGives, Completed, GivesAtRest, GivesInFlight, HostedEvent, HostedOutcome, HostedState, InFlight, IsBesideDisk, IsHostedNext, Own, OwnGives, WaitsOrGives, must_wait, notifies_block}
-use Rattle.board.specs.HostedLine.{Calls, CallsNone, CallsSlot, HostedCall, KeepsOtherGuests, TakesCall, TakesQuietly, Told, told_of}
+use Rattle.board.specs.Hosting.{CompletionGives, Completed, GivesAtRest, GivesInFlight, HostedEvent, HostedOutcome, HostedState, InFlight, IsBesideDisk, Own, OwnGives, WaitsOrGives, must_wait, notifies_block}
+use Rattle.board.specs.HostedLine.{CallsNone, CallsSlot, HostedCall, KeepsOtherGuests, TakesCall, TakesQuietly, Told}
 use Rattle.board.specs.Machine.{at_rest}
 use Rattle.board.specs.Slot.{SlotState}
 use Rattle.board.proofs.HostedSeats.{calls_missing}
@@ -23,7 +23,7 @@ use Rattle.embed.specs.declared.refusal.Refusal.TheVariants as refusal
 use Rattle.embed.specs.Answering.{Suits}
 use Rattle.embed.specs.Hosted.{HostedSessionState, IsHostedCall}
 use Rattle.embed.specs.HostedAnswering.{IsHostedServing, SuitsCompletion, SuitsHosted, hosted_refusing, hosted_typed}
-use Rattle.embed.specs.Session.{KeepsOtherOutputs, Waiting, none_waiting, waiting_at}
+use Rattle.embed.specs.Session.{Waiting, none_waiting, waiting_at}
 use Rattle.embed.proofs.Steps.{given_suits, limits_set, others_output, set_there}
 
 -- what is answered of bytes that were typed, and so many taken

@@ -1,5 +1,5 @@
 -- A session whose disks the host serves, as its embedder sees it, and what one call does to it.
-use Rattle.std.specs.Prelude.{◌≡◌, ◌≢◌, ℕ, ◌==◌, ◌&&◌, Bool, List, map, Option, Some, None, IsSomeAnd, IsTrue, is_some}
+use Rattle.std.specs.Prelude.{◌≡◌, ◌≢◌, ℕ, ◌&&◌, List, map, Option, Some, None, IsSomeAnd, IsTrue, is_some}
 use Rattle.std.specs.List.{slice_get}
 use Rattle.std.specs.Option.{option_and_then}
 use Rattle.guest_memory.specs.Memory.{Inside}

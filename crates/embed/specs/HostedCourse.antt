@@ -1,5 +1,5 @@
 -- What happens to a session whose disks the host serves, one thing after another, and each guest of it alone.
-use Rattle.std.specs.Prelude.{◌≡◌, ℕ, ◌==◌, ⊤, if◌then◌else◌, List, [], ◌∷◌, ◌++◌, take, drop, Some}
+use Rattle.std.specs.Prelude.{◌≡◌, ℕ, ◌==◌, if◌then◌else◌, List, [], ◌∷◌, ◌++◌, take, drop, Some}
 use Rattle.std.specs.List.{slice_get}
 use Rattle.board.specs.declared.hosted.reply.HostedReply.{HostedReply}
 use Rattle.board.specs.Hosting.{HostedEvent, HostedState}

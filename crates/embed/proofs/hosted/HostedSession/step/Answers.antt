@@ -1,10 +1,9 @@
 -- What the board comes to is what the session does.
-use Rattle.std.proofs.Common.{◌≡◌, ◌≤◌, length, refl, sym, ◌∙◌, ap, arith, Some}
+use Rattle.std.proofs.Common.{◌≡◌, ◌≤◌, length, refl, arith, Some}
 use Rattle.std.specs.List.{slice_get}
 use Rattle.std.proofs.lemmas.Option.{slice_get_read}
-use Rattle.std.proofs.lemmas.List.{length-set}
 use Rattle.board.specs.Hosting.{Own}
-use Rattle.embed.proofs.HostedSteps.{as_many_slots, came, no_such_slot, suits_hosted}
+use Rattle.embed.proofs.HostedSteps.{came, no_such_slot, suits_hosted}
 use Rattle.embed.proofs.hosted.HostedSession.step.Goals as goal
 
 pub returns-in_default-clause-call : goal.returns-in_default-clause-call
