@@ -25,7 +25,7 @@ shared_not_all earlier spec some all =
     shared_not_apart some.1.extent spec.extent some.4 (subst (λ (s : SlotSpec). IsApart s.extent spec.extent) some.3 (all some.0 some.1 some.2))
 
 -- a good slot has no fault
-faulty_not_good : (sectors : ℕ) (earlier : List SlotSpec) (spec : SlotSpec) (fault : BoardFault) → IsFaultOf sectors earlier spec fault → IsGoodSlot sectors earlier spec → ⊥
+pub faulty_not_good : (sectors : ℕ) (earlier : List SlotSpec) (spec : SlotSpec) (fault : BoardFault) → IsFaultOf sectors earlier spec fault → IsGoodSlot sectors earlier spec → ⊥
 faulty_not_good sectors earlier spec NoSlots is good = is
 faulty_not_good sectors earlier spec TooManySlots is good = is
 faulty_not_good sectors earlier spec (Memory BadSize) is good = is good.memory.size
@@ -37,7 +37,7 @@ faulty_not_good sectors earlier spec (Cache fault) is good = is
 faulty_not_good sectors earlier spec BoardFault.NoMemory is good = is
 
 -- a slot has one fault that counts
-one_of_slot : (sectors : ℕ) (earlier : List SlotSpec) (spec : SlotSpec) (f g : BoardFault) → IsFaultOf sectors earlier spec f → IsFaultOf sectors earlier spec g → f ≡ g
+pub one_of_slot : (sectors : ℕ) (earlier : List SlotSpec) (spec : SlotSpec) (f g : BoardFault) → IsFaultOf sectors earlier spec f → IsFaultOf sectors earlier spec g → f ≡ g
 one_of_slot sectors earlier spec (Memory BadSize) (Memory BadSize) is also = refl
 one_of_slot sectors earlier spec (Memory BadSize) (Memory BadBase) is also = absurd (is also.0)
 one_of_slot sectors earlier spec (Memory BadSize) ExtentOutside is also = absurd (is also.memory.size)

@@ -36,7 +36,7 @@ use Rattle.board.proofs.Blocks.{count_of}
 
 -- ---- an event that doesn't wait
 
-keeps_all : (w : WindowState) → KeepsQueues w w
+pub keeps_all : (w : WindowState) → KeepsQueues w w
 keeps_all w = record { ready = λ q registers is some. is; served = λ q queue is. is }
 
 -- it keeps the queues of the block window

@@ -1,15 +1,16 @@
 -- Descriptions of boards whose disks the host serves: what is known after some slots were found good, and what a
 -- refusal says.
-use Rattle.std.proofs.Common.{◌≡◌, ◌⊎◌, inl, inr, ℕ, ◌+◌, ◌*◌, ◌<◌, ◌≤◌, List, [], length, Some, get_or, ap, subst, arith}
+use Rattle.std.proofs.Common.{◌≡◌, ◌⊎◌, inl, inr, ℕ, ◌+◌, ◌*◌, ◌<◌, ◌≤◌, List, [], length, Some, get_or, refl, sym, ◌∙◌, ap, subst, arith}
 use Rattle.std.specs.Prelude.{◌^◌}
 use Rattle.std.specs.List.{slice_get}
-use Rattle.std.proofs.lemmas.Bool.{cases_lt}
-use Rattle.std.proofs.lemmas.Option.{slice_get-get_or}
+use Rattle.std.proofs.lemmas.Bool.{cases_lt, cases_order}
+use Rattle.std.proofs.lemmas.Option.{slice_get-get_or, slice_get_within}
 use Rattle.block_device.specs.Extent.{sector_len}
 use Rattle.board.specs.declared.fault.BoardFault.{BoardFault}
 use Rattle.board.specs.declared.fault.BoardFault.TheVariants.{NoSlots, TooManySlots, Memory, ExtentOutside, ExtentsOverlap, Cache, NoMemory}
 use Rattle.board.specs.declared.spec.SlotSpec.{SlotSpec}
-use Rattle.board.specs.Fault.{AreGoodHosted, GoodHostedBelow, IsFaultOf, IsGoodHosted, IsMemory, RefusesHosted, most_sectors, with_own_disk}
+use Rattle.board.specs.Fault.{AreGoodHosted, GoodHostedBelow, HasFirstHostedFault, IsFaultOf, IsGoodHosted, IsMemory, RefusesHosted, most_sectors, with_own_disk}
+use Rattle.board.proofs.Faults.{faulty_not_good, one_of_slot}
 
 more_at : (slots : List SlotSpec) (n : ℕ) (last : SlotSpec) → GoodHostedBelow slots n → IsGoodHosted last → slice_get slots n ≡ Some last → (i : ℕ) (spec : SlotSpec) → i < n + 1 → slice_get slots i ≡ Some spec → (i < n) ⊎ (n ≤ i) → IsGoodHosted spec
 more_at slots n last good one here i spec below there (inl before) = good i spec before there
@@ -46,3 +47,58 @@ hosted_ready slots good k d below =
     let one : IsGoodHosted spec = good.each k spec below (slice_get-get_or slots k d below) in
     let few : spec.extent.count ≤ most_sectors = omega (arith, one.within) in
     (one.memory, omega (arith, few))
+
+-- ---- one fault counts
+
+-- the first slot with one is the same
+same_first : (slots : List SlotSpec) (f g : BoardFault) (one : HasFirstHostedFault slots f) (other : HasFirstHostedFault slots g) → (one.at_slot ≡ other.at_slot) ⊎ ((one.at_slot < other.at_slot) ⊎ (other.at_slot < one.at_slot)) → f ≡ g
+same_first slots f g one other (inl same) =
+    let spec_is : one.spec ≡ other.spec = cc (ap (λ k. slice_get slots k) same, one.there, other.there) in
+    one_of_slot most_sectors [] (with_own_disk other.spec) f g
+    (subst (λ (s : SlotSpec). IsFaultOf most_sectors [] (with_own_disk s) f) spec_is one.fault_is)
+    other.fault_is
+same_first slots f g one other (inr (inl before)) = absurd (faulty_not_good most_sectors [] (with_own_disk one.spec) f one.fault_is (other.before one.at_slot one.spec before one.there))
+same_first slots f g one other (inr (inr before)) = absurd (faulty_not_good most_sectors [] (with_own_disk other.spec) g other.fault_is (one.before other.at_slot other.spec before other.there))
+
+-- slots with a fault aren't good
+first_not_good : (slots : List SlotSpec) (f : BoardFault) → HasFirstHostedFault slots f → AreGoodHosted slots → ⊥
+first_not_good slots f first good =
+    faulty_not_good most_sectors [] (with_own_disk first.spec) f first.fault_is (good.each first.at_slot first.spec (slice_get_within slots first.at_slot first.spec first.there) first.there)
+
+-- where a refusal comes from
+data Why (slots : List SlotSpec) (fault : BoardFault) : Type 0 where
+  none : fault ≡ NoSlots → length slots ≡ 0 → Why slots fault
+  many : fault ≡ TooManySlots → 64 < length slots → Why slots fault
+  first : HasFirstHostedFault slots fault → Why slots fault
+  memory : fault ≡ NoMemory → AreGoodHosted slots → Why slots fault
+
+why : (slots : List SlotSpec) (fault : BoardFault) → RefusesHosted slots fault → Why slots fault
+why slots NoSlots refuses = none refl (ap (λ (s : List SlotSpec). length s) refuses)
+why slots TooManySlots refuses = many refl refuses
+why slots (Memory fault) refuses = first refuses
+why slots ExtentOutside refuses = first refuses
+why slots ExtentsOverlap refuses = absurd refuses
+why slots (Cache fault) refuses = absurd refuses
+why slots NoMemory refuses = memory refl refuses
+
+same_why : (slots : List SlotSpec) (f g : BoardFault) → Why slots f → Why slots g → f ≡ g
+same_why slots f g (none is empty) (none is2 empty2) = is ∙ sym is2
+same_why slots f g (none is empty) (many is2 more2) = absurd (omega arith)
+same_why slots f g (none is empty) (first one2) = absurd (omega (arith, one2.some, one2.few))
+same_why slots f g (none is empty) (memory is2 good2) = absurd (omega (arith, good2.some, good2.few))
+same_why slots f g (many is more) (none is2 empty2) = absurd (omega arith)
+same_why slots f g (many is more) (many is2 more2) = is ∙ sym is2
+same_why slots f g (many is more) (first one2) = absurd (omega (arith, one2.some, one2.few))
+same_why slots f g (many is more) (memory is2 good2) = absurd (omega (arith, good2.some, good2.few))
+same_why slots f g (first one) (none is2 empty2) = absurd (omega (arith, one.some, one.few))
+same_why slots f g (first one) (many is2 more2) = absurd (omega (arith, one.some, one.few))
+same_why slots f g (first one) (first one2) = same_first slots f g one one2 (cases_order one.at_slot one2.at_slot)
+same_why slots f g (first one) (memory is2 good2) = absurd (first_not_good slots f one good2)
+same_why slots f g (memory is good) (none is2 empty2) = absurd (omega (arith, good.some, good.few))
+same_why slots f g (memory is good) (many is2 more2) = absurd (omega (arith, good.some, good.few))
+same_why slots f g (memory is good) (first one2) = absurd (first_not_good slots g one2 good)
+same_why slots f g (memory is good) (memory is2 good2) = is ∙ sym is2
+
+-- a description has one fault at most that counts
+pub one_hosted_fault : (slots : List SlotSpec) (f g : BoardFault) → RefusesHosted slots f → RefusesHosted slots g → f ≡ g
+one_hosted_fault slots f g one other = same_why slots f g (why slots f one) (why slots g other)

@@ -29,7 +29,7 @@ pub busy : {A : Type 0} (old : HostedState) (what : EventKind A) (out : List ℕ
 busy old what out waits = record { output = []; next = waits_at old what old.flight waits; appended = sym (append-nil out) }
 
 -- the disk has no part in it
-beside_at : {A : Type 0} (old : HostedState) (what : EventKind A) (outcome : HostedOutcome A) (flight : Option InFlight) (waits : Bool) → must_wait what ≡ waits → (is_some flight && waits) ≡ false → notifies_block what old.slot ≡ false → IsBesideDisk old what outcome → OwnGives flight old what outcome
+pub beside_at : {A : Type 0} (old : HostedState) (what : EventKind A) (outcome : HostedOutcome A) (flight : Option InFlight) (waits : Bool) → must_wait what ≡ waits → (is_some flight && waits) ≡ false → notifies_block what old.slot ≡ false → IsBesideDisk old what outcome → OwnGives flight old what outcome
 beside_at old what outcome None waits same free other h = subst (λ (b : Bool). GivesAtRest b old what outcome) (sym other) h
 beside_at old what outcome (Some here) true same free other h = absurd (cc)
 beside_at old what outcome (Some here) false same free other h =

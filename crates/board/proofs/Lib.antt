@@ -29,3 +29,5 @@ pub mod Waiting
 pub mod HostedSpecs
 pub mod HostedWindows
 pub mod HostedSeats
+pub mod HostedAccess
+pub mod Honest

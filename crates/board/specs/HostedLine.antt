@@ -1,10 +1,12 @@
 -- A board whose disks the host serves: calls of any slots in any order, and what each guest sees of them. Slots share
 -- nothing, so its world is the list of their states.
-use Rattle.std.specs.Prelude.{◌≡◌, ◌≢◌, ℕ, ◌==◌, ⊤, Option, Some, None, List, [], ◌∷◌, ◌++◌, map, filter, slice_set, MatchOption}
+use Rattle.std.specs.Prelude.{◌≡◌, ◌≢◌, ℕ, ◌==◌, ⊤, Bool, true, false, nat_lt, if◌then◌else◌, Option, Some, None, List, [], ◌∷◌, ◌++◌, map, filter, slice_set, MatchOption}
 use Rattle.std.specs.List.{slice_get}
+use Rattle.guest_memory.specs.Memory.{Memory, put}
 use Rattle.board.specs.declared.hosted.reply.HostedReply.{HostedReply}
 use Rattle.board.specs.declared.hosted.reply.HostedReply.TheVariants.{Answered}
-use Rattle.board.specs.declared.reply.Reply.TheVariants.{BadSlot}
+use Rattle.board.specs.declared.reply.Reply.{Reply}
+use Rattle.board.specs.declared.reply.Reply.TheVariants.{BadRange, BadSlot, Bytes, Done}
 use Rattle.board.specs.Hosting.{HostedEvent, HostedOutcome, HostedState, HostedWithin, IsHostedNext}
 use Rattle.board.specs.Machine.{block_irq, console_irq}
 
@@ -80,9 +82,53 @@ pub record TakesCall {A : Type 0} (old : List HostedState) (h : ℕ) (event : Ho
       (record { reply = reply; output = output; block_irq = block; console_irq = console }) new
   pub appended : left ≡ waiting ++ output
 
+-- A call that puts nothing out, by whichever outlet the guest has.
+pub record TakesQuietly {A : Type 0} (old : List HostedState) (h : ℕ) (event : HostedEvent A) (reply : HostedReply A)
+    (new : List HostedState) : Type 0 where
+  pub block : ℕ
+  pub console : ℕ
+  pub takes :
+      (limit : Option ℕ) (waiting : List ℕ) → TakesCall old h event limit reply block console waiting waiting new
+
 -- every slot but that one is kept as it was
 abbrev pub KeepsOtherGuests : ℕ → List HostedState → List HostedState → Type 0
 KeepsOtherGuests h old new = (other : ℕ) → other ≢ h → slice_get new other ≡ slice_get old other
+
+-- ---- between events
+
+-- InterruptStatus of a slot's two windows (4.2.2), the block device's before the console's
+abbrev pub words_of : HostedState → ℕ × ℕ
+words_of state = (block_irq state.slot, console_irq state.slot)
+
+-- a slot with this memory
+abbrev pub with_memory : Memory → HostedState → HostedState
+with_memory memory state = record state { slot = record state.slot { memory = memory } }
+
+-- a slot with these bytes in its memory, from the first one on
+abbrev pub with_bytes : HostedState → List ℕ → HostedState
+with_bytes state bytes = with_memory (put state.slot.memory state.slot.memory.base bytes) state
+
+-- slots of which this one was slot h: it has these bytes in its memory
+abbrev pub put_back : ℕ → Option HostedState → List ℕ → List HostedState → List HostedState
+put_back h None bytes slots = slots
+put_back h (Some found) bytes slots = slice_set slots h (with_bytes found bytes)
+
+-- a board with these bytes in the memory of slot h
+abbrev pub with_slot_bytes : ℕ → List HostedState → List ℕ → List HostedState
+with_slot_bytes h slots bytes = put_back h (slice_get slots h) bytes slots
+
+-- what a call is answered for a range of a slot's memory that isn't there, where there are so many slots
+abbrev pub out_of_range : {A : Type 0} → ℕ → ℕ → Reply A
+out_of_range h count = if nat_lt h count then BadRange else BadSlot
+
+-- what a read is answered that left these bytes, and a write
+abbrev pub read_reply : {A : Type 0} → Bool → List ℕ → ℕ → ℕ → Reply A
+read_reply true bytes h count = Bytes bytes
+read_reply false bytes h count = out_of_range h count
+
+abbrev pub write_reply : {A : Type 0} → Bool → ℕ → ℕ → Reply A
+write_reply true h count = Done
+write_reply false h count = out_of_range h count
 
 -- ---- calls of any slots in any order
 

@@ -3,6 +3,7 @@ pub use Rattle.mmio_window.specs.Window
 pub use Rattle.sector_cache.specs.Disk
 pub mod Hosting
 pub mod HostedLine
+pub mod Honest
 pub mod Image
 pub mod Extent
 pub mod Slot

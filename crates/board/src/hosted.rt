@@ -1,18 +1,20 @@
 //! A board whose disks the host serves: up to sixty-four guests, each with a disk of its own, of which the board says
 //! what it wants and the host says what came of it.
 //!
-//! `slot` has one guest, of whose requests one is in flight at most; `reply` is what a call is answered, and `laws` has
-//! what holds of all calls, whatever their order. Nothing is shared between slots: there is no image.
+//! `slot` has one guest, of whose requests one is in flight at most; `access` is what an embedder reaches between events,
+//! `reply` what a call is answered, and `laws` has what holds of all calls, whatever their order. Nothing is shared between slots: there is no image.
 
-ghost use Rattle.std.specs.Prelude.{◌≡◌, ◌↔◌, ◌<◌, ◌≤◌, ℕ, [], Some, None, length, map, IfOk, IfSome, IfNone, IsSome, IsSomeAnd, IfErr, OnOk};
+ghost use Rattle.std.specs.Prelude.{◌≡◌, ◌≢◌, ◌↔◌, ◌<◌, ◌≤◌, ℕ, List, Option, Some, None, length, map, IfOk, IfSome, IfNone, IsSome, IsSomeAnd, IfErr, IsErrAnd, OnOk};
 ghost use Rattle.std.specs.List.{slice_get};
 ghost use Rattle.std.specs.Option.{option_and_then};
 ghost use Rattle.block_device.specs.Operation.{LiesInside};
+ghost use Rattle.board.specs.declared.fault.BoardFault.{BoardFault};
 ghost use Rattle.board.specs.Image.{sectors_of};
 ghost use Rattle.board.specs.Fault.{AreGoodHosted, RefusesHosted};
 ghost use Rattle.board.specs.Hosting.{HostedEvent, hosted_opened, operation_in};
 ghost use Rattle.board.specs.HostedLine.{KeepsOtherGuests, TakesCall};
 
+mod access;
 mod laws;
 mod reply;
 mod slot;
@@ -21,7 +23,8 @@ use crate::check;
 use crate::event::EventKind;
 use crate::fault::BoardFault;
 pub use crate::hosted::laws::{
-    a_flight_outlasts_own_events, each_hosted_guest_is_alone, what_waits_changes_nothing,
+    a_flight_outlasts_own_events, an_honest_host_serves, each_hosted_guest_is_alone,
+    what_waits_changes_nothing,
 };
 pub use crate::hosted::reply::{HostedReply, HostedTaken};
 use crate::hosted::slot::HostedSlot;
@@ -55,6 +58,10 @@ impl<A: Allocator + Copy> HostedBoard<A> {
         ensures made { IfOk result (λ board. board ≡ map hosted_opened slots.now) }
         ensures accepted { OnOk result (AreGoodHosted slots.now) }
         ensures fault { IfErr result (λ fault. RefusesHosted slots.now fault) }
+
+        // exactly that fault, where there is one other than want of memory
+        ensures exact { (fault : BoardFault) → fault ≢ BoardFault.NoMemory →
+            RefusesHosted slots.now fault → IsErrAnd result (λ why. why ≡ fault) }
     {
         check::hosted_slots(slots)?;
         match open_all(alloc, slots) {
@@ -83,8 +90,9 @@ impl<A: Allocator + Copy> HostedBoard<A> {
 impl<A: Allocator> HostedBoard<A> {
     /// Completes what is in flight of a slot by what came of it.
     pub fn complete(&mut self, slot: u8, verdict: Verdict) -> HostedTaken<A>
-        ensures takes { TakesCall self.old slot (HostedEvent.Completed verdict) None result.reply
-            result.block_irq result.console_irq [] [] self.new }
+        ensures takes { (limit : Option ℕ) (waiting : List ℕ) →
+            TakesCall self.old slot (HostedEvent.Completed verdict) limit result.reply
+            result.block_irq result.console_irq waiting waiting self.new }
         ensures others { KeepsOtherGuests slot self.old self.new }
         ensures block_word { result.block_irq ≤ 3 }
         ensures console_word { result.console_irq ≤ 3 }
@@ -125,13 +133,6 @@ impl<A: Allocator> HostedBoard<A> {
         ensures missing { IfNone result (slice_get self.now slot ≡ None) }
     {
         self.slots.get(slot as usize)
-    }
-
-    /// How many slots the board has, from 1 to 64. They are numbered from 0.
-    pub fn slots(&self) -> usize
-        ensures { result ≡ length self.now }
-    {
-        self.slots.len()
     }
 }
 

@@ -1,18 +1,16 @@
 -- Each guest of a session, as its own calls decide it.
-use Rattle.std.proofs.Common.{◌≡◌, ◌≢◌, ◌⊎◌, inl, inr, ℕ, ◌==◌, eqb, Bool, true, false, Option, Some, None, List, [], ◌∷◌, ◌++◌, take, drop, refl, sym, ◌∙◌, ap, subst}
-use Rattle.std.specs.Prelude.{MatchOption, slice_set, unwrap_or, if◌then◌else◌}
+use Rattle.std.proofs.Common.{◌≡◌, ◌≢◌, ◌⊎◌, inl, inr, ℕ, ◌==◌, eqb, true, false, Option, Some, List, [], ◌∷◌, ◌++◌, take, drop, refl, sym, ◌∙◌, ap, subst}
+use Rattle.std.specs.Prelude.{MatchOption, unwrap_or}
 use Rattle.std.specs.List.{slice_get}
 use Rattle.std.proofs.lemmas.Bool.Decides.{eqb_tells}
 use Rattle.board.specs.declared.event.Event.{Event}
 use Rattle.board.specs.declared.event.EventKind.{EventKind}
 use Rattle.board.specs.declared.reply.Reply.{Reply}
-use Rattle.board.specs.declared.reply.Reply.TheVariants.{NoMemory}
 use Rattle.board.specs.declared.reply.Record.{Record}
-use Rattle.board.specs.Machine.{IsNext, Gives}
-use Rattle.board.specs.Outcome.{Outcome}
+use Rattle.board.specs.Machine.{IsNext}
 use Rattle.board.specs.Slot.{SlotState}
-use Rattle.board.specs.World.{World, MissingStep, SlotStep, Step}
-use Rattle.board.specs.Within.{Seat, IsNextWithin, MayPutOut, TakesWithin}
+use Rattle.board.specs.World.{World, MissingStep, SlotStep}
+use Rattle.board.specs.Within.{Seat, IsNextWithin}
 use Rattle.board.proofs.Alone.{served, get_set, other_at}
 use Rattle.board.proofs.OneRun.{next_of}
 use Rattle.board.proofs.OneSeat.{seat_once}

@@ -13,7 +13,7 @@ use Rattle.board.specs.World.{World}
 use Rattle.board.proofs.Alone.{alone, recorded_slot}
 use Rattle.embed.specs.Course.{Deed, Answered, Took, HadRoom, IsCourse, IsTaken, RunsAlone, events_in, own_replies, own_taken, put_out}
 use Rattle.embed.proofs.Steps.{limits_set, others_output, set_there}
-use Rattle.embed.specs.Session.{KeepsOtherOutputs, SessionState, Waiting, none_waiting, limit_of, output_of, world_of}
+use Rattle.embed.specs.Session.{KeepsOtherOutputs, SessionState, Waiting, none_waiting, output_of, world_of}
 
 -- each event as a move of the board
 abbrev moves_of : {A : Type 0} (old : SessionState) (deeds : List (Deed A)) (new : SessionState) → IsCourse old deeds new → List (Move A)

@@ -1,5 +1,5 @@
 -- What a host puts into a guest's memory between two calls, as the step of that write.
-use Rattle.std.proofs.Common.{◌≡◌, inl, ℕ, ◌+◌, Bool, true, false, ◌||◌, List, [], ◌++◌, length, take, drop, Option, Some, None, refl, sym, ◌∙◌, ap, subst, append-nil, arith}
+use Rattle.std.proofs.Common.{◌≡◌, inl, ℕ, ◌+◌, Bool, true, false, ◌||◌, List, [], ◌++◌, length, take, Option, Some, None, refl, sym, ◌∙◌, ap, subst, append-nil, arith}
 use Rattle.std.specs.Prelude.{◌-◌, slice_set}
 use Rattle.std.specs.List.{slice_get}
 use Rattle.std.proofs.lemmas.Bool.Decides.{nat_tests}
@@ -70,7 +70,7 @@ put_whole memory bytes same =
     let front : memory.base - memory.base ≡ 0 = omega arith in
     ap (λ (bs : List ℕ). record memory { bytes = bs }) (rw front (put_all memory.bytes bytes same))
 
-whole_inside : (memory : Memory) (n : ℕ) → n ≡ length memory.bytes → Inside memory memory.base n
+pub whole_inside : (memory : Memory) (n : ℕ) → n ≡ length memory.bytes → Inside memory memory.base n
 whole_inside memory n same = record { above = omega arith; below = omega (arith, same) }
 
 -- what is left of a memory that was lent

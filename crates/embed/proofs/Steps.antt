@@ -1,6 +1,6 @@
 -- What the board answers, as a step of the session.
-use Rattle.std.proofs.Common.{◌≡◌, ◌≢◌, inl, inr, ℕ, zero, suc, ◌+◌, ◌<◌, ◌≤◌, ◌||◌, Bool, true, false, ◌↔◌, List, [], ◌∷◌, ◌++◌, length, map, Option, Some, None, refl, sym, ◌∙◌, ap, subst, append-nil, arith}
-use Rattle.std.specs.Prelude.{⊤, nat_lt, if◌then◌else◌, slice_set, MatchOption, IsSomeAnd, unwrap_or}
+use Rattle.std.proofs.Common.{◌≡◌, ◌≢◌, inl, inr, ℕ, zero, suc, ◌+◌, ◌<◌, ◌≤◌, Bool, true, false, ◌↔◌, List, [], ◌∷◌, ◌++◌, length, map, Option, Some, None, refl, sym, ◌∙◌, ap, subst, append-nil, arith}
+use Rattle.std.specs.Prelude.{nat_lt, if◌then◌else◌, slice_set, MatchOption, IsSomeAnd, unwrap_or}
 use Rattle.std.specs.List.{slice_get}
 use Rattle.std.specs.Option.{option_and_then}
 use Rattle.std.proofs.lemmas.List.{set-get_or, length-map, length-set, get_or-set_same}
@@ -19,7 +19,7 @@ use Rattle.board.specs.declared.pause.Pause.{Pause}
 use Rattle.board.specs.declared.pause.Turn.{Turn}
 use Rattle.board.specs.declared.pause.Turn.TheVariants as turn
 use Rattle.board.specs.declared.reply.Reply.{Reply}
-use Rattle.board.specs.declared.reply.Reply.TheVariants.{Done, Bytes, Took, BadSlot, BadRange, NoMemory}
+use Rattle.board.specs.declared.reply.Reply.TheVariants.{Done, Bytes, BadSlot, BadRange, NoMemory}
 use Rattle.board.specs.declared.reply.Record.{Record}
 use Rattle.board.specs.Extent.{outside_of, outside_from}
 use Rattle.board.specs.Image.{Health, bytes_of}
@@ -28,7 +28,7 @@ use Rattle.board.specs.Outcome.{Outcome, replies}
 use Rattle.board.specs.Pausing.{Begins, GoesOn, HasLimit, asked}
 use Rattle.board.specs.Slot.{SlotState, BoardSlot, state_of}
 use Rattle.board.specs.Task.{Task, Nothing, ServeBlock, ServeReceive, ServeTransmit, PutOut, Finishes}
-use Rattle.board.specs.World.{World, Answers, IsCutShort, KeepsOthers, MayGive, MayLackMemory, MissingStep, SlotStep, bad_slot, disturbed_of, TakesMemory, extents_of, lacks_memory, noted}
+use Rattle.board.specs.World.{World, Answers, IsCutShort, KeepsOthers, MayGive, MayLackMemory, MissingStep, SlotStep, bad_slot, TakesMemory, extents_of, lacks_memory}
 use Rattle.board.specs.Within.{BeginsWithin, GoesOnWithin, IsPuttingOut, MayPutOut, TakesWithin}
 use Rattle.board.proofs.Answered.{ended_within, handled}
 use Rattle.board.proofs.Runs.{answered}
@@ -73,7 +73,7 @@ write_suits : (A : Type 0) (state after : SlotState) (addr : ℕ) (bytes : List 
 write_suits A state after addr bytes true = tt
 write_suits A state after addr bytes false = tt
 
-given_suits : {A : Type 0} (state : SlotState) (what : EventKind A) (old new : Health) (outcome : Outcome A) → MayGive state what old new outcome → Suits what outcome.reply
+pub given_suits : {A : Type 0} (state : SlotState) (what : EventKind A) (old new : Health) (outcome : Outcome A) → MayGive state what old new outcome → Suits what outcome.reply
 given_suits state (Read window offset width) old new outcome (inl served) = rw served.alike.alike tt
 given_suits state (Write window offset width value) old new outcome (inl served) = finished_suits window offset width value _ _ old new outcome served.alike
 given_suits {A} state (MemRead addr len) old new outcome (inl served) = rw served.alike.alike (read_suits A state addr len _ _)

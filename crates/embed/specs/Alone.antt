@@ -1,5 +1,5 @@
 -- Each guest of a session, as its own calls decide it and nothing else does.
-use Rattle.std.specs.Prelude.{◌≡◌, ℕ, ◌==◌, ◌/◌, if◌then◌else◌, List, [], ◌∷◌, length, map, take, drop, Some}
+use Rattle.std.specs.Prelude.{◌≡◌, ℕ, ◌==◌, if◌then◌else◌, List, [], ◌∷◌, take, drop, Some}
 use Rattle.std.specs.List.{slice_get}
 use Rattle.chain.specs.declared.budget.Budget.{Budget}
 use Rattle.sector_cache.specs.Sector.{extent_of}

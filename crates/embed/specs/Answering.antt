@@ -9,7 +9,7 @@ use Rattle.board.specs.declared.reply.Reply.TheVariants as reply
 use Rattle.paced.specs.declared.response.Response.{Response}
 use Rattle.paced.specs.declared.response.Response.TheVariants as response
 use Rattle.embed.specs.declared.refusal.Refusal.{Refusal}
-use Rattle.embed.specs.declared.refusal.Refusal.TheVariants.{BadSlot, BadRange, NoRoom, Busy}
+use Rattle.embed.specs.declared.refusal.Refusal.TheVariants.{BadSlot, BadRange, NoRoom, Busy, Idle}
 use Rattle.embed.specs.declared.typed.Typed.{Typed}
 
 -- the response that a refusal stands for: where an outlet has no room the board has no memory for the output
@@ -18,6 +18,7 @@ refusing_response BadSlot = response.Answered reply.BadSlot
 refusing_response BadRange = response.Answered reply.BadRange
 refusing_response NoRoom = response.Answered reply.NoMemory
 refusing_response Busy = response.Busy
+refusing_response Idle = response.Idle
 
 -- a response that refuses
 abbrev pub IsRefusing : {A : Type 0} → Response A → Type 0

@@ -6,3 +6,6 @@ pub mod Answering
 pub mod Refusing
 pub mod Course
 pub mod Alone
+pub mod Hosted
+pub mod HostedAnswering
+pub mod HostedCourse

@@ -45,13 +45,17 @@ disk_of session = record (new_disk session.image) { mark = session.mark }
 abbrev pub world_of : SessionState → World
 world_of session = seen session.slots (disk_of session)
 
--- what the slot's console put out and nobody has taken yet, or nothing where there is no such slot
+-- what waits of a slot's output, or nothing where there is no such slot
+abbrev pub waiting_at : ℕ → List Waiting → Waiting
+waiting_at slot outputs = unwrap_or (slice_get outputs slot) (none_waiting 0)
+
+-- what the slot's console put out and nobody has taken yet
 abbrev pub output_of : ℕ → SessionState → List ℕ
-output_of slot session = (unwrap_or (slice_get session.outputs slot) (none_waiting 0)).bytes
+output_of slot session = (waiting_at slot session.outputs).bytes
 
 -- and how many bytes of it may wait
 abbrev pub limit_of : ℕ → SessionState → ℕ
-limit_of slot session = (unwrap_or (slice_get session.outputs slot) (none_waiting 0)).limit
+limit_of slot session = (waiting_at slot session.outputs).limit
 
 -- no service of the slot is paused
 abbrev pub IsIdle : ℕ → SessionState → Type 0

@@ -1,5 +1,8 @@
 //! Why there is no session.
 
+ghost use Rattle.std.specs.Prelude.{◌≡◌};
+ghost use Rattle.embed.specs.Refusing.{session_fault};
+
 use board::BoardFault;
 use thiserror::Error;
 
@@ -21,4 +24,14 @@ pub enum SessionFault {
     /// There was no memory for the session.
     #[error("no memory for the session")]
     NoMemory,
+}
+
+/// Why there is no session where there is no board.
+pub(crate) fn why_not(why: BoardFault) -> SessionFault
+    ensures { result ≡ session_fault why }
+{
+    match why {
+        BoardFault::NoMemory => SessionFault::NoMemory,
+        _ => SessionFault::Board(why),
+    }
 }

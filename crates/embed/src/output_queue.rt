@@ -6,6 +6,8 @@ ghost use Rattle.sector_cache.specs.MemoryImage.{disk_of};
 ghost use Rattle.board.specs.declared.pause.Pause.{Pause};
 ghost use Rattle.board.specs.declared.pause.Turn.{Turn};
 ghost use Rattle.board.specs.declared.reply.Reply.{Reply};
+ghost use Rattle.board.specs.Hosting.{HostedEvent};
+ghost use Rattle.board.specs.HostedLine.{KeepsOtherGuests, TakesCall};
 ghost use Rattle.board.specs.Image.{bytes_of};
 ghost use Rattle.board.specs.Pausing.{HasLimit};
 ghost use Rattle.board.specs.Slot.{BoardSlot, state_of};
@@ -14,7 +16,7 @@ ghost use Rattle.board.specs.World.{KeepsOthers, MayLackMemory, extents_of};
 ghost use Rattle.paced.specs.Pacing.{Handle, GoOn, Responds, paced_world, response_to};
 ghost use Rattle.embed.specs.Session.{none_waiting};
 
-use board::{Event, MemoryImage};
+use board::{Event, EventKind, HostedBoard, HostedTaken, MemoryImage};
 use console_device::{NoMemory, Outlet};
 use paced::{Paced, Response};
 use std::alloc::{AllocError, Allocator, Global};
@@ -162,6 +164,21 @@ impl<A: Allocator + Copy> OutputQueue<A> {
             (λ slot. (image : List ℕ) → MayLackMemory (state_of image slot) event.now.what) }
     {
         paced.step(event, self)
+    }
+
+    /// Handles an event of a board whose disks the host serves, and keeps what is put out behind what waits.
+    pub(crate) fn step_hosted(
+        &mut self,
+        board: &mut HostedBoard<A>,
+        slot: u8,
+        what: &EventKind<A>,
+    ) -> HostedTaken<A>
+        ensures takes { TakesCall board.old slot (HostedEvent.Own what.now) (Some self.old.limit) result.reply
+            result.block_irq result.console_irq self.old.bytes self.new.bytes board.new }
+        ensures others { KeepsOtherGuests slot board.old board.new }
+        ensures limit { self.new.limit ≡ self.old.limit }
+    {
+        board.step(slot, what, self)
     }
 
     /// Goes on with the service of a slot of the board, and keeps what is put out behind what waits.

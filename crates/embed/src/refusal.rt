@@ -2,8 +2,9 @@
 
 ghost use Rattle.std.specs.Prelude.{◌≡◌};
 ghost use Rattle.embed.specs.Answering.{IsRefusing, refusing_response};
+ghost use Rattle.embed.specs.HostedAnswering.{IsHostedRefusing, hosted_refusing};
 
-use board::Reply;
+use board::{HostedReply, Reply};
 use paced::Response;
 use std::alloc::Allocator;
 use thiserror::Error;
@@ -20,9 +21,12 @@ pub enum Refusal {
     /// What the guest's console puts out next doesn't fit behind what waits. What came before it was put out.
     #[error("the guest's output has no room until some of it is taken")]
     NoRoom,
-    /// A service of the slot is paused. Nothing has changed.
-    #[error("a service of the guest is paused")]
+    /// A service of the slot is paused, or the write waits for what the host does for the slot. Nothing has changed.
+    #[error("a service of the guest is paused, or its disk is at work")]
     Busy,
+    /// Nothing of the slot is in flight. Nothing has changed.
+    #[error("nothing that the host does for the guest is in flight")]
+    Idle,
 }
 
 impl Refusal {
@@ -36,6 +40,20 @@ impl Refusal {
             Response::Answered(Reply::BadRange) => Refusal::BadRange,
             Response::Busy => Refusal::Busy,
             _ => Refusal::BadSlot,
+        }
+    }
+
+    /// The refusal that a reply of a board says whose disks the host serves.
+    pub(crate) fn of_hosted<A: Allocator>(reply: &HostedReply<A>) -> Refusal
+        requires { IsHostedRefusing reply.now }
+        ensures { reply.now ≡ hosted_refusing result }
+    {
+        match reply {
+            HostedReply::Answered(Reply::NoMemory) => Refusal::NoRoom,
+            HostedReply::Answered(Reply::BadRange) => Refusal::BadRange,
+            HostedReply::Answered(_) => Refusal::BadSlot,
+            HostedReply::Busy => Refusal::Busy,
+            HostedReply::Idle => Refusal::Idle,
         }
     }
 }

@@ -1,6 +1,6 @@
 //! The session: a board over an image in memory, and what its consoles put out.
 
-ghost use Rattle.std.specs.Prelude.{◌≡◌, ◌≢◌, ◌⊎◌, ◌↔◌, ◌%◌, ◌/◌, map, length, IsTrue, IsFalse, IfOk, OnOk, IfErr, IsErrAnd, IsErrOf};
+ghost use Rattle.std.specs.Prelude.{◌≡◌, ◌≢◌, ◌⊎◌, ◌↔◌, ◌%◌, ◌/◌, map, length, IsFalse, IfOk, OnOk, IfErr, IsErrAnd, IsErrOf};
 ghost use Rattle.chain.specs.Budget.{IsSpent};
 ghost use Rattle.board.specs.declared.fault.BoardFault.{BoardFault};
 ghost use Rattle.sector_cache.specs.Disk.{new_disk};
@@ -12,25 +12,22 @@ ghost use Rattle.board.specs.declared.event.EventKind.{EventKind};
 ghost use Rattle.paced.specs.Pacing.{GoOn, Handle};
 ghost use Rattle.embed.specs.Answering.{SuitsCall};
 ghost use Rattle.embed.specs.Pausing.{IsCall, IsWhole};
-ghost use Rattle.embed.specs.Session.{HasNoRead, IsIdle, new_session, none_waiting, slots_of};
-ghost use Rattle.embed.specs.Refusing.{AreOutlets, IsBoardFault, IsRefusedFor, session_fault};
+ghost use Rattle.embed.specs.Session.{HasNoRead, IsIdle, new_session, slots_of};
+ghost use Rattle.embed.specs.Refusing.{AreOutlets, IsBoardFault, IsRefusedFor};
 
 mod console;
 mod image;
 mod memory;
 mod registers;
 
-use crate::fault::SessionFault;
-use crate::guest::GuestSpec;
+use crate::fault::{SessionFault, why_not};
+use crate::guest::{GuestSpec, are_outlets, outputs, slots};
 use crate::output_queue::OutputQueue;
-use board::{Board, BoardFault, Event, MemoryImage, Refused, Reply, SlotSpec};
+use board::{Board, Event, MemoryImage, Refused, Reply};
 use paced::{Budget, Paced, Response};
 use sector_cache::are_whole_sectors;
 use std::alloc::{AllocError, Allocator, Global};
 use std::marker::Model;
-
-/// How many bytes of one guest's output may wait at most.
-const MOST_WAITING: u32 = 0x100_0000;
 
 /// Up to sixty-four guests over one image in memory. `new` makes all room: no other call takes memory.
 #[derive(Drop)]
@@ -157,13 +154,6 @@ impl<A: Allocator> Session<A> {
     }
 }
 
-// Whether no guest's output is to have more room than it may.
-fn are_outlets(guests: &[GuestSpec]) -> bool
-    ensures { IsTrue result ↔ AreOutlets guests.now }
-{
-    guests.iter().all(|guest| guest.outlet <= MOST_WAITING)
-}
-
 // The board of the guests' slots, over a copy of these bytes.
 fn board_of<A: Allocator + Copy>(
     alloc: A,
@@ -197,40 +187,5 @@ fn board_of<A: Allocator + Copy>(
     match Board::new(alloc, &slots, image, cache) {
         Ok(board) => Ok(board),
         Err(Refused { image: _, why }) => Err(why_not(why)),
-    }
-}
-
-// The guests' slots of the board.
-fn slots<A: Allocator + Copy>(
-    alloc: A,
-    guests: &[GuestSpec],
-) -> Result<Vec<SlotSpec, A>, AllocError>
-    ensures { IfOk result (λ slots. slots.items ≡ slots_of guests.now) }
-{
-    guests.iter().map(|guest| guest.slot).collect(alloc)
-}
-
-// Room for each guest's output, in which nothing waits.
-fn outputs<A: Allocator + Copy>(
-    alloc: A,
-    guests: &[GuestSpec],
-) -> Result<Vec<OutputQueue<A>, A>, AllocError>
-    ensures { IfOk result (λ outputs.
-        outputs.items ≡ map (λ guest. none_waiting guest.outlet) guests.now) }
-{
-    let mut outputs = Vec::with_capacity(alloc, guests.len())?;
-    for guest in guests {
-        outputs.push(OutputQueue::new(alloc, guest.outlet)?)?;
-    }
-    Ok(outputs)
-}
-
-// Why there is no session where there is no board.
-fn why_not(why: BoardFault) -> SessionFault
-    ensures { result ≡ session_fault why }
-{
-    match why {
-        BoardFault::NoMemory => SessionFault::NoMemory,
-        _ => SessionFault::Board(why),
     }
 }

@@ -5,6 +5,10 @@ ghost use Rattle.std.specs.Prelude.{◌≡◌, ℕ, List, Some, true};
 ghost use Rattle.std.specs.List.{slice_get};
 ghost use Rattle.board.specs.declared.event.EventKind.{EventKind};
 ghost use Rattle.board.specs.declared.hosted.reply.HostedReply.{HostedReply};
+ghost use Rattle.sector_cache.specs.Disk.{Disk};
+ghost use Rattle.block_device.specs.declared.operation.Verdict.{Verdict};
+ghost use Rattle.board.specs.Honest.{IsFlown, IsHonestlyServed};
+ghost use Rattle.board.specs.Slot.{SlotState};
 ghost use Rattle.board.specs.Hosting.{HostedEvent, HostedOutcome, HostedState, InFlight, IsHostedNext, must_wait};
 ghost use Rattle.board.specs.HostedLine.{HostedMove, IsHostedLine, RunsHostedAlone};
 
@@ -30,4 +34,12 @@ pub fn what_waits_changes_nothing<A: Allocator>()
         (outcome.state ≡ old) × (must_wait what ≡ true) }
     ensures idle { (old : HostedState) (event : HostedEvent A) (outcome : HostedOutcome A) →
         IsHostedNext old event outcome → outcome.reply ≡ HostedReply.Idle → outcome.state ≡ old }
+{}
+
+/// Where a host did with a guest's disk what may become of the request that was asked for, and says so, the slot's block
+/// device did what the model's does over that disk, whatever its guest did in between.
+pub fn an_honest_host_serves<A: Allocator>()
+    ensures { (old : SlotState) (here : InFlight) (now : HostedState) (verdict : Verdict) (new : HostedState)
+        (flown : IsFlown A old here now verdict new) (disk : Disk) →
+        IsHonestlyServed old here now verdict new flown disk }
 {}

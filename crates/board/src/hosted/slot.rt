@@ -1,7 +1,7 @@
 //! One slot whose disk the host serves.
 //!
 //! At most one of its requests is in flight. Meanwhile its guest runs on: two writes of the block window wait for the
-//! completion, and everything else is done at once.
+//! completion, and everything else is done at once. `access` is what an embedder reaches between its events.
 
 ghost use Rattle.std.specs.Prelude.{◌≡◌, ◌≤◌, ◌<◌, ◌*◌, ◌^◌, ℕ, Some, None, [], IfOk, IfSome, IsSome, is_some, ◌&&◌};
 ghost use Rattle.block_device.specs.Extent.{sector_len};
@@ -10,6 +10,8 @@ ghost use Rattle.board.specs.Fault.{IsMemory};
 ghost use Rattle.board.specs.Image.{sectors_of};
 ghost use Rattle.board.specs.Machine.{block_irq, console_irq};
 ghost use Rattle.board.specs.Hosting.{HostedEvent, HostedWithin, IsHostedNext, LooksAtQueue, TakesHosted, flight_by, hosted_opened, must_wait, operation_in};
+
+mod access;
 
 use crate::check::own_disk;
 use crate::event::EventKind;

@@ -1,4 +1,4 @@
-use Rattle.std.proofs.Common.{◌≡◌, ◌≤◌, Some, None, [], length, refl, ◌∙◌, ap, arith}
+use Rattle.std.proofs.Common.{◌≡◌, ◌≤◌, Some, [], length, refl, sym, ◌∙◌, ap, append-nil, arith}
 use Rattle.std.specs.List.{slice_get}
 use Rattle.std.proofs.lemmas.Option.{slice_get_past, slice_get_read}
 use Rattle.board.proofs.HostedSeats.{calls_missing, calls_there, others_stay}
@@ -8,7 +8,7 @@ pub returns-in_default-clause-takes : goal.returns-in_default-clause-takes
 returns-in_default-clause-takes g c =
     let past : length c.self.inside.slots.items ≤ c.args.slot = grind (arith, c.in_default.ensures.variant.1) in
     rw (← c.self.view_is, c.missing.ensures)
-    (calls_missing c.self.inside.slots.items c.args.slot _ None [] (slice_get_past c.self.inside.slots.items c.args.slot past))
+    (λ limit waiting. calls_missing c.self.inside.slots.items c.args.slot _ limit waiting (slice_get_past c.self.inside.slots.items c.args.slot past))
 
 -- the slot of that number
 there : (g : _) (c : goal.After-self-2-1 g) → slice_get c.self.inside.slots.items c.args.slot ≡ Some c.in-Some.found.now
@@ -17,8 +17,9 @@ there g c = slice_get_read c.self.inside.slots.items (length c.self.inside.slots
 pub returns-clause-takes : goal.returns-clause-takes
 returns-clause-takes g c =
     rw (← c.self.view_is, c.after.ensures.reply, c.after.ensures.block, c.after.ensures.console)
-    (calls_there c.self.inside.slots.items c.args.slot c.in-Some.found.now _ None c.complete-reply.new.self c.complete-reply.result [] [] (there g c)
-    (record { output = []; next = c.complete-reply.ensures.next; appended = refl }) (λ n none. absurd (cc)))
+    (λ limit waiting.
+    calls_there c.self.inside.slots.items c.args.slot c.in-Some.found.now _ limit c.complete-reply.new.self c.complete-reply.result waiting waiting (there g c)
+    (record { output = []; next = c.complete-reply.ensures.next; appended = sym (append-nil waiting) }) (λ n is. refl))
 
 pub returns-clause-others : goal.returns-clause-others
 returns-clause-others g c other differ =

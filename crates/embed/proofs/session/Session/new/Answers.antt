@@ -1,5 +1,5 @@
 -- A session that is there was not to be refused, and one that isn't lacked memory where nothing else was wrong.
-use Rattle.std.proofs.Common.{rules, ◌≡◌, length, None, refl, sym, ◌∙◌, ap}
+use Rattle.std.proofs.Common.{rules, length, None, refl, sym, ◌∙◌, ap}
 use Rattle.std.proofs.lemmas.List.{length-map, length-replicate}
 use Rattle.board.specs.Slot.{opened}
 use Rattle.embed.specs.Session.{none_waiting, slots_of}

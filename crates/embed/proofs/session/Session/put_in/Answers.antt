@@ -1,5 +1,5 @@
 -- What is typed is what the session does.
-use Rattle.std.proofs.Common.{◌≡◌, [], length, refl, sym, ◌∙◌, ap}
+use Rattle.std.proofs.Common.{[], refl, sym, ◌∙◌, ap}
 use Rattle.sector_cache.specs.MemoryImage.{disk_of as memory_disk_of}
 use Rattle.board.specs.declared.event.EventKind.TheVariants.{Input}
 use Rattle.paced.specs.Pacing.{Handle}

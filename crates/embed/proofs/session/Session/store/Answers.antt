@@ -1,8 +1,7 @@
 -- A write of memory is what the session does.
-use Rattle.std.proofs.Common.{◌≡◌, length, refl, sym, ◌∙◌, ap}
+use Rattle.std.proofs.Common.{length, refl, sym, ◌∙◌, ap}
 use Rattle.sector_cache.specs.MemoryImage.{disk_of as memory_disk_of}
 use Rattle.board.specs.declared.event.EventKind.TheVariants.{MemWrite}
-use Rattle.paced.specs.Pacing.{Handle}
 use Rattle.embed.proofs.Steps.{as_many, handled_quietly, quiet_write, shown}
 use Rattle.embed.proofs.session.Session.store.Goals as goal
 

@@ -1,0 +1,9 @@
+use Rattle.board.specs.declared.fault.BoardFault.TheVariants.{NoMemory}
+use Rattle.board.proofs.HostedSpecs.{one_hosted_fault}
+use Rattle.board.proofs.hosted.HostedBoard.new.Goals as goal
+
+pub returns-in-Ok-clause-exact : goal.returns-in-Ok-clause-exact
+returns-in-Ok-clause-exact g c = λ fault some refuses. some (one_hosted_fault c.args.slots.now fault NoMemory refuses c.in_ok-hosted_slots.ensures.ok)
+
+pub returns-in-Err-clause-exact : goal.returns-in-Err-clause-exact
+returns-in-Err-clause-exact g c = λ fault some refuses. one_hosted_fault c.args.slots.now NoMemory fault c.in_ok-hosted_slots.ensures.ok refuses

@@ -1,0 +1,59 @@
+//! What an embedder reaches of a slot between its events.
+
+ghost use Rattle.std.specs.Prelude.{◌≡◌, ℕ, List, length};
+ghost use Rattle.std.specs.Bool.{OnTrue, OnFalse};
+ghost use Rattle.std.specs.Borrow.{sem, u8, Array, Lends};
+ghost use Rattle.guest_memory.specs.Memory.{is_inside, put};
+ghost use Rattle.board.specs.declared.event.EventKind.{EventKind};
+ghost use Rattle.board.specs.declared.hosted.reply.HostedReply.{HostedReply};
+ghost use Rattle.board.specs.declared.reply.Reply.{Reply};
+ghost use Rattle.board.specs.Hosting.{HostedEvent, TakesHosted};
+ghost use Rattle.board.specs.HostedLine.{with_bytes, with_memory};
+ghost use Rattle.board.specs.contracts.hosted.slot.HostedSlot.{the_row};
+
+use crate::hosted::slot::HostedSlot;
+use crate::pause::Turn;
+use crate::reply::Reply;
+use chain::Budget;
+use guest_memory::GuestMemory;
+use std::alloc::Allocator;
+
+impl<A: Allocator> HostedSlot<A> {
+    /// The guest's memory.
+    pub(crate) fn memory(&self) -> &GuestMemory<A>
+        ensures { result.now ≡ self.now.slot.memory }
+    {
+        self.slot.memory()
+    }
+
+    /// The bytes of the guest's memory, to be written.
+    pub(crate) fn memory_mut(&mut self) -> &mut [u8]
+        ensures* writes_back { sem 𝓛 (Lends (the_row A.row A.Allocator) (Array u8 0) self.entry
+            result (with_bytes self.old)) }
+        ensures value { result.now ≡ self.old.slot.memory.bytes }
+    {
+        self.slot.memory_mut()
+    }
+
+    /// Puts bytes into the memory, where all of the range lies in it.
+    pub(crate) fn put_bytes(&mut self, addr: u64, new: &[u8]) -> bool
+        ensures test { result ≡ is_inside self.old.slot.memory addr (length new.now) }
+        ensures done { OnTrue result (self.new ≡ with_memory (put self.old.slot.memory addr new.now) self.old) }
+        ensures kept { OnFalse result (self.new ≡ self.old) }
+    {
+        self.slot.put_bytes(addr, new)
+    }
+}
+
+impl<A: Allocator + Copy> HostedSlot<A> {
+    /// Types bytes to the guest's console, and answers how many were taken.
+    pub(crate) fn input(&mut self, bytes: &[u8]) -> usize
+        ensures { (out : List ℕ) → TakesHosted {A = A} self.old (HostedEvent.Own (EventKind.Input bytes.now)) self.new
+            (HostedReply.Answered (Reply.Took result)) out out }
+    {
+        match self.slot.input(bytes, Budget::UNLIMITED) {
+            Turn::Answered(Reply::Took(taken)) => taken,
+            _ => unreachable!(),
+        }
+    }
+}
