@@ -28,6 +28,7 @@ TABLES = [
     "guests",
     "beside",
     "at_work",
+    "contexts",
     "spellings",
     "words",
     "orders",
