@@ -546,6 +546,12 @@ def stopped(guest):
         queue.start_over()
 
 
+def both_words(guest):
+    """A used buffer of the disk and of the console, and a resize, of which nothing is acknowledged."""
+    serve_some(1)(guest)
+    guest.story.resize(1, 1, told=CHANGED, slot=guest.slot)
+
+
 def writes(*pairs):
     """Registers of both windows are written while they are live."""
     def before(guest):
@@ -640,7 +646,8 @@ CONTEXTS = [
     Context("events_of_a_missing_slot_before", before=missing), Context("a_memory_event_that_was_refused", before=memory_refused, parts=NO_FAULTS),
     Context("a_failed_image_call_before", before=failed_read, fails=[0], parts=("requests", "events")),
     Context("typed_bytes_that_wait", before=pending(300), parts=NO_CONSOLE), Context("input_that_is_full", before=pending(4096), parts=NO_CONSOLE),
-    Context("interrupts_that_are_never_acknowledged", acknowledges=False), Context("a_disk_alone", windows="b", parts=("requests",)),
+    Context("interrupts_that_are_never_acknowledged", acknowledges=False),
+    Context("words_of_both_windows_set", before=both_words, acknowledges=False, parts=NO_CONSOLE), Context("a_disk_alone", windows="b", parts=("requests",)),
     Context("a_console_alone", windows="c", parts=("console", "events")),
 ]
 
