@@ -20,7 +20,7 @@ def stories():
     yield from shown("the sectors of a segment", "each of 32", [zeroed()])
     for shape in SHAPES:
         yield from shown("the bytes of a buffer", "each of 256", [texts(shape), typed(shape)])
-    yield from shown("Range of a buffer", "each of 40", [bad_buffer(Split, False), bad_buffer(Packed, False), bad_buffer(Split, True), bad_buffer(Packed, True)])
+    yield from shown("Range of a buffer", "each of 40", [bad_buffer(Split, False), bad_buffer(Packed, True)])
     yield from shown("a table in a table", "each of 40", [nested()])
     yield from shown("a head outside", "each of 40 chains", [bad_head()])
     yield from shown("identity, sector, mode, base", "each of 64 slots", [disks()])

@@ -8,13 +8,14 @@ from .requests import FLUSH, GET_ID, IDENTITY, IN, OUT, WRITE_ZEROES, header, se
 from .story import BASE, CHANGED, SECTOR, USED, Slot, Story, plain_image
 
 TITLE = "Each context"
-HOW = ("Requests that are good and that are refused, texts, typed bytes, faults, and wanted and unwanted notifications, each in contexts that differ in one "
+HOW = ("Requests that are good and that are refused, texts, typed bytes, faults, wanted and unwanted notifications, and registers, each in contexts that differ in one "
        "thing from a plain one: the slot, the features, the ring, how chains stand, what happened before. In each a rule holds as in any other.")
 COLUMNS = ("What", "Context")
 FOLDERS = {"contexts_requests": "Requests, good and refused, in each context.",
            "contexts_console": "Texts and typed bytes in each context.",
            "contexts_faults": "Faults of chains and rings in each context.",
-           "contexts_events": "Wanted and unwanted notifications in each context."}
+           "contexts_events": "Wanted and unwanted notifications in each context.",
+           "contexts_registers": "Registers, features, status and queues' setup in each context."}
 
 OK, IOERR, UNSUPP = 0, 1, 2
 OUTSIDE = 0x30000
@@ -44,7 +45,7 @@ class Context:
     fails: typing.Optional[list] = None
     acknowledges: bool = True
     windows: str = "bc"
-    parts: tuple = ("requests", "console", "faults", "events")
+    parts: tuple = ("requests", "console", "faults", "events", "registers")
 
     @property
     def words(self):
@@ -214,7 +215,7 @@ class Guest:
         marks = bytes([0xa0 + self.slot % 16]) * SECTOR
         if count:
             self.request(header(OUT, count - 1) + marks, 0, writes, cuts=(16,))
-            self.request(header(OUT, count - 1) + marks * 2, 0, IOERR)
+            self.request(header(OUT, count) + marks, 0, IOERR)
             self.holds[-1] = marks[0] if writes == OK else self.holds[-1]
         self.request(header(OUT, count), 24, writes)
         self.request(header(OUT, count + 1), 0, IOERR)
@@ -227,7 +228,7 @@ class Guest:
             self.holds[-2] = 0 if writes == OK else self.holds[-2]
         self.request(header(WRITE_ZEROES) + segment(count, 0), 24, writes)
         self.request(header(WRITE_ZEROES) + segment(0, 0) + segment(0, 0, 2), 0, UNSUPP if writes == OK else IOERR)
-        for data in (b"", segment(0, 0)[:15], segment(0, 0) + b"\0", segment(0, count + 1), segment(count + 1, 0), segment(0, 0) * 33):
+        for data in (b"", segment(0, 0)[:15], segment(0, 0) + b"\0", segment(0, count + 1), segment(count + 1, 0)):
             self.request(header(WRITE_ZEROES) + data, 0, IOERR)
 
     def no_room(self):
@@ -361,6 +362,136 @@ class Guest:
         self.notify(queue, FAULT)
         queue.look(queue.areas[2] + 2, 2, number(queue.place, 2))
         self.story.read("c", STATUS, 0x4f, slot=self.slot)
+
+    # --- registers
+
+    def registers(self):
+        """What a live window's registers tell and take, then those of one that is set up anew."""
+        for window in self.context.windows:
+            queue = self.queues["b", 0] if window == "b" else self.queues["c", 1]
+            self.tells(window, 0xf)
+            self.is_fixed(queue)
+            self.is_judged(queue)
+            self.fails(queue)
+            self.begins_anew(queue)
+
+    def write(self, window, offset, value, **said):
+        self.story.write(window, offset, value, slot=self.slot, **said)
+
+    def read(self, window, offset, found, **said):
+        self.story.read(window, offset, found, slot=self.slot, **said)
+
+    def offered(self, window):
+        return 0x30000005 if window == "c" else 0x30004244 if self.may_write else 0x30004264
+
+    def tells(self, window, status):
+        """All that a window tells."""
+        words, resizes = self.story.words[self.slot, window], sum(line.startswith(f"sz {self.slot:x} ") for line in self.story.lines)
+        found = {0x000: 0x74726976, 0x004: 2, 0x008: 2 if window == "b" else 3, 0x00c: 0x4f424d56, 0x020: 0, 0x030: 0, 0x038: 0, 0x050: 0, 0x060: words,
+                 0x064: 0, 0x070: status, 0x080: 0, 0x0ac: 0, 0x0b0: 0xffffffff, 0x0b4: 0xffffffff, 0x0b8: 0xffffffff, 0x0bc: 0xffffffff,
+                 0x0c0: 0, 0x0fc: resizes if window == "c" else 0}
+        for offset, value in found.items():
+            self.read(window, offset, value)
+        for width in (1, 2):
+            self.read(window, 0x070, 0, width=width)
+        for select, value in ((2, 0), (0, self.offered(window)), (1, 0x45)):
+            self.write(window, 0x014, select)
+            self.read(window, 0x010, value)
+        for select in (2, 1, 0):
+            self.write(window, QUEUE_SEL, select)
+            self.read(window, 0x034, 256 if select < (1 if window == "b" else 2) else 0)
+        for offset, value in self.configuration(window).items():
+            self.write(window, offset, 0xa5a5a5a5)
+            self.read(window, offset, value)
+            self.read(window, offset, value & 0xffff, width=2)
+            self.read(window, offset + 3, value >> 24, width=1)
+
+    def configuration(self, window):
+        if window == "b":
+            return {0x100: len(self.holds), 0x104: 0, 0x10c: 126, 0x114: 512, 0x130: 65536, 0x134: 32}
+        sizes = [line.split(" ")[2:] for line in self.story.lines if line.startswith(f"sz {self.slot:x} ")]
+        columns, rows = map(lambda field: int(field, 16), sizes[-1]) if sizes else (self.line.columns, self.line.rows)
+        return {0x100: rows << 16 | columns, 0x104: 0, 0x10c: 0}
+
+    def is_fixed(self, queue):
+        """Nothing of a ready queue, of a settled driver, or of Status is changed by these."""
+        window = queue.window
+        self.write(window, QUEUE_SEL, queue.index)
+        for offset, value in ((0x038, 2), (0x080, 0), (0x094, 1), (0x0a0, 4), (QUEUE_READY, 1), (QUEUE_READY, 2), (QUEUE_READY, 0x80000000), (DRIVER_SEL, 0),
+                              (DRIVER_FEATURES, 0), (STATUS, 0x70), (STATUS, 0x100), (STATUS, 0xffffff00)):
+            self.write(window, offset, value)
+        self.write(window, STATUS, 0, width=1)
+        self.write(window, 0x064, 3, width=2)
+        self.read(window, QUEUE_READY, 1)
+        self.read(window, STATUS, 0xf)
+        self.serves_one(queue)
+
+    def serves_one(self, queue):
+        self.good(queue)
+        self.notify(queue, output=b"g" if queue.window == "c" else b"")
+        self.done(queue)
+
+    def is_judged(self, queue):
+        """A stopped queue isn't served, and is made ready with what its kind of ring takes alone."""
+        window, (first, second, third) = queue.window, queue.areas
+        self.write(window, QUEUE_READY, 0)
+        self.read(window, QUEUE_READY, 0)
+        self.take_back(queue)
+        queue.start_over()
+        self.good(queue)
+        self.notify(queue, NOTHING)
+        end = self.base + OUTSIDE
+        for offset, wrong, right in ((0x038, 0, queue.size), (0x038, 257, queue.size), (0x038, 0x10000 + queue.size, queue.size), (0x080, first + 8, first),
+                                     (0x080, end - 8, first), (0x090, second + 1, second), (0x090, end, second), (0x0a0, third + 2, third), (0x0a0, end, third)):
+            self.write(window, offset, wrong % (1 << 32))
+            self.write(window, QUEUE_READY, 1)
+            self.read(window, QUEUE_READY, 0)
+            self.write(window, offset, right % (1 << 32))
+        self.write(window, 0x038, 3)
+        self.write(window, QUEUE_READY, 1)
+        self.read(window, QUEUE_READY, int(queue.is_packed))
+        self.write(window, QUEUE_READY, 0)
+        self.write(window, 0x038, queue.size)
+        self.write(window, QUEUE_READY, 1)
+        self.read(window, QUEUE_READY, 1)
+        self.notify(queue, output=b"g" if window == "c" else b"")
+        self.done(queue)
+
+    def fails(self, queue):
+        """A failed driver's queue isn't served, and no write but 0 takes that back."""
+        window = queue.window
+        self.write(window, STATUS, 0x80)
+        self.write(window, STATUS, 0xf)
+        self.read(window, STATUS, 0x8f)
+        self.good(queue)
+        self.notify(queue, NOTHING)
+        queue.offered = queue.place
+
+    def begins_anew(self, queue):
+        """A reset forgets all but the size and the generation; then features are refused and taken."""
+        window = queue.window
+        for offset, value in ((DRIVER_SEL, 1), (0x014, 1), (QUEUE_SEL, queue.index or 7), (STATUS, 0)):
+            self.write(window, offset, value)
+        self.read(window, 0x010, self.offered(window))
+        self.read(window, 0x034, 256)
+        self.write(window, QUEUE_SEL, queue.index)
+        self.read(window, QUEUE_READY, 0)
+        self.notify(queue, NOTHING)
+        for low, high, taken in ((None, None, False), (0, 0, False), (8, 1, False), (0, 3, False), (self.offered(window), 0x45, True)):
+            self.write(window, STATUS, 0)
+            if low is not None:
+                self.write(window, DRIVER_FEATURES, low)
+                self.write(window, DRIVER_SEL, 1)
+                self.write(window, DRIVER_FEATURES, high)
+                self.write(window, DRIVER_SEL, 2)
+                self.write(window, DRIVER_FEATURES, 0xffffffff)
+            self.write(window, STATUS, 0xb)
+            self.read(window, STATUS, 0xb if taken else 3)
+        self.write(window, QUEUE_SEL, queue.index)
+        self.write(window, QUEUE_READY, 1)
+        self.read(window, QUEUE_READY, 0)
+        self.bring_up_window(window)
+        self.serves_one(queue)
 
     # --- notifications
 
@@ -595,7 +726,7 @@ def memory_refused(guest):
 # --- the contexts
 
 ALL = {"b": 0x30004244, "c": 0x30000005}
-NO_FAULTS, NO_CONSOLE = ("requests", "console", "events"), ("requests", "events")
+NO_FAULTS, NO_CONSOLE = ("requests", "console", "events", "registers"), ("requests", "events", "registers")
 BOTH_TABLES = INDIRECT_DESC | EVENT_IDX
 
 
@@ -614,22 +745,21 @@ CONTEXTS = [
     Context("a_disk_of_3_sectors_from_5_on", slot={"count": 3, "start": 5}), Context("a_disk_of_17_sectors_from_3_on", slot={"count": 17, "start": 3}, sectors=21),
     Context("a_base_of_0", slot={"base": 0}), Context("a_base_above_2_to_32", slot={"base": 0x123456789a000}),
     Context("a_memory_up_to_2_to_64", slot={"base": (1 << 64) - OUTSIDE}), Context("a_size_of_0", slot={"columns": 0, "rows": 0}, parts=("console",)),
-    Context("a_cache_of_1", cache=1), Context("a_cache_of_3", cache=3, parts=("requests",)), Context("a_cache_of_65536", cache=65536, parts=("requests",)),
+    Context("a_cache_of_1", cache=1), Context("a_cache_of_3", cache=3, parts=("requests",)),
     # the features
     Context("tables_that_may_be_used", low=both(INDIRECT_DESC)), Context("event_idx", low=both(EVENT_IDX)),
     Context("event_idx_and_tables", low=both(BOTH_TABLES), form="table"), Context("notification_data", high=VERSION_1 | NOTIFICATION_DATA),
     Context("notification_data_and_event_idx", low=both(EVENT_IDX), high=VERSION_1 | NOTIFICATION_DATA, parts=NO_FAULTS),
     Context("all_features", low=ALL, high=VERSION_1 | NOTIFICATION_DATA),
     Context("all_features_of_a_read_only_slot", slot={"mode": "ro"}, low={"b": 0x30004264, "c": 0x30000005}, high=VERSION_1 | NOTIFICATION_DATA),
-    Context("flush_negotiated", low={"b": 1 << 9, "c": 0}, parts=("requests",)), Context("write_zeroes_negotiated", low={"b": 1 << 14, "c": 0}, parts=("requests",)),
-    Context("limits_negotiated", low={"b": 0x44, "c": 0}, parts=("requests",)), Context("size_negotiated", low={"b": 0, "c": 1}, parts=("console",)),
+    Context("disk_features_alone", low={"b": 0x4244, "c": 0}, parts=("requests",)), Context("size_negotiated", low={"b": 0, "c": 1}, parts=("console",)),
     Context("emergency_write_negotiated", low={"b": 0, "c": 4}, parts=("console",)),
     # how chains stand
-    Context("tables", form="table"), Context("plain_descriptors_and_tables", form="both", kinds=("split",)),
+    Context("tables", form="table", parts=("requests", "console", "faults", "events")), Context("plain_descriptors_and_tables", form="both", kinds=("split",), parts=("requests", "console", "faults")),
     Context("a_ring_of_1", size=1, form="table"), Context("a_ring_of_2", size=2, form="table"), Context("a_ring_of_3", size=3, form="table", kinds=("packed",)),
-    Context("a_ring_of_7", size=7, kinds=("packed",)), Context("a_ring_of_16", size=16), Context("a_ring_of_128", size=128), Context("a_ring_of_256", size=256),
+    Context("a_ring_of_7", size=7, kinds=("packed",)), Context("a_ring_of_16", size=16, parts=("events", "registers")), Context("a_ring_of_128", size=128, parts=NO_FAULTS), Context("a_ring_of_256", size=256),
     Context("a_ring_of_255", size=255, kinds=("packed",)), Context("heads_from_200_on", size=256, head=200, kinds=("split",), parts=NO_FAULTS),
-    Context("areas_in_falling_order", falling=True),
+    Context("areas_in_falling_order", falling=True, parts=NO_FAULTS),
     # what comes before
     Context("the_second_round", before=serve_some(9)), Context("the_third_round", before=serve_some(18), parts=NO_FAULTS),
     Context("the_second_round_with_event_idx", low=both(EVENT_IDX), before=serve_some(9), parts=NO_FAULTS),
@@ -638,12 +768,12 @@ CONTEXTS = [
     Context("places_from_32760_on", size=256, before=serve_many(32760), parts=("events",), kinds=("split",)),
     Context("places_from_65530_on", size=256, before=serve_many(65530), parts=NO_CONSOLE, kinds=("split",)),
     Context("places_from_65530_on_with_event_idx", size=256, low=both(EVENT_IDX), before=serve_many(65530), parts=("events",), kinds=("split",)),
-    Context("a_second_life", before=again(1)), Context("a_fourth_life", before=again(3), parts=NO_CONSOLE), Context("a_life_after_faults", before=after_faults),
-    Context("a_life_after_failed", before=after_failed), Context("queues_that_were_stopped", before=stopped), Context("queue_1_selected", before=writes((0x030, 1))),
+    Context("a_second_life", before=again(1)), Context("a_fourth_life", before=again(3), parts=("events", "registers")), Context("a_life_after_faults", before=after_faults),
+    Context("a_life_after_failed", before=after_failed, parts=("events", "registers")), Context("queues_that_were_stopped", before=stopped), Context("queue_1_selected", before=writes((0x030, 1))),
     Context("no_queue_selected", before=writes((0x030, 7))), Context("selectors_at_1", before=writes((0x014, 1), (0x024, 1))),
-    Context("shm_selected", before=writes((0x0ac, 0xffffffff)), parts=NO_CONSOLE),
-    Context("a_console_that_was_resized", before=resized), Context("emergency_bytes_before", before=emergency, parts=NO_FAULTS),
-    Context("events_of_a_missing_slot_before", before=missing), Context("a_memory_event_that_was_refused", before=memory_refused, parts=NO_FAULTS),
+    Context("shm_selected", before=writes((0x0ac, 0xffffffff)), parts=("events", "registers")),
+    Context("a_console_that_was_resized", before=resized), Context("emergency_bytes_before", before=emergency, parts=("console", "registers")),
+    Context("events_of_a_missing_slot_before", before=missing), Context("a_memory_event_that_was_refused", before=memory_refused, parts=("requests", "console")),
     Context("a_failed_image_call_before", before=failed_read, fails=[0], parts=("requests", "events")),
     Context("typed_bytes_that_wait", before=pending(300), parts=NO_CONSOLE), Context("input_that_is_full", before=pending(4096), parts=NO_CONSOLE),
     Context("interrupts_that_are_never_acknowledged", acknowledges=False),
@@ -652,19 +782,20 @@ CONTEXTS = [
 ]
 
 
-# Contexts in which requests stand in rings of both kinds; in the others they do so by turns.
-IN_BOTH = {"plain", "tables", "all_features", "event_idx", "the_second_round", "a_second_life", "a_read_only_slot"}
+# Contexts in which all parts have rings of both kinds; in the others all but notifications have them by turns.
+IN_BOTH = {"plain", "all_features", "the_second_round"}
 
 
 def stories():
     for at, context in enumerate(CONTEXTS):
         for part in context.parts:
-            for kind in context.kinds if part != "requests" or context.name in IN_BOTH else [context.kinds[at % len(context.kinds)]]:
+            for kind in context.kinds if part == "events" or context.name in IN_BOTH else [context.kinds[at % len(context.kinds)]]:
                 yield of_context(context, kind, part)
 
 
 PARTS = {"requests": ("Requests, good and refused", Guest.disk), "console": ("Texts and typed bytes", Guest.console),
-         "faults": ("Faults of chains", Guest.faults), "events": ("Wanted and unwanted notifications", Guest.events)}
+         "faults": ("Faults of chains", Guest.faults), "events": ("Wanted and unwanted notifications", Guest.events),
+         "registers": ("Registers, features, status and queues' setup", Guest.registers)}
 
 
 def of_context(context, kind, part):
