@@ -28,6 +28,9 @@ TABLES = [
     "guests",
     "beside",
     "at_work",
+    "contexts",
+    "any_place",
+    "large_disks",
     "spellings",
     "words",
     "orders",
@@ -39,6 +42,13 @@ LIST_HEAD = """# The matrix
 Scenarios that `matrix/make` makes from the tables of [matrix](../../matrix), in the form of
 [the worked ones](../scenarios/README.md#what-a-pair-is). [MATRIX.md](../../MATRIX.md) says which field, bit, position and end each
 shows. Nothing here is written by hand.
+"""
+
+LARGE_HEAD = """# Large disks
+
+Scenarios of [the matrix](../../MATRIX.md) whose image is too large to be written out: **NAME.before** has `zeros N`, the number of its
+sectors, each of zeros. `run-on` and `mutants/run` run them; the gate's program, which keeps the image's text, doesn't. Nothing here is
+written by hand.
 """
 
 MATRIX_HEAD = """# The matrix of fields, positions, orders and ends
@@ -56,9 +66,9 @@ def folder_of(story):
     return story.name.split("/")[0]
 
 
-def listed(stories):
-    """data/matrix/README.md."""
-    text, folders = LIST_HEAD, {}
+def listed(stories, head):
+    """The page of data/matrix or of data/large."""
+    text, folders = head, {}
     for table in tables():
         folders.update(table.FOLDERS)
     last = None

@@ -7,8 +7,6 @@ TITLE = "Segments of a WRITE_ZEROES"
 HOW = "One of 32 segments is another, at 1, 2, 31, 32 and each power of two with its neighbours; and lists of other lengths."
 COLUMNS = ("What", "Where")
 FOLDERS = {"positions_segments": "One of 32 segments of a WRITE_ZEROES is another, at each place; and how many there may be."}
-UNSEEN = [("a count above 65536 of a large disk", "each place", "An image of more than 65536 sectors would be needed: 32 MiB.")]
-
 PLACES = places(32)
 OK, IOERR, UNSUPP = 0, 1, 2
 SECTOR = 512

@@ -71,12 +71,13 @@ class Story:
 
     `told` is what an event sets in the InterruptStatus of its window. A reset and InterruptACK clear it by themselves. `shows` has
     pairs for MATRIX.md: a field, and its bits or what else is shown of it. `fault` is what a refused trace or board ends with,
-    as `board BadBase`.
+    as `board BadBase`. `zeros` is how many sectors of zeros an image has that is too large to be written out.
     """
 
-    def __init__(self, name, about, slots=(Slot(),), cache=8, image=None, fails=None, fault=None, shows=()):
+    def __init__(self, name, about, slots=(Slot(),), cache=8, image=None, fails=None, fault=None, shows=(), zeros=0):
         self.name, self.about, self.slots, self.cache = name, about, list(slots), cache
         self.image, self.fails, self.fault, self.shows = image, fails, fault, list(shows)
+        self.zeros = zeros
         self.version = 1 if all(slot.identity is None for slot in self.slots) else 2
         self.lines, self.said = [], []
         # The image afterwards and how often it was flushed, where a rule says it.
@@ -141,14 +142,16 @@ class Story:
 
     def files(self):
         """The scenario's files by their endings; raises Disagrees where the model's answer isn't what is said."""
-        before = self.image if self.image is not None else plain_image()
+        before = bytes(self.zeros * SECTOR) if self.zeros else self.image if self.image is not None else plain_image()
         text = self.trace().encode()
         output, status, image = model.replay(text, before, set(self.fails or ()), (), reader.fault_of)
         self.compare(output, status)
         if self.leaves and self.leaves != (bytes(image.bytes), image.flushes):
             raise Disagrees(f"{self.name}: the model leaves another image, or {image.flushes} flushes")
         found = {".trace": text.decode(), ".records": f"{output}status {status}\n"}
-        if self.image is not None and self.image != plain_image():
+        if self.zeros:
+            found[".before"] = f"zeros {self.zeros}\n"
+        elif self.image is not None and self.image != plain_image():
             found[".before"] = "".join(before[at:at + SECTOR].hex() + "\n" for at in range(0, len(before), SECTOR))
         if self.fails is not None:
             found[".fails"] = "".join(f"{number}\n" for number in self.fails)

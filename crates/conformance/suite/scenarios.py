@@ -7,8 +7,8 @@ import re
 from . import trace
 
 CRATE = os.path.dirname(os.path.dirname(os.path.abspath(__file__)))
-# The worked scenarios, and those that are made from tables.
-FOLDERS = [os.path.join(CRATE, "data", name) for name in ("scenarios", "matrix")]
+# The worked scenarios, those that are made from tables, and those of these with a large image, which the gate's program doesn't replay.
+FOLDERS = [os.path.join(CRATE, "data", name) for name in ("scenarios", "matrix", "large")]
 SECTOR = 512
 
 
@@ -55,6 +55,8 @@ class Scenario:
     def image(self):
         """The image before."""
         before = self.read(".before")
+        if before is not None and before.startswith(b"zeros "):
+            return bytes(int(before.split()[1]) * SECTOR)
         if before is not None:
             return bytes.fromhex(before.decode())
         return b"".join(bytes([0x10 + sector]) * SECTOR for sector in range(8))
