@@ -1,6 +1,6 @@
-# The two commands of the README, the library and its installing, the measurements, tries from outside, the hosts of the
+# The commands of the README, the library, its installing and its packages, the measurements, tries from outside, the hosts of the
 # library, and the suite. The first sentence above a target is its line in make help.
-.PHONY: run show vshow look-test look-picture show-check test help library install uninstall bench fuzz broken trouble embed linux linux-test linux-picture stress doors peer mutants matrix
+.PHONY: run prove show vshow look-test look-picture show-check test help library install uninstall bench fuzz broken trouble embed linux linux-test linux-picture stress doors peer mutants matrix
 
 TRACE ?= examples/two-guests.trace
 IMAGE ?=
@@ -10,17 +10,16 @@ FROM ?= 0
 PREFIX ?= /usr/local
 LIBDIR ?= $(PREFIX)/lib
 INCLUDEDIR ?= $(PREFIX)/include
-PROGRAM = crates/vreplay/out/vreplay
 
-# Proves what the program stands on, builds it, and replays a trace. TRACE=FILE names another, IMAGE=FILE an
-# image to replay it over, and SAVE=FILE what the image's bytes are saved to.
+# Replays a trace by the proved program, or without a proof where none is there. TRACE=FILE names another, IMAGE=FILE an image
+# to replay it over, and SAVE=FILE what the image's bytes are saved to; SAVE wants the proved program.
 run:
-	$(if $(SAVE),$(if $(IMAGE),,$(error SAVE=FILE wants IMAGE=FILE beside it)))
-	@echo "Proving and building vreplay: some 50 minutes of processor time at first, seconds after that." >&2
-	@echo "What rt says is in crates/vreplay/out/run.log." >&2
-	@cd crates/vreplay && mkdir -p out && rt run < stdin > out/run.log 2>&1 || { tail -20 out/run.log >&2; exit 1; }
-	@echo "Replaying $(TRACE):" >&2
-	@$(if $(IMAGE),$(PROGRAM) "$(TRACE)" "$(IMAGE)" $(if $(SAVE),--save "$(SAVE)"),$(PROGRAM) < "$(TRACE)")
+	@packaging/replay "$(TRACE)" "$(IMAGE)" "$(SAVE)"
+
+# Proves what the program stands on, builds it, and replays the trace by it. The first call takes
+# some 50 minutes of processor time, a later one seconds; it shows how far it is.
+prove:
+	@packaging/replay --prove "$(TRACE)" "$(IMAGE)" "$(SAVE)"
 
 # Says what happened in a trace, in the standard's names. TRACE=FILE names it, IMAGE=FILE an image to replay it over, and
 # PAGE=FILE has it as one page to look at.
@@ -29,8 +28,7 @@ show: vshow
 
 # Proves and builds vshow.
 vshow:
-	@echo "Proving and building vshow, seconds where it was proved before. What rt says is in crates/show/out/run.log." >&2
-	@cd crates/show && mkdir -p out && rt run -- ../../examples/broken-driver.trace > out/run.log 2>&1 || { tail -20 out/run.log >&2; exit 1; }
+	@packaging/progress show vshow crates/show/out/run.log run -- ../../examples/broken-driver.trace
 	@cp crates/show/out/show crates/show/out/vshow
 
 # Opens pages of vshow in a headless Chromium, and compares what they show with the text; it wants chromium and python3.
