@@ -19,6 +19,7 @@ mod console;
 mod image;
 mod memory;
 mod registers;
+mod saved;
 
 use crate::fault::SessionFault;
 use crate::guest::GuestSpec;

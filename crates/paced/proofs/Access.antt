@@ -102,12 +102,19 @@ module _ (A : Type 0) {I : Type 0} (disk : I → Disk) (old : PacedState I) (boa
   seen_at : (found : BoardSlot) → slice_get old.board.slots h ≡ Some found → slice_get (world_of disk old.board).slots h ≡ Some (state_of (bytes_of (disk old.board.image)) found)
   seen_at found here = slice_get-map (state_of (bytes_of (disk old.board.image))) old.board.slots h ∙ ap (λ (o : Option BoardSlot). option_map (state_of (bytes_of (disk old.board.image))) o) here
 
+  -- an event that asks for no service, and puts nothing out
+  pub answered : (what : EventKind A) (reply : Reply A) → ((state : SlotState) → asked what state ≡ None) → slice_get old.paused h ≡ Some None → h < length old.board.slots
+      → Answers (world_of disk old.board) (record { slot = h; what = what }) reply [] [] (world_of disk board)
+      → Responds old.budget (paced_world disk old) (Handle (record { slot = h; what = what })) (Answered reply) [] [] (paced_world disk (record old { board = board }))
+  answered what reply none waits fits answers =
+      let found = found_at old.board.slots h fits in
+      let event : Event A = record { slot = h; what = what } in
+      begun disk old board h (turn.Answered reply) _ _ [] [] (Answered reply) event (record old { board = board }) refl waits
+      (answered_turn (world_of disk old.board) (world_of disk board) event old.budget reply _ [] [] (seen_at found.0 found.1) (none _) answers) refl (same waits)
+
   pub wrote : slice_get old.paused h ≡ Some None → h < length old.board.slots → Answers (world_of disk old.board) write Done [] [] (world_of disk board)
       → Responds old.budget (paced_world disk old) (Handle write) (Answered Done) [] [] (paced_world disk (record old { board = board }))
-  wrote waits fits answers =
-      let found = found_at old.board.slots h fits in
-      begun disk old board h (turn.Answered Done) _ _ [] [] (Answered Done) write (record old { board = board }) refl waits
-      (answered_turn (world_of disk old.board) (world_of disk board) write old.budget Done _ [] [] (seen_at found.0 found.1) refl answers) refl (same waits)
+  wrote waits fits answers = answered (MemWrite addr bytes) Done (λ state. refl) waits fits answers
 
   pub not_written : slice_get old.paused h ≡ Some None → h < length old.board.slots → (IsSomeAnd (slice_get old.board.slots h) (λ found. Inside found.memory addr (length bytes)) → ⊥) → board ≡ old.board
       → Responds old.budget (paced_world disk old) (Handle write) (Answered BadRange) [] [] (paced_world disk (record old { board = board }))
