@@ -13,14 +13,14 @@ ghost use Rattle.board.specs.Saved.{IsAs, IsCauseOf, IsLike, IsSnapshotOf};
 ghost use Rattle.board.specs.Slot.{BoardSlot};
 ghost use Rattle.board.specs.World.{KeepsOthers, disturbed_of, extents_of};
 ghost use Rattle.paced.specs.Pacing.{Handle, Responds, paced_world, paused_at, with_slot_bytes};
-ghost use Rattle.paced.specs.Restoring.{restore_response};
+ghost use Rattle.paced.specs.Restoring.{restore_response, told_of};
 ghost use Rattle.paced.specs.contracts.paced.Paced.{the_row};
 ghost use Rattle.paced.specs.declared.refusal.RestoreRefusal.{RestoreRefusal};
 
 use crate::paced::Paced;
 use crate::refusal::RestoreRefusal;
 use crate::response::Response;
-use board::{Image, Reply};
+use board::{Image, Reply, RestoreFault};
 use std::alloc::Allocator;
 
 impl<I: Image, A: Allocator + Copy> Paced<I, A> {
@@ -110,11 +110,7 @@ impl<I: Image, A: Allocator> Paced<I, A> {
         match self.waiting(slot) {
             None => Err(RestoreRefusal::BadSlot),
             Some(Some(_)) => Err(RestoreRefusal::Busy),
-            Some(None) => match self.board.restore(slot, from) {
-                Some(Ok(())) => Ok(()),
-                Some(Err(why)) => Err(RestoreRefusal::Fault(why)),
-                None => unreachable!(),
-            },
+            Some(None) => told(self.board.restore(slot, from)),
         }
     }
 
@@ -128,5 +124,16 @@ impl<I: Image, A: Allocator> Paced<I, A> {
             (λ found. result.now ≡ found.memory.bytes) }
     {
         self.board.memory_mut(slot)
+    }
+}
+
+// What is told of a restore by the board.
+fn told(restored: Option<Result<(), RestoreFault>>) -> Result<(), RestoreRefusal>
+    ensures { result ≡ told_of restored }
+{
+    match restored {
+        None => Err(RestoreRefusal::BadSlot),
+        Some(Ok(())) => Ok(()),
+        Some(Err(why)) => Err(RestoreRefusal::Fault(why)),
     }
 }
