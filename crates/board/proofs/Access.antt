@@ -1,28 +1,34 @@
--- What an embedder writes to a guest's memory between events, as the step of that event.
+-- What an embedder does to a slot between events, as the step of that event.
 use Rattle.std.proofs.Common.{◌≡◌, ◌⊎◌, inl, inr, ℕ, Bool, true, false, ◌||◌, nat_lt, arith, List, [], length, Some, refl, sym, ◌∙◌, ap}
-use Rattle.std.specs.Prelude.{AllPairs, IsSomeAnd, slice_set}
+use Rattle.std.specs.Prelude.{AllPairs, Err, IfErr, IsSomeAnd, Ok, OnErr, OnOk, Result, slice_set}
 use Rattle.std.specs.Bool.{OnTrue}
 use Rattle.std.specs.List.{slice_get}
 use Rattle.std.proofs.Math.Seq.{map-set_same}
 use Rattle.std.proofs.lemmas.Bool.Decides.{nat_tests}
 use Rattle.std.proofs.lemmas.Option.{get_or_from_slice_get}
 use Rattle.guest_memory.specs.Memory.{is_inside, put}
-use Rattle.sector_cache.specs.Disk.{Disk}
-use Rattle.board.specs.declared.event.EventKind.TheVariants.{MemWrite, Input}
+use Rattle.sector_cache.specs.Disk.{Disk, IsWhole}
+use Rattle.board.specs.declared.event.EventKind.{EventKind}
+use Rattle.board.specs.declared.event.EventKind.TheVariants.{MemWrite, Restore}
 use Rattle.board.specs.declared.pause.Pause.{Pause}
 use Rattle.board.specs.declared.pause.Turn.{Turn}
 use Rattle.board.specs.declared.pause.Turn.TheVariants.{Answered, More}
 use Rattle.board.specs.declared.reply.Reply.{Reply}
 use Rattle.board.specs.declared.reply.Reply.TheVariants.{Done, Took}
-use Rattle.board.specs.Extent.{IsApart}
-use Rattle.board.specs.Image.{bytes_of, health_of}
+use Rattle.board.specs.declared.saved.RestoreFault.{RestoreFault}
+use Rattle.board.specs.Extent.{AreSound, IsApart}
+use Rattle.board.specs.Image.{Tells, bytes_of, health_of}
 use Rattle.board.specs.Machine.{block_irq, console_irq}
 use Rattle.board.specs.Outcome.{replies}
 use Rattle.board.specs.Pausing.{met_in}
+use Rattle.board.specs.Restoring.{restore_reply}
+use Rattle.board.specs.Saved.{IsCauseOf, IsRestored}
 use Rattle.board.specs.Slot.{BoardSlot, state_of}
 use Rattle.board.specs.World.{Answers, MayGive, disturbed_of, extents_of, lacks_memory, seen}
+use Rattle.board.proofs.Blocks.{count_of}
+use Rattle.board.proofs.Restoring.{restore_given}
 use Rattle.board.proofs.Runs.{answered}
-use Rattle.board.proofs.Seats.{handles}
+use Rattle.board.proofs.Seats.{handles, slot_within}
 
 -- where a slot keeps its note of refusals, all do
 pub disturbed_kept : (slots : List BoardSlot) (h : ℕ) (slot new : BoardSlot) → slice_get slots h ≡ Some slot → new.disturbed ≡ slot.disturbed → disturbed_of (slice_set slots h new) ≡ disturbed_of slots
@@ -65,14 +71,28 @@ pub bytes_stand : (slots : List BoardSlot) (h : ℕ) (slot new : BoardSlot) (add
 bytes_stand slots h slot new addr bytes false here is = _
 bytes_stand slots h slot new addr bytes true here is = rw here (ap (λ (s : BoardSlot). slice_set slots h s) is)
 
--- what was typed to a slot's console, in which the image had no part
-pub typed_answers : (A : Type 0) (slots : List BoardSlot) (disk : Disk) (h : ℕ) (slot new : BoardSlot) (bytes : List ℕ) (reply : Reply A) →
+-- an event of a slot in which the image had no part, and which put nothing out
+pub quiet_answers : (A : Type 0) (slots : List BoardSlot) (disk : Disk) (h : ℕ) (slot new : BoardSlot) (what : EventKind A) (reply : Reply A) →
     AllPairs IsApart (extents_of slots) → slice_get slots h ≡ Some slot → new.extent ≡ slot.extent → new.disturbed ≡ slot.disturbed → lacks_memory reply ≡ false →
-    MayGive (state_of (bytes_of disk) slot) (Input bytes) (health_of disk) (health_of disk) (replies (state_of (bytes_of disk) new) reply) →
-    Answers {A = A} (seen slots disk) (record { slot = h; what = Input bytes }) reply [] [] (seen (slice_set slots h new) disk)
-typed_answers A slots disk h slot new bytes reply apart here extent note lacks given =
+    MayGive (state_of (bytes_of disk) slot) what (health_of disk) (health_of disk) (replies (state_of (bytes_of disk) new) reply) →
+    Answers {A = A} (seen slots disk) (record { slot = h; what = what }) reply [] [] (seen (slice_set slots h new) disk)
+quiet_answers A slots disk h slot new what reply apart here extent note lacks given =
     let shown = state_of (bytes_of disk) new in
     answered
-    (handles slots disk disk (record { slot = h; what = Input bytes }) slot new reply (block_irq shown) (console_irq shown) [] []
+    (handles slots disk disk (record { slot = h; what = what }) slot new reply (block_irq shown) (console_irq shown) [] []
     apart here extent (note ∙ (unmet slot.disturbed disk.failures ∙ ap (λ (b : Bool). slot.disturbed || (b || nat_lt disk.failures disk.failures)) (sym lacks))) refl
     (record { output = []; given = given; appended = refl }) refl refl)
+
+restore_lacks : (A : Type 0) (result : Result (Unit {0}) RestoreFault) → lacks_memory {A = A} (restore_reply result) ≡ false
+restore_lacks A (Ok done) = refl
+restore_lacks A (Err why) = refl
+
+-- a slot that took up a snapshot, or didn't
+pub restore_answers : (A : Type 0) (slots : List BoardSlot) (disk : Disk) (h : ℕ) (slot new : BoardSlot) (bytes : List ℕ) (result : Result (Unit {0}) RestoreFault) →
+    Tells disk → IsWhole disk → AreSound disk.sector_count (extents_of slots) → slice_get slots h ≡ Some slot → new.extent ≡ slot.extent → new.disturbed ≡ slot.disturbed →
+    OnOk result (IsRestored slot bytes new) → IfErr result (IsCauseOf slot bytes) → OnErr result (new ≡ slot) →
+    Answers {A = A} (seen slots disk) (record { slot = h; what = Restore bytes }) (restore_reply result) [] [] (seen (slice_set slots h new) disk)
+restore_answers A slots disk h slot new bytes result tells whole sound here extent note ok fault kept =
+    quiet_answers A slots disk h slot new (Restore bytes) (restore_reply result) sound.apart here extent note (restore_lacks A result)
+    (restore_given A (bytes_of disk) slot new bytes result (health_of disk)
+    (count_of slot.extent disk tells whole (slot_within disk.sector_count slots h slot sound.within here)) ok fault kept)

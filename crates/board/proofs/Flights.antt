@@ -25,7 +25,7 @@ use Rattle.block_device.specs.Operation.{LieBy, LiesInside}
 use Rattle.block_device.proofs.Unasked.{flight_outlasts}
 use Rattle.sector_cache.specs.Disk.{Disk}
 use Rattle.board.specs.declared.event.EventKind.{EventKind}
-use Rattle.board.specs.declared.event.EventKind.TheVariants.{Read, Write, MemRead, MemWrite, Input, Resize}
+use Rattle.board.specs.declared.event.EventKind.TheVariants.{Read, Write, MemRead, MemWrite, Input, Resize, Restore}
 use Rattle.board.specs.declared.hosted.reply.HostedReply.TheVariants.{Answered, Idle}
 use Rattle.board.specs.declared.reply.Reply.TheVariants as reply
 use Rattle.board.specs.Hosting.{CompletionGives, HostedState, InFlight, IsHeld, IsHeldBy, IsSoundHosted, LooksAtQueue, answers, block_beside, device_at, flight_by, hosted_slot, in_rooms, must_wait, unlimited, unseen}
@@ -48,6 +48,7 @@ keeps_queues (MemRead addr len) slot free = keeps_all slot.block
 keeps_queues (MemWrite addr bytes) slot free = keeps_all slot.block
 keeps_queues (Input bytes) slot free = keeps_all slot.block
 keeps_queues (Resize cols rows) slot free = keeps_all slot.block
+keeps_queues (Restore bytes) slot free = absurd (cc)
 
 -- what lies in a memory lies in every one of its range
 lie_still : (what : OperationKind) (capacity : ℕ) (m m' : Memory) (runs : List Segment) → SameRange m m' → LieBy what capacity m runs → LieBy what capacity m' runs
@@ -66,13 +67,13 @@ held_still slot new here extent same keeps held = record {
   });
 }
 
-held_by : {A : Type 0} (what : EventKind A) (slot new : BoardSlot) (flight : Option InFlight) → (is_some flight && must_wait what) ≡ false → new.block ≡ block_beside what slot → new.extent ≡ slot.extent → SameRange slot.memory new.memory → IsHeldBy slot flight → IsHeldBy new flight
+held_by : {A : Type 0} (what : EventKind A) (slot new : BoardSlot) (flight : Option InFlight) → (is_some flight && must_wait what) ≡ false → (must_wait what ≡ false → new.block ≡ block_beside what slot) → new.extent ≡ slot.extent → SameRange slot.memory new.memory → IsHeldBy slot flight → IsHeldBy new flight
 held_by what slot new None free block extent same held = tt
 held_by what slot new (Some here) free block extent same held =
-    held_still slot new here extent same (subst (λ (w : WindowState). KeepsQueues slot.block w) (sym block) (keeps_queues what slot free)) held
+    held_still slot new here extent same (subst (λ (w : WindowState). KeepsQueues slot.block w) (sym (block free)) (keeps_queues what slot free)) held
 
 -- An event that doesn't wait leaves the slot sound, and what is in flight as it is.
-pub sound_beside : {A : Type 0} (what : EventKind A) (slot new : BoardSlot) (flight : Option InFlight) → (is_some flight && must_wait what) ≡ false → new.block ≡ block_beside what slot → device_at new ≡ device_at slot → SameRange slot.memory new.memory → IsSoundHosted slot flight → IsSoundHosted new flight
+pub sound_beside : {A : Type 0} (what : EventKind A) (slot new : BoardSlot) (flight : Option InFlight) → (is_some flight && must_wait what) ≡ false → (must_wait what ≡ false → new.block ≡ block_beside what slot) → device_at new ≡ device_at slot → SameRange slot.memory new.memory → IsSoundHosted slot flight → IsSoundHosted new flight
 sound_beside what slot new flight free block device same sound =
     let extent : new.extent ≡ slot.extent = ap (λ (d : BlockDevice). d.extent) device in
     record {

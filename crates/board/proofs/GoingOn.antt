@@ -4,10 +4,10 @@ use Rattle.std.specs.List.{slice_get}
 use Rattle.std.proofs.lemmas.List.{map-append}
 use Rattle.board.specs.declared.event.EventKind.{EventKind}
 use Rattle.board.specs.declared.reply.Record.{Record}
-use Rattle.board.specs.Line.{IsLine, IsQuiet, Move}
+use Rattle.board.specs.Line.{IsLine, IsQuiet, Move, RanOnBoth}
 use Rattle.board.specs.Machine.{IsCourse, RunsOnItsOwn, record_of}
 use Rattle.board.specs.Outcome.{Outcome}
-use Rattle.board.specs.Saved.{HasBytesOf, IsAs, RanOnBoth}
+use Rattle.board.specs.Saved.{HasBytesOf, IsAs}
 use Rattle.board.specs.Slot.{BoardSlot, SlotState, state_of}
 use Rattle.board.specs.World.{World}
 use Rattle.board.proofs.Alone.{alone}

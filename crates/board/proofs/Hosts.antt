@@ -2,7 +2,7 @@
 use Rattle.std.proofs.Common.{◌≡◌, ℕ, Bool, true, false, Option, Some, None, List, [], refl, sym, ◌∙◌, ap, subst, append-nil}
 use Rattle.std.specs.Prelude.{◌&&◌, IsSome, is_some}
 use Rattle.board.specs.declared.event.EventKind.{EventKind}
-use Rattle.board.specs.declared.event.EventKind.TheVariants.{Read, Write, MemRead, MemWrite, Input, Resize}
+use Rattle.board.specs.declared.event.EventKind.TheVariants.{Read, Write, MemRead, MemWrite, Input, Resize, Restore}
 use Rattle.board.specs.declared.hosted.reply.HostedReply.TheVariants.{Answered, Busy}
 use Rattle.board.specs.declared.pause.Turn.TheVariants as turn
 use Rattle.board.specs.declared.reply.Reply.{Reply}
@@ -98,6 +98,7 @@ notified_within limit old (MemRead addr len) new waiting left reply is = absurd 
 notified_within limit old (MemWrite addr bytes) new waiting left reply is = absurd (cc)
 notified_within limit old (Input bytes) new waiting left reply is = absurd (cc)
 notified_within limit old (Resize cols rows) new waiting left reply is = absurd (cc)
+notified_within limit old (Restore bytes) new waiting left reply is = absurd (cc)
 
 -- ---- a slot's own disk
 

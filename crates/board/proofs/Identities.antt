@@ -8,7 +8,7 @@ use Rattle.mmio_window.specs.declared.device_kind.DeviceKind.{DeviceKind}
 use Rattle.mmio_window.specs.declared.device_kind.DeviceKind.TheVariants.{Block, Console}
 use Rattle.board.specs.declared.event.Event.{Event}
 use Rattle.board.specs.declared.event.EventKind.{EventKind}
-use Rattle.board.specs.declared.event.EventKind.TheVariants.{Read, Write, MemRead, MemWrite, Input, Resize}
+use Rattle.board.specs.declared.event.EventKind.TheVariants.{Read, Write, MemRead, MemWrite, Input, Resize, Restore}
 use Rattle.board.specs.declared.reply.Reply.TheVariants.{Bytes, BadRange}
 use Rattle.board.specs.declared.reply.Record.{Record}
 use Rattle.board.specs.Image.{Health}
@@ -19,6 +19,7 @@ use Rattle.board.specs.Slot.{SlotState}
 use Rattle.board.specs.Task.{Task, Nothing, ServeBlock, ServeReceive, ServeTransmit, PutOut, Finishes}
 use Rattle.board.specs.World.{World, IsCutShort, IsRefused, MayGive, SlotStep, MissingStep, Step, identities_of}
 use Rattle.std.proofs.lemmas.Option.{get_or_from_slice_get}
+use Rattle.board.proofs.Restoring.{restored_named}
 
 -- an outcome that is this one has its identity
 named : {A : Type 0} (outcome wanted : Outcome A) → outcome ≡ wanted → outcome.state.identity ≡ wanted.state.identity
@@ -63,6 +64,7 @@ served_named {A} state (MemRead addr len) old new outcome h = named outcome _ h.
 served_named {A} state (MemWrite addr bytes) old new outcome h = named outcome _ h.alike ∙ put_named A state addr bytes (is_inside state.memory addr (length bytes))
 served_named state (Input bytes) old new outcome h = named outcome _ h.is
 served_named state (Resize cols rows) old new outcome h = named outcome _ h.alike
+served_named state (Restore bytes) old new outcome h = restored_named state bytes outcome h.alike
 
 refused_named : {A : Type 0} (state : SlotState) (what : EventKind A) (old new : Health) (outcome : Outcome A) → IsRefused state what old new outcome → outcome.state.identity ≡ state.identity
 refused_named state (Read window offset width) old new outcome h = absurd h
@@ -72,6 +74,7 @@ refused_named state (MemRead addr len) old new outcome h = named outcome _ h.unc
 refused_named state (MemWrite addr bytes) old new outcome h = absurd h
 refused_named state (Input bytes) old new outcome h = absurd h
 refused_named state (Resize cols rows) old new outcome h = absurd h
+refused_named state (Restore bytes) old new outcome h = absurd h
 
 given_named : {A : Type 0} (state : SlotState) (what : EventKind A) (old new : Health) (outcome : Outcome A) → MayGive state what old new outcome → outcome.state.identity ≡ state.identity
 given_named state what old new outcome (inl h) = served_named state what old new outcome h.alike

@@ -287,6 +287,7 @@ refused_beside state (event.MemRead addr len) before after outcome rose h = absu
 refused_beside state (event.MemWrite addr bytes) before after outcome rose h = absurd h
 refused_beside state (event.Input bytes) before after outcome rose h = absurd h
 refused_beside state (event.Resize cols rows) before after outcome rose h = absurd h
+refused_beside state (event.Restore bytes) before after outcome rose h = absurd h
 
 given_beside : {A : Type 0} (state : SlotState) (what : EventKind A) (before after : Health) (outcome : Came A) → before.failures < after.failures → MayGive state what before after outcome → KeepsBesideDisk state outcome.state
 given_beside state what before after outcome rose (inl h) = let same : after.failures ≡ before.failures = h.failures in absurd (omega arith)
@@ -445,6 +446,7 @@ refused_lacks state (event.MemRead addr len) old new outcome lacks h = record { 
 refused_lacks state (event.MemWrite addr bytes) old new outcome lacks h = absurd h
 refused_lacks state (event.Input bytes) old new outcome lacks h = absurd h
 refused_lacks state (event.Resize cols rows) old new outcome lacks h = absurd h
+refused_lacks state (event.Restore bytes) old new outcome lacks h = absurd h
 
 given_lacks : {A : Type 0} (state : SlotState) (what : EventKind A) (old new : Health) (outcome : Came A) → outcome.reply ≡ NoMemory → MayGive state what old new outcome → Lacks state old new outcome
 given_lacks state what old new outcome lacks (inl h) = absurd (h.answered lacks)

@@ -1,4 +1,6 @@
 pub mod Guests
+pub mod Saving
+pub mod Restoring
 pub mod OneRun
 pub mod Blocks
 pub mod Outside
@@ -19,7 +21,6 @@ pub mod Turns
 pub mod Whole
 pub mod Answered
 pub mod Belonging
-pub mod Saving
 pub mod GoingOn
 pub mod Flights
 pub mod Beside

@@ -23,6 +23,7 @@ had_memory (reply.Bytes bs) had = refl
 had_memory (reply.Took count) had = refl
 had_memory reply.BadSlot had = refl
 had_memory reply.BadRange had = refl
+had_memory reply.BadState had = refl
 had_memory reply.NoMemory had = absurd (had refl)
 
 -- no refusal was met, as a test and as two facts

@@ -51,13 +51,13 @@ saved_as items (Err why) slot saved front back sound is pending block console te
 
 -- ---- what takes it up
 
-abbrev read_as : SavedSlot × List ℕ → Result (SavedSlot × List ℕ) SnapshotFault
+abbrev pub read_as : SavedSlot × List ℕ → Result (SavedSlot × List ℕ) SnapshotFault
 read_as x = Ok x
 
-same_read : (r : Result (SavedSlot × List ℕ) SnapshotFault) (x y : SavedSlot × List ℕ) → r ≡ read_as x → r ≡ read_as y → x ≡ y
+pub same_read : (r : Result (SavedSlot × List ℕ) SnapshotFault) (x y : SavedSlot × List ℕ) → r ≡ read_as x → r ≡ read_as y → x ≡ y
 same_read r x y a b = cc
 
-same_window : (r : Option WindowState) (w v : WindowState) → r ≡ Some w → r ≡ Some v → w ≡ v
+pub same_window : (r : Option WindowState) (w v : WindowState) → r ≡ Some w → r ≡ Some v → w ≡ v
 same_window r w v a b = cc
 
 suits_it : (slot other : BoardSlot) (bytes : List ℕ) → IsSnapshotOf bytes slot → IsLike slot other
@@ -87,7 +87,7 @@ as_saved slot old new bytes saved is like e takes =
     = same_window _ _ _ (ap (window_restored Console old.memory) (sym console_saved) ∙ takes.console) (is.console old.memory like.memory) in
     takes.is ∙ rw (block, console, pending_saved, cols_saved, rows_saved, like.read_only, like.identity) refl
 
-none_some : (r : Option WindowState) (w : WindowState) → r ≡ None → r ≡ Some w → ⊥
+pub none_some : (r : Option WindowState) (w : WindowState) → r ≡ None → r ≡ Some w → ⊥
 none_some r w a b = cc
 
 not_prevented : (slot old : BoardSlot) (bytes : List ℕ) (why : RestoreFault) → IsSnapshotOf bytes slot → IsLike slot old
@@ -116,7 +116,7 @@ pub restored_of : (old new : BoardSlot) (bytes : List ℕ) (saved : SavedSlot) (
 restored_of old new bytes saved pending (Ok done) read takes = record { saved = saved; pending = pending; read = read; takes_up = takes }
 restored_of old new bytes saved pending (Err why) read takes = tt
 
-fault_not_read : (r : Result (SavedSlot × List ℕ) SnapshotFault) (x : SavedSlot × List ℕ) (fault : SnapshotFault) → r ≡ Err fault → r ≡ read_as x → ⊥
+pub fault_not_read : (r : Result (SavedSlot × List ℕ) SnapshotFault) (x : SavedSlot × List ℕ) (fault : SnapshotFault) → r ≡ Err fault → r ≡ read_as x → ⊥
 fault_not_read r x fault a b = cc
 
 -- and no snapshot of a slot is refused as none

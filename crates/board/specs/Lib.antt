@@ -8,11 +8,12 @@ pub mod Image
 pub mod Extent
 pub mod Slot
 pub mod Outcome
+pub mod Saved
+pub mod Restoring
 pub mod Task
 pub mod Machine
 pub mod World
 pub mod Line
-pub mod Saved
 pub mod Fault
 pub mod Pausing
 pub mod Within

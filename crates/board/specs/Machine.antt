@@ -12,11 +12,12 @@ use Rattle.block_device.specs.Config as block
 use Rattle.console_device.specs.Config as console
 use Rattle.console_device.specs.Input.{fitting}
 use Rattle.board.specs.declared.event.EventKind.{EventKind}
-use Rattle.board.specs.declared.event.EventKind.TheVariants.{Read, Write, MemRead, MemWrite, Input, Resize}
+use Rattle.board.specs.declared.event.EventKind.TheVariants.{Read, Write, MemRead, MemWrite, Input, Resize, Restore}
 use Rattle.board.specs.declared.reply.Reply.TheVariants.{Value, Bytes, BadRange, Took}
 use Rattle.board.specs.declared.reply.Record.{Record}
 use Rattle.board.specs.Image.{Health, sectors_of}
 use Rattle.board.specs.Outcome.{Outcome, replies, does, IsDetermined}
+use Rattle.board.specs.Restoring.{Restores}
 use Rattle.board.specs.Slot.{SlotState}
 use Rattle.board.specs.Task.{Task, task_of, IsReceiveService, Finishes}
 
@@ -95,6 +96,7 @@ Gives state (Input bytes) before after outcome =
     IsReceiveService (with_input bytes state) (Took (fitting state.pending bytes)) before after outcome
 Gives state (Resize cols rows) before after outcome =
     IsDetermined outcome (does (resized cols rows state)) before after
+Gives state (Restore bytes) before after outcome = Restores state bytes before after outcome
 
 -- ---- a guest alone
 

@@ -1,6 +1,5 @@
 -- The snapshot of a slot, and what a slot becomes that takes one up.
-use Rattle.std.specs.Prelude.{◌≡◌, ℕ, IsOkAnd, None, Some, Ok, Err, List, length, ◌++◌}
-use Rattle.std.specs.List.{slice_get}
+use Rattle.std.specs.Prelude.{◌≡◌, ℕ, IsOkAnd, None, Some, Ok, Err, List, length}
 use Rattle.guest_memory.specs.Memory.{Memory, SameRange}
 use Rattle.mmio_window.specs.declared.device_kind.DeviceKind.{DeviceKind}
 use Rattle.mmio_window.specs.declared.device_kind.DeviceKind.TheVariants.{Block, Console}
@@ -12,10 +11,7 @@ use Rattle.snapshot.specs.Reading.{snapshot_at}
 use Rattle.snapshot.specs.Spelling.{snapshot}
 use Rattle.board.specs.declared.saved.RestoreFault.{RestoreFault}
 use Rattle.board.specs.declared.saved.RestoreFault.TheVariants.{Snapshot, OtherSlot, BadBlock, BadConsole}
-use Rattle.board.specs.Line.{Move, events_of, own_events, own_records, records_of}
-use Rattle.board.specs.Machine.{RunsOnItsOwn}
-use Rattle.board.specs.Slot.{BoardSlot, SlotState, block_features, console_features}
-use Rattle.board.specs.World.{World}
+use Rattle.board.specs.Slot.{BoardSlot, block_features, console_features}
 
 -- ---- what is saved
 
@@ -117,12 +113,3 @@ IsAs slot old new = new ≡ record slot { memory = old.memory; extent = old.exte
 pub record HasBytesOf (slot : BoardSlot) (bytes : List ℕ) (old : BoardSlot) (other : List ℕ) : Type 0 where
   pub memory : old.memory ≡ slot.memory
   pub disk : extent_of other old.extent.start old.extent.count ≡ extent_of bytes slot.extent.start slot.extent.count
-
--- Guest g was on one board through these moves, and then on another through those: together that is one run of it on
--- its own, from the state that it was first in.
-pub record RanOnBoth {A : Type 0} (g : ℕ) (state : SlotState) (moves moves' : List (Move A)) (new' : World) : Type 0 where
-  pub last : SlotState
-  pub own :
-      RunsOnItsOwn g state (own_events g (events_of moves) ++ own_events g (events_of moves'))
-      (own_records g (records_of moves) ++ own_records g (records_of moves')) last
-  pub state_after : slice_get new'.slots g ≡ Some last

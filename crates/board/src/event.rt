@@ -50,4 +50,8 @@ pub enum EventKind<A: Allocator = Global> {
         cols: u16,
         rows: u16,
     },
+    /// The guest's devices are put into the state that a snapshot has.
+    Restore {
+        bytes: Bytes<A>,
+    },
 }

@@ -20,6 +20,8 @@ pub enum Reply<A: Allocator = Global> {
     BadSlot,
     /// Not all of the range lies inside the slot's memory. Nothing changed.
     BadRange,
+    /// The bytes are no snapshot that the slot takes up. Nothing changed.
+    BadState,
     /// There was no memory for the answer.
     NoMemory,
 }

@@ -234,6 +234,7 @@ impl<A: Allocator + Copy> Slot<A> {
                 };
             }
             EventKind::Resize { cols, rows } => self.resize(*cols, *rows),
+            EventKind::Restore { bytes } => self.answer_restore(bytes.as_slice()),
         };
         Answer {
             turn: Turn::Answered(reply),

@@ -14,7 +14,7 @@ use Rattle.mmio_window.specs.declared.device_kind.DeviceKind.{DeviceKind}
 use Rattle.block_device.specs.declared.extent.Extent.{Extent}
 use Rattle.board.specs.declared.event.Event.{Event}
 use Rattle.board.specs.declared.event.EventKind.{EventKind}
-use Rattle.board.specs.declared.event.EventKind.TheVariants.{Read, Write, MemRead, MemWrite, Input, Resize}
+use Rattle.board.specs.declared.event.EventKind.TheVariants.{Read, Write, MemRead, MemWrite, Input, Resize, Restore}
 use Rattle.board.specs.declared.pause.Pause.{Pause}
 use Rattle.board.specs.declared.pause.Turn.{Turn}
 use Rattle.board.specs.declared.pause.Turn.TheVariants as turn
@@ -25,6 +25,7 @@ use Rattle.board.specs.Extent.{outside_of, outside_from}
 use Rattle.board.specs.Image.{Health, bytes_of}
 use Rattle.board.specs.Machine.{record_of, task_at, with_write}
 use Rattle.board.specs.Outcome.{Outcome, replies}
+use Rattle.board.specs.Restoring.{IsRestoring}
 use Rattle.board.specs.Pausing.{Begins, GoesOn, HasLimit, asked}
 use Rattle.board.specs.Slot.{SlotState, BoardSlot, state_of}
 use Rattle.board.specs.Task.{Task, Nothing, ServeBlock, ServeReceive, ServeTransmit, PutOut, Finishes}
@@ -73,6 +74,10 @@ write_suits : (A : Type 0) (state after : SlotState) (addr : ℕ) (bytes : List 
 write_suits A state after addr bytes true = tt
 write_suits A state after addr bytes false = tt
 
+restore_suits : {A : Type 0} (state : SlotState) (bytes : List ℕ) (outcome : Outcome A) → IsRestoring state bytes outcome → Suits (Restore bytes) outcome.reply
+restore_suits {A} state bytes outcome (inl taken) = subst (λ (r : Reply A). Suits (Restore bytes) r) (sym (ap (λ (o : Outcome A). o.reply) taken.1)) tt
+restore_suits {A} state bytes outcome (inr refused) = subst (λ (r : Reply A). Suits (Restore bytes) r) (sym (ap (λ (o : Outcome A). o.reply) refused.1)) tt
+
 pub given_suits : {A : Type 0} (state : SlotState) (what : EventKind A) (old new : Health) (outcome : Outcome A) → MayGive state what old new outcome → Suits what outcome.reply
 given_suits state (Read window offset width) old new outcome (inl served) = rw served.alike.alike tt
 given_suits state (Write window offset width value) old new outcome (inl served) = finished_suits window offset width value _ _ old new outcome served.alike
@@ -80,12 +85,14 @@ given_suits {A} state (MemRead addr len) old new outcome (inl served) = rw serve
 given_suits {A} state (MemWrite addr bytes) old new outcome (inl served) = rw served.alike.alike (write_suits A state _ addr bytes _)
 given_suits {A} state (Input bytes) old new outcome (inl served) = rw (ap (λ (o : Outcome A). o.reply) served.alike.is) tt
 given_suits state (Resize cols rows) old new outcome (inl served) = rw served.alike.alike tt
+given_suits state (Restore bytes) old new outcome (inl served) = restore_suits state bytes outcome served.alike.alike
 given_suits state (Read window offset width) old new outcome (inr never) = absurd never
 given_suits state (Write window offset width value) old new outcome (inr cut) = cut_suits window offset width value _ _ old new outcome cut
 given_suits {A} state (MemRead addr len) old new outcome (inr unread) = rw unread.unchanged tt
 given_suits {A} state (MemWrite addr bytes) old new outcome (inr never) = absurd never
 given_suits state (Input bytes) old new outcome (inr never) = absurd never
 given_suits state (Resize cols rows) old new outcome (inr never) = absurd never
+given_suits state (Restore bytes) old new outcome (inr never) = absurd never
 
 suits_bad_slot : {A : Type 0} (what : EventKind A) → Suits what BadSlot
 suits_bad_slot what = tt
@@ -111,6 +118,10 @@ write_is_silent A state after false = refl
 not_of_window : {A : Type 0} (window : DeviceKind) (offset width value : ℕ) (reply : Reply A) → Suits (Write window offset width value) reply → reply ≡ BadRange → ⊥
 not_of_window {A} window offset width value reply suits is = subst (λ (r : Reply A). Suits (Write window offset width value) r) is suits
 
+restore_is_silent : {A : Type 0} (state : SlotState) (bytes : List ℕ) (outcome : Outcome A) → IsRestoring state bytes outcome → outcome.output ≡ []
+restore_is_silent {A} state bytes outcome (inl taken) = ap (λ (o : Outcome A). o.output) taken.1
+restore_is_silent {A} state bytes outcome (inr refused) = ap (λ (o : Outcome A). o.output) refused.1
+
 given_silent : {A : Type 0} (state : SlotState) (what : EventKind A) (old new : Health) (outcome : Outcome A) → MayGive state what old new outcome → outcome.reply ≡ BadRange → outcome.output ≡ []
 given_silent {A} state (Read window offset width) old new outcome (inl served) is = ap (λ (o : Outcome A). o.output) served.alike.alike
 given_silent {A} state (MemRead addr len) old new outcome (inl served) is = ap (λ (o : Outcome A). o.output) served.alike.alike ∙ read_is_silent A state _ _
@@ -122,6 +133,8 @@ given_silent {A} state (MemRead addr len) old new outcome (inr unread) is = ap (
 given_silent state (MemWrite addr bytes) old new outcome (inr never) is = absurd never
 given_silent state (Input bytes) old new outcome (inr never) is = absurd never
 given_silent state (Resize cols rows) old new outcome (inr never) is = absurd never
+given_silent state (Restore bytes) old new outcome (inl served) is = restore_is_silent state bytes outcome served.alike.alike
+given_silent state (Restore bytes) old new outcome (inr never) is = absurd never
 given_silent state (Write window offset width value) old new outcome given is =
     absurd (not_of_window window offset width value outcome.reply (given_suits state (Write window offset width value) old new outcome given) is)
 
@@ -296,6 +309,7 @@ lacks_puts state (MemRead addr len) why h = absurd why
 lacks_puts state (MemWrite addr bytes) why h = h
 lacks_puts state (Input bytes) why h = h
 lacks_puts state (Resize cols rows) why h = h
+lacks_puts state (Restore bytes) why h = h
 
 lacks_at : {A : Type 0} (o : Option BoardSlot) (image : List ℕ) (slot : BoardSlot) (what : EventKind A) → o ≡ Some slot → IsSomeAnd o (λ s. (bytes : List ℕ) → MayLackMemory (state_of bytes s) what) → MayLackMemory (state_of image slot) what
 lacks_at o image slot what is h = (rw is at h) image
@@ -315,6 +329,7 @@ paused_suits (MemRead addr len) budget state before after new output (turn.More 
 paused_suits (MemWrite addr bytes) budget state before after new output (turn.More pause) told h = h
 paused_suits (Input bytes) budget state before after new output (turn.More pause) told h = tt
 paused_suits (Resize cols rows) budget state before after new output (turn.More pause) told h = h
+paused_suits (Restore bytes) budget state before after new output (turn.More pause) told h = h
 
 -- what stands in a place stays where it is put there again
 pub stays : {X : Type 0} (xs : List X) (h : ℕ) (x : X) → slice_get xs h ≡ Some x → slice_set xs h x ≡ xs
@@ -712,9 +727,13 @@ responded_paused budget call old new response before after r = as_many_paused bu
 
 -- ---- an event that puts nothing out, whose call touches no output
 
--- what is typed, and a write of memory, put nothing out
+-- what is typed, a restore and a write of memory put nothing out
 pub quiet_input : {A : Type 0} (limit : ℕ) (bytes : List ℕ) (budget : Budget) (found after : SlotState) (waiting left : List ℕ) (t : Turn A) → BeginsWithin limit (Input bytes) budget found after waiting left t
 quiet_input limit bytes budget found after waiting left t = tt
+
+pub quiet_restore : {A : Type 0} (limit : ℕ) (bytes : List ℕ) (budget : Budget) (found after : SlotState) (waiting left : List ℕ) (t : Turn A) → BeginsWithin limit (Restore bytes) budget found after waiting left t
+quiet_restore limit bytes budget found after waiting left (turn.Answered reply) = tt
+quiet_restore limit bytes budget found after waiting left (turn.More pause) = tt
 
 pub quiet_write : {A : Type 0} (limit addr : ℕ) (bytes : List ℕ) (budget : Budget) (found after : SlotState) (waiting left : List ℕ) (t : Turn A) → BeginsWithin limit (MemWrite addr bytes) budget found after waiting left t
 quiet_write limit addr bytes budget found after waiting left (turn.Answered reply) = tt

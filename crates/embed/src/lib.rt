@@ -3,7 +3,7 @@
 //!
 //! `hosted` is a session whose guests' disks the host serves.
 //!
-//! `session` is the session, a module for each kind of call: `registers`, `memory`, `console` and `image`. `guest` is
+//! `session` is the session, a module for each kind of call: `registers`, `memory`, `console`, `image` and `saved`. `guest` is
 //! what it is made of, and `output_queue` keeps what a console put out. `fault` says why there is no session, `refusal`
 //! why a call was refused, and `typed` what became of input.
 #![tactic(auto)]
@@ -19,7 +19,8 @@ mod typed;
 
 pub use block_device::{Operation, OperationKind, Verdict};
 pub use board::{
-    BoardFault, Budget, CacheFault, DeviceKind, Extent, GuestMemory, MemoryFault, SlotSpec,
+    BoardFault, Budget, CacheFault, DeviceKind, Extent, GuestMemory, MemoryFault, RestoreFault,
+    SlotSpec,
 };
 pub use chain::Segment;
 pub use fault::SessionFault;
@@ -32,7 +33,7 @@ pub use laws::{
     a_guest_with_room_runs_alone, a_guest_with_room_runs_alone_where_services_pause,
     a_write_in_place_is_an_event, each_guest_is_alone, the_outlet_decides,
 };
-pub use paced::Progress;
+pub use paced::{Progress, RestoreRefusal};
 pub use refusal::Refusal;
 pub use session::Session;
 pub use typed::Typed;

@@ -19,6 +19,7 @@ mod console;
 mod image;
 mod memory;
 mod registers;
+mod saved;
 
 use crate::fault::{SessionFault, why_not};
 use crate::guest::{GuestSpec, are_outlets, outputs, slots};

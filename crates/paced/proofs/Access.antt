@@ -1,6 +1,6 @@
--- A write to a guest's memory without an event, as the turn of its event.
+-- A write to a guest's memory and a restore without an event, as the turn of their event.
 use Rattle.std.proofs.Common.{◌≡◌, inl, ℕ, zero, suc, ◌<◌, Bool, true, false, List, [], ◌∷◌, Option, Some, None, length, refl, sym, ◌∙◌, ap, subst, arith}
-use Rattle.std.specs.Prelude.{MatchOption, IsSomeAnd, slice_set}
+use Rattle.std.specs.Prelude.{◌↔◌, Ok, Err, MatchOption, IfSome, IsOk, IsSome, IsSomeAnd, Result, slice_set}
 use Rattle.std.specs.Bool.{OnTrue, OnFalse}
 use Rattle.std.specs.List.{slice_get}
 use Rattle.std.specs.Option.{option_map}
@@ -12,20 +12,23 @@ use Rattle.chain.specs.declared.budget.Budget.{Budget}
 use Rattle.sector_cache.specs.Disk.{Disk}
 use Rattle.board.specs.declared.event.Event.{Event}
 use Rattle.board.specs.declared.event.EventKind.{EventKind}
-use Rattle.board.specs.declared.event.EventKind.TheVariants.{MemWrite}
+use Rattle.board.specs.declared.event.EventKind.TheVariants.{MemWrite, Restore}
 use Rattle.board.specs.declared.pause.Turn.TheVariants as turn
 use Rattle.board.specs.declared.reply.Reply.{Reply}
-use Rattle.board.specs.declared.reply.Reply.TheVariants.{Done, BadRange}
+use Rattle.board.specs.declared.reply.Reply.TheVariants.{Done, BadRange, BadState}
 use Rattle.board.specs.declared.reply.Record.{Record}
+use Rattle.board.specs.declared.saved.RestoreFault.{RestoreFault}
 use Rattle.board.specs.Image.{Health, bytes_of}
 use Rattle.board.specs.Machine.{block_irq, console_irq}
 use Rattle.board.specs.Outcome.{Outcome}
 use Rattle.board.specs.Pausing.{Begins, TakesTurn, asked}
+use Rattle.board.specs.Restoring.{restore_reply}
 use Rattle.board.specs.Slot.{BoardSlot, SlotState, state_of}
 use Rattle.board.specs.World.{Answers, BoardState, KeepsOthers, MayGive, MissingStep, SlotStep, World, extents_of, world_of}
 use Rattle.board.proofs.Seats.{extents_of-set, noted_none, others_kept}
 use Rattle.paced.specs.declared.response.Response.TheVariants.{Answered}
 use Rattle.paced.specs.Pacing.{Handle, PacedState, Responds, paced_world}
+use Rattle.paced.specs.Restoring.{restore_response, told_of}
 use Rattle.paced.proofs.Turns.{begun}
 
 -- what stands in a place stays where it is put there again
@@ -102,12 +105,19 @@ module _ (A : Type 0) {I : Type 0} (disk : I → Disk) (old : PacedState I) (boa
   seen_at : (found : BoardSlot) → slice_get old.board.slots h ≡ Some found → slice_get (world_of disk old.board).slots h ≡ Some (state_of (bytes_of (disk old.board.image)) found)
   seen_at found here = slice_get-map (state_of (bytes_of (disk old.board.image))) old.board.slots h ∙ ap (λ (o : Option BoardSlot). option_map (state_of (bytes_of (disk old.board.image))) o) here
 
+  -- an event that asks for no service, and puts nothing out
+  pub answered : (what : EventKind A) (reply : Reply A) → ((state : SlotState) → asked what state ≡ None) → slice_get old.paused h ≡ Some None → h < length old.board.slots
+      → Answers (world_of disk old.board) (record { slot = h; what = what }) reply [] [] (world_of disk board)
+      → Responds old.budget (paced_world disk old) (Handle (record { slot = h; what = what })) (Answered reply) [] [] (paced_world disk (record old { board = board }))
+  answered what reply none waits fits answers =
+      let found = found_at old.board.slots h fits in
+      let event : Event A = record { slot = h; what = what } in
+      begun disk old board h (turn.Answered reply) _ _ [] [] (Answered reply) event (record old { board = board }) refl waits
+      (answered_turn (world_of disk old.board) (world_of disk board) event old.budget reply _ [] [] (seen_at found.0 found.1) (none _) answers) refl (same waits)
+
   pub wrote : slice_get old.paused h ≡ Some None → h < length old.board.slots → Answers (world_of disk old.board) write Done [] [] (world_of disk board)
       → Responds old.budget (paced_world disk old) (Handle write) (Answered Done) [] [] (paced_world disk (record old { board = board }))
-  wrote waits fits answers =
-      let found = found_at old.board.slots h fits in
-      begun disk old board h (turn.Answered Done) _ _ [] [] (Answered Done) write (record old { board = board }) refl waits
-      (answered_turn (world_of disk old.board) (world_of disk board) write old.budget Done _ [] [] (seen_at found.0 found.1) refl answers) refl (same waits)
+  wrote waits fits answers = answered (MemWrite addr bytes) Done (λ state. refl) waits fits answers
 
   pub not_written : slice_get old.paused h ≡ Some None → h < length old.board.slots → (IsSomeAnd (slice_get old.board.slots h) (λ found. Inside found.memory addr (length bytes)) → ⊥) → board ≡ old.board
       → Responds old.budget (paced_world disk old) (Handle write) (Answered BadRange) [] [] (paced_world disk (record old { board = board }))
@@ -129,3 +139,23 @@ pub keeps : {I : Type 0} (old new : BoardState I) (h addr : ℕ) (bytes : List �
     → OnFalse done (new ≡ old) → (extents_of new.slots ≡ extents_of old.slots) × KeepsOthers h old.slots new.slots
 keeps old new h addr bytes true is kept = written_extents old.slots new.slots h addr bytes (slice_get old.slots h) refl is
 keeps old new h addr bytes false is kept = rw kept (refl, λ other differ. refl)
+
+-- ---- a restore
+
+module _ (r : Option (Result (Unit {0}) RestoreFault)) where
+  pub restored : (A : Type 0) {I : Type 0} (disk : I → Disk) (old : PacedState I) (board : BoardState I) (h : ℕ) (bytes : List ℕ) → (IsSome r ↔ (h < length old.board.slots))
+      → IfSome r (λ d. Answers {A = A} (world_of disk old.board) (record { slot = h; what = Restore bytes }) (restore_reply d) [] [] (world_of disk board))
+      → slice_get old.paused h ≡ Some None → h < length old.board.slots
+      → Responds {A = A} old.budget (paced_world disk old) (Handle (record { slot = h; what = Restore bytes })) (restore_response (told_of r)) [] [] (paced_world disk (record old { board = board }))
+  restored A disk old board h bytes there answers waits fits = restored_at r refl
+    where
+      restored_at : (o : Option (Result (Unit {0}) RestoreFault)) → r ≡ o
+          → Responds {A = A} old.budget (paced_world disk old) (Handle (record { slot = h; what = Restore bytes })) (restore_response (told_of o)) [] [] (paced_world disk (record old { board = board }))
+      restored_at None is = let some = there.1 fits in absurd (cc)
+      restored_at (Some (Ok done)) is = answered A disk old board h 0 bytes (Restore bytes) Done (λ state. refl) waits fits (rw is at answers)
+      restored_at (Some (Err why)) is = answered A disk old board h 0 bytes (Restore bytes) BadState (λ state. refl) waits fits (rw is at answers)
+
+pub taken_told : (r : Option (Result (Unit {0}) RestoreFault)) → IsSomeAnd r IsOk → IsOk (told_of r)
+taken_told None ok = absurd ok
+taken_told (Some (Ok done)) ok = refl
+taken_told (Some (Err why)) ok = ok

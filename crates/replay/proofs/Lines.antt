@@ -106,7 +106,7 @@ next_is e left rest said after more takes =
     let whole : event_line e ++ 10 ∷ after ≡ event_line e ++ 10 ∷ joined (map event_line left) =
     ap (λ (l : List ℕ). l ++ 10 ∷ after) (sym same) ∙ sym takes.ended ∙ more.spelled ∙ append_assoc (event_line e) (10 ∷ []) (joined (map event_line left)) in
     record {
-      fields = sym (cut_event e fine.fits) ∙ ap fields_of (sym same) ∙ takes.fields;
+      fields = sym (cut_event e fine) ∙ ap fields_of (sym same) ∙ takes.fields;
       fine = fine;
       more = record { fine = λ k d lt. more.fine (suc k) d (omega arith); spelled = ap (drop 1) (append_cancel_left (event_line e) (10 ∷ after) (10 ∷ joined (map event_line left)) whole) };
     }

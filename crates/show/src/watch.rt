@@ -152,6 +152,7 @@ impl Watcher {
                 head.count(*count as u64);
             }
             Reply::BadRange => head.say(" -> outside memory"),
+            Reply::BadState => head.say(" -> no such snapshot"),
             Reply::NoMemory => head.say(" -> no memory"),
             Reply::BadSlot => head.say(" -> no such guest"),
             _ => {}

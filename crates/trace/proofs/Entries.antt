@@ -13,7 +13,7 @@ use Rattle.trace.specs.declared.word.Word.{Word}
 use Rattle.trace.specs.declared.word.Word.TheVariants.{Cache, Slot, Read, Write, MemRead, MemWrite, Input, Resize}
 use Rattle.trace.specs.Cuts.{fields_of}
 use Rattle.trace.specs.Faults.{AllSay, AreAsMany, MayStand, order, fault_of}
-use Rattle.trace.specs.Printable.{EventInRange, KindInRange, IsPrintableKind, SlotInRange}
+use Rattle.trace.specs.Printable.{KindInRange, IsPrintableKind, SlotInRange}
 use Rattle.trace.specs.Refusals.{IsFine}
 use Rattle.trace.specs.Spelling.{num, fixed, bytes, window, mode, width_digit}
 use Rattle.trace.specs.Text.{line, cache_fields, cache_line, slot_fields, slot_line, event_fields, event_line, what_fields}
@@ -221,6 +221,7 @@ entered_what version slot (what.Resize cols rows) lt range fine =
           (number 8 slot lt, (number 16 cols range.across, (number 16 rows range.down, tt)))
           (above_num slot, (above_num cols, (above_num rows, tt)));
     }
+entered_what version slot (what.Restore bs) lt range fine = absurd fine
 
 pub entered_event : {A : Type 0} (version : ℕ) (e : Event A) → IsFine e → EnteredEvent version (event_line e)
 unfolding event_line
@@ -236,22 +237,23 @@ pub cut_slot : (version : ℕ) (s : SlotSpec) → SlotInRange s → fields_of (s
 unfolding slot_line
 cut_slot version s h = fields_of-line (spelled Slot) (slot_rest version s) (above_word Slot, slot_above version s h)
 
-cut_what : {A : Type 0} (slot : ℕ) (w : EventKind A) → KindInRange w → fields_of (line (what_fields slot w)) ≡ what_fields slot w
-cut_what slot (what.Read kind offset width) range =
+cut_what : {A : Type 0} (slot : ℕ) (w : EventKind A) → KindInRange w → IsPrintableKind w → fields_of (line (what_fields slot w)) ≡ what_fields slot w
+cut_what slot (what.Read kind offset width) range fine =
     fields_of-line (spelled Read) (num slot ∷ window kind ∷ fixed 3 offset ∷ width_digit width ∷ [])
     (above_word Read, (above_num slot, (above_window kind, (above_fixed 3 offset, ((omega arith, tt), tt)))))
-cut_what slot (what.Write kind offset width value) range =
+cut_what slot (what.Write kind offset width value) range fine =
     fields_of-line (spelled Write) (num slot ∷ window kind ∷ fixed 3 offset ∷ width_digit width ∷ fixed (2 * width) value ∷ [])
     (above_word Write, (above_num slot, (above_window kind, (above_fixed 3 offset, ((omega arith, tt), (above_fixed (2 * width) value, tt))))))
-cut_what slot (what.MemRead addr len) range =
+cut_what slot (what.MemRead addr len) range fine =
     fields_of-line (spelled MemRead) (num slot ∷ num addr ∷ num len ∷ []) (above_word MemRead, (above_num slot, (above_num addr, (above_num len, tt))))
-cut_what slot (what.MemWrite addr bs) range =
+cut_what slot (what.MemWrite addr bs) range fine =
     fields_of-line (spelled MemWrite) (num slot ∷ num addr ∷ bytes bs ∷ []) (above_word MemWrite, (above_num slot, (above_num addr, (bytes_digits bs range.each, tt))))
-cut_what slot (what.Input bs) range =
+cut_what slot (what.Input bs) range fine =
     fields_of-line (spelled Input) (num slot ∷ bytes bs ∷ []) (above_word Input, (above_num slot, (bytes_digits bs range.each, tt)))
-cut_what slot (what.Resize cols rows) range =
+cut_what slot (what.Resize cols rows) range fine =
     fields_of-line (spelled Resize) (num slot ∷ num cols ∷ num rows ∷ []) (above_word Resize, (above_num slot, (above_num cols, (above_num rows, tt))))
+cut_what slot (what.Restore bs) range fine = absurd fine
 
-pub cut_event : {A : Type 0} (e : Event A) → EventInRange e → fields_of (event_line e) ≡ event_fields e
+pub cut_event : {A : Type 0} (e : Event A) → IsFine e → fields_of (event_line e) ≡ event_fields e
 unfolding event_line
-cut_event e h = cut_what e.slot e.what h.what
+cut_event e h = cut_what e.slot e.what h.fits.what h.printable

@@ -44,6 +44,7 @@ by_what slot (event.Input bs) field h =
     let is = h.said.1 in
     record { kind = event.Input spelled; fields_are = rw (← is.spelled) refl; len = spelled_len field spelled is; range = record { each = is.fits }; printable = tt }
 by_what slot (event.Resize cols rows) field h = plain slot (event.Resize cols rows) field h refl refl
+by_what slot (event.Restore bs) field h = absurd h.printable
 
 -- what is said is an event's
 pub meant : {A : Type 0} (s : Said A) → IsFineSaid s → Meant (said_fields s) s
@@ -61,4 +62,4 @@ pub cut_said : {A : Type 0} (s : Said A) → IsFineSaid s → fields_of (said_li
 unfolding said_line event_line
 cut_said s h =
     let it = meant s h in
-    ap (λ (fs : List (List ℕ)). fields_of (line fs)) (sym it.fields_are) ∙ cut_event it.event it.fine.fits ∙ it.fields_are
+    ap (λ (fs : List (List ℕ)). fields_of (line fs)) (sym it.fields_are) ∙ cut_event it.event it.fine ∙ it.fields_are

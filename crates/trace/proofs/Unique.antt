@@ -165,6 +165,13 @@ same_what m n (what.Resize a r) (what.Write l p x v') rv rw' fv fw e = absurd (o
 same_what m n (what.Resize a r) (what.MemRead b t) rv rw' fv fw e = absurd (omega (arith, ap sign e))
 same_what m n (what.Resize a r) (what.MemWrite b ys) rv rw' fv fw e = absurd (omega (arith, ap sign e))
 same_what m n (what.Resize a r) (what.Input ys) rv rw' fv fw e = absurd (omega (arith, ap sign e))
+same_what m n (what.Restore xs) w rv rw' fv fw e = absurd fv
+same_what m n (what.Read k o w) (what.Restore ys) rv rw' fv fw e = absurd fw
+same_what m n (what.Write k o w u) (what.Restore ys) rv rw' fv fw e = absurd fw
+same_what m n (what.MemRead a r) (what.Restore ys) rv rw' fv fw e = absurd fw
+same_what m n (what.MemWrite a xs) (what.Restore ys) rv rw' fv fw e = absurd fw
+same_what m n (what.Input xs) (what.Restore ys) rv rw' fv fw e = absurd fw
+same_what m n (what.Resize a r) (what.Restore ys) rv rw' fv fw e = absurd fw
 
 pub same_event_fields : {A : Type 0} (d e : Event A) → IsFine d → IsFine e → event_fields d ≡ event_fields e → d ≡ e
 same_event_fields d e fd fe h =
@@ -175,7 +182,7 @@ same_slot_line : (version : ℕ) (s t : SlotSpec) → IsVersion version → IsFi
 same_slot_line version s t one_of fs ft e = same_slot_fields version s t one_of fs ft (sym (cut_slot version s fs.fits) ∙ ap fields_of e ∙ cut_slot version t ft.fits)
 
 same_event_line : {A : Type 0} (d e : Event A) → IsFine d → IsFine e → event_line d ≡ event_line e → d ≡ e
-same_event_line d e hd he h = same_event_fields d e hd he (sym (cut_event d hd.fits) ∙ ap fields_of h ∙ cut_event e he.fits)
+same_event_line d e hd he h = same_event_fields d e hd he (sym (cut_event d hd) ∙ ap fields_of h ∙ cut_event e he)
 
 -- a slot's line is no event's
 other_line : {A : Type 0} (version : ℕ) (s : SlotSpec) (e : Event A) → IsFineSlot version s → IsFine e → slot_line version s ≡ event_line e → ⊥

@@ -2,7 +2,7 @@
 use Rattle.std.specs.Prelude.{◌≡◌, ℕ, ◌*◌, ◌^◌, ◌<◌, List, All, ⊤, length}
 use Rattle.board.specs.declared.event.Event.{Event}
 use Rattle.board.specs.declared.event.EventKind.{EventKind}
-use Rattle.board.specs.declared.event.EventKind.TheVariants.{Read, Write, MemRead, MemWrite, Input, Resize}
+use Rattle.board.specs.declared.event.EventKind.TheVariants.{Read, Write, MemRead, MemWrite, Input, Resize, Restore}
 use Rattle.board.specs.declared.spec.SlotSpec.{SlotSpec}
 use Rattle.trace.specs.Text.{Content}
 use Rattle.trace.specs.Version.{IsVersion, identity_in_version_1}
@@ -18,7 +18,7 @@ pub record IsWriteAccess (offset width value : ℕ) : Type 0 where
   pub access : IsAccess offset width
   pub within : value < 2 ^ (8 * width)
 
--- what has a spelling
+-- what has a spelling; a restore has none in these versions
 abbrev pub IsPrintableKind : {A : Type 0} → EventKind A → Type 0
 IsPrintableKind (Read kind offset width) = IsAccess offset width
 IsPrintableKind (Write kind offset width value) = IsWriteAccess offset width value
@@ -26,6 +26,7 @@ IsPrintableKind (MemRead addr len) = ⊤
 IsPrintableKind (MemWrite addr bs) = ⊤
 IsPrintableKind (Input bs) = ⊤
 IsPrintableKind (Resize cols rows) = ⊤
+IsPrintableKind (Restore bs) = ⊥
 
 -- a slot that has a line in a version: version 1 leaves its identity out
 abbrev pub IsPrintableSlot : ℕ → SlotSpec → Type 0
@@ -71,6 +72,7 @@ KindInRange (MemRead addr len) = RangeInRange addr len
 KindInRange (MemWrite addr bs) = BytesInRange addr bs
 KindInRange (Input bs) = InputInRange bs
 KindInRange (Resize cols rows) = SizeInRange cols rows
+KindInRange (Restore bs) = ⊤
 
 pub record EventInRange {A : Type 0} (e : Event A) : Type 0 where
   pub slot : e.slot < 2 ^ 8

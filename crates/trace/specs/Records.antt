@@ -14,6 +14,7 @@ reply_field (reply.Bytes bs) = codes "b:" ++ bytes bs
 reply_field (reply.Took n) = codes "took:" ++ num n
 reply_field reply.BadSlot = codes "badslot"
 reply_field reply.BadRange = codes "badrange"
+reply_field reply.BadState = codes "badstate"
 reply_field reply.NoMemory = codes "nomem"
 
 -- the slot, the reply, the console output, and InterruptStatus of both windows by one digit each

@@ -60,7 +60,7 @@ input_fields slot bs = spelled Input ∷ num slot ∷ bytes bs ∷ []
 abbrev pub resize_fields : ℕ → ℕ → ℕ → List (List ℕ)
 resize_fields slot cols rows = spelled Resize ∷ num slot ∷ num cols ∷ num rows ∷ []
 
--- the fields of what a slot does
+-- the fields of what a slot does; a restore has none
 abbrev pub what_fields : {A : Type 0} → ℕ → EventKind A → List (List ℕ)
 what_fields slot (what.Read kind offset width) = read_fields slot kind offset width
 what_fields slot (what.Write kind offset width value) = write_fields slot kind offset width value
@@ -68,6 +68,7 @@ what_fields slot (what.MemRead addr len) = mem_read_fields slot addr len
 what_fields slot (what.MemWrite addr bs) = mem_write_fields slot addr bs
 what_fields slot (what.Input bs) = input_fields slot bs
 what_fields slot (what.Resize cols rows) = resize_fields slot cols rows
+what_fields slot (what.Restore bs) = []
 
 abbrev pub event_fields : {A : Type 0} → Event A → List (List ℕ)
 event_fields e = what_fields e.slot e.what

@@ -84,6 +84,7 @@ fn has_line<A: Allocator>(what: &EventKind<A>) -> bool
         | EventKind::MemWrite { .. }
         | EventKind::Input { .. }
         | EventKind::Resize { .. } => true,
+        EventKind::Restore { .. } => false,
     }
 }
 
@@ -239,5 +240,6 @@ fn event_says<A: Allocator>(event: &Event<A>) -> (Word, LineFields<'_>)
             (fields.columns, fields.rows) = (*cols, *rows);
             (Word::Resize, fields)
         }
+        EventKind::Restore { .. } => unreachable!(),
     }
 }

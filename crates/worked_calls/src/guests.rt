@@ -97,9 +97,10 @@ impl<'h, B: Allocator> Guests<'h, B> {
     // An event of the session or the board.
     fn event(&mut self, line: &str, answer: &mut String) -> Result<(), Stuck> {
         if self.session.is_some() {
-            self.call_event(line, answer)
+            let event = event_of(self.alloc, line)?;
+            self.call_event(&event, answer)
         } else {
-            self.handle(line, answer)
+            self.handle(event_of(self.heap, line)?, answer)
         }
     }
 }

@@ -1,10 +1,13 @@
 //! A slot's devices, saved from one board and restored to another.
 
-ghost use Rattle.std.specs.Prelude.{◌≡◌, ◌↔◌, ◌<◌, IsOk, IsSome, IfSome, IfNone, IsSomeAnd, IfOk, OnOk, OnErr, IfErr, length, slice_set};
+ghost use Rattle.std.specs.Prelude.{◌≡◌, ◌↔◌, ◌<◌, [], IsOk, IsSome, IfSome, IfNone, IsSomeAnd, IfOk, OnOk, OnErr, IfErr, length, slice_set};
 ghost use Rattle.std.specs.List.{slice_get};
 ghost use Rattle.board.specs.Saved.{IsAs, IsCauseOf, IsLike, IsRestored, IsSnapshotOf};
+ghost use Rattle.board.specs.declared.event.EventKind.{EventKind};
+ghost use Rattle.board.specs.Image.{Tells};
+ghost use Rattle.board.specs.Restoring.{restore_reply};
 ghost use Rattle.board.specs.Slot.{BoardSlot};
-ghost use Rattle.board.specs.World.{KeepsOthers, extents_of};
+ghost use Rattle.board.specs.World.{Answers, KeepsOthers, disturbed_of, extents_of, world_of};
 
 use crate::board::Board;
 use crate::saved::RestoreFault;
@@ -25,8 +28,8 @@ impl<I: Image, A: Allocator + Copy> Board<I, A> {
 }
 
 impl<I: Image, A: Allocator> Board<I, A> {
-    /// The slot takes up the snapshot of one of the same description. There is no answer for a slot that isn't there.
-    /// What is refused changes nothing.
+    /// The slot takes up the snapshot of one of the same description: the event of that restore, for who has the
+    /// bytes in a slice. There is no answer for a slot that isn't there. What is refused changes nothing.
     pub fn restore(&mut self, slot: u8, from: &[u8]) -> Option<Result<(), RestoreFault>>
         ensures there { IsSome result ↔ (slot < length self.old.slots) }
         ensures ok { (new : BoardSlot) → slice_get self.new.slots slot ≡ Some new → IfSome result (λ done. OnOk done
@@ -40,11 +43,18 @@ impl<I: Image, A: Allocator> Board<I, A> {
             slice_get self.old.slots slot ≡ Some old → slice_get self.new.slots slot ≡ Some new → IsLike saved old →
             IsSomeAnd result IsOk × IsAs saved old new }
 
+        // it is the step of that event
+        ensures step { Tells (I.disk self.old.image) → IfSome result (λ done.
+            Answers {A = A} (world_of I.disk self.old)
+            (record { slot = slot; what = EventKind.Restore from.now }) (restore_reply done) [] []
+            (world_of I.disk self.new)) }
+
         ensures kept { IfSome result (λ done. OnErr done (self.new ≡ self.old)) }
         ensures missing { IfNone result (self.new ≡ self.old) }
         ensures others { KeepsOthers slot self.old.slots self.new.slots }
         ensures extents { extents_of self.new.slots ≡ extents_of self.old.slots }
         ensures image { self.new.image ≡ self.old.image }
+        ensures disturbed { disturbed_of self.new.slots ≡ disturbed_of self.old.slots }
     {
         let found = self.slots.get_mut(slot as usize)?;
         Some(found.restore(from))

@@ -175,7 +175,7 @@ fn flight_of(hosted: Hosted) -> Option<Flight>
     }
 }
 
-// Whether an event waits for what is in flight: a write of the block window that may stop its queue.
+// Whether an event waits for what is in flight: a write of the block window that may stop its queue, or a restore.
 fn waits<A: Allocator>(what: &EventKind<A>) -> bool
     ensures { result ≡ must_wait what.now }
 {
@@ -185,6 +185,7 @@ fn waits<A: Allocator>(what: &EventKind<A>) -> bool
             offset,
             ..
         } => may_stop_queues(*offset),
+        EventKind::Restore { .. } => true,
         _ => false,
     }
 }

@@ -1,7 +1,7 @@
 //! A slot whose disk the host serves: the events in which the disk has no part, and the block device's looks at its
 //! queue.
 
-ghost use Rattle.std.specs.Prelude.{◌≡◌, ◌≢◌, ◌<◌, ◌*◌, ◌^◌, ℕ, List, Some, is_none, IfSome, IfNone};
+ghost use Rattle.std.specs.Prelude.{◌≡◌, ◌≢◌, ◌<◌, ◌*◌, ◌^◌, ℕ, List, Some, false, is_none, IfSome, IfNone};
 ghost use Rattle.guest_memory.specs.Memory.{SameRange};
 ghost use Rattle.mmio_window.specs.declared.stage.Stage.{Stage};
 ghost use Rattle.mmio_window.specs.Window.{queue_at};
@@ -13,7 +13,7 @@ ghost use Rattle.board.specs.declared.event.EventKind.{EventKind};
 ghost use Rattle.board.specs.declared.pause.Pause.{Pause};
 ghost use Rattle.board.specs.declared.pause.Service.{Service};
 ghost use Rattle.board.specs.declared.pause.Turn.{Turn};
-ghost use Rattle.board.specs.Hosting.{block_beside, device_at, notifies_block, unlimited};
+ghost use Rattle.board.specs.Hosting.{block_beside, device_at, must_wait, notifies_block, unlimited};
 ghost use Rattle.board.specs.Image.{Health, sectors_of};
 ghost use Rattle.board.specs.Pausing.{Begins, ComesTo, HasLimit, ServesTurn, readied};
 ghost use Rattle.board.specs.Slot.{state_of};
@@ -52,7 +52,7 @@ impl<A: Allocator + Copy> Slot<A> {
         ensures limited { IfSome result (λ turn. (next : Pause) → turn ≡ Turn.More next → HasLimit budget) }
         ensures limit { O.limit out.new ≡ O.limit out.old }
         ensures device { device_at self.new ≡ device_at self.old }
-        ensures block { self.new.block ≡ block_beside what.now self.old }
+        ensures block { must_wait what.now ≡ false → self.new.block ≡ block_beside what.now self.old }
         ensures range { SameRange self.old.memory self.new.memory }
     {
         let reply = match what {
@@ -71,6 +71,7 @@ impl<A: Allocator + Copy> Slot<A> {
             EventKind::MemWrite { addr, bytes } => self.write_memory(*addr, bytes.as_slice()),
             EventKind::Input { bytes } => return Some(self.input(bytes.as_slice(), budget)),
             EventKind::Resize { cols, rows } => self.resize(*cols, *rows),
+            EventKind::Restore { bytes } => self.answer_restore(bytes.as_slice()),
         };
         Some(Turn::Answered(reply))
     }

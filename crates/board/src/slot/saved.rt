@@ -1,12 +1,19 @@
 //! A slot's snapshot, and a slot that takes one up.
 
-ghost use Rattle.std.specs.Prelude.{◌≡◌, ◌↔◌, ◌≤◌, IfErr, IfOk, IsOk, IsTrue, OnErr, OnOk, Some, length};
+ghost use Rattle.std.specs.Prelude.{◌≡◌, ◌≢◌, ◌↔◌, ◌≤◌, ℕ, IfErr, IfOk, IsOk, IsTrue, List, OnErr, OnOk, Some, length};
 ghost use Rattle.guest_memory.specs.Memory.{Memory};
 ghost use Rattle.mmio_window.specs.Saved.{window_restored};
 ghost use Rattle.mmio_window.specs.Soundness.{IsSound};
 ghost use Rattle.board.specs.Saved.{IsAs, IsCauseOf, IsLike, IsRestored, IsSnapshotOf, OffersFeatures, Prevents, Suits, TakesUp, saved_slot};
-ghost use Rattle.board.specs.Slot.{BoardSlot};
+ghost use Rattle.board.specs.declared.event.EventKind.{EventKind};
+ghost use Rattle.board.specs.declared.reply.Reply.{Reply};
+ghost use Rattle.board.specs.Hosting.{device_at};
+ghost use Rattle.board.specs.Image.{Health, sectors_of};
+ghost use Rattle.board.specs.Outcome.{replies};
+ghost use Rattle.board.specs.Slot.{BoardSlot, state_of};
+ghost use Rattle.board.specs.World.{MayGive};
 
+use crate::reply::Reply;
 use crate::saved::RestoreFault;
 use crate::slot::Slot;
 use mmio_window::{DeviceKind, Window};
@@ -51,12 +58,35 @@ impl<A: Allocator> Slot<A> {
         ensures fault { IfErr result (IsCauseOf self.old from.now) }
         ensures kept { OnErr result (self.new ≡ self.old) }
         ensures extent { self.new.extent ≡ self.old.extent }
+        ensures device { device_at self.new ≡ device_at self.old }
+        ensures memory { self.new.memory ≡ self.old.memory }
+        ensures disturbed { self.new.disturbed ≡ self.old.disturbed }
         ensures taken { (slot : BoardSlot) → IsSnapshotOf from.now slot → IsLike slot self.old →
             IsOk result × IsAs slot self.old self.new }
     {
         match snapshot::read(from) {
             Ok((saved, pending)) => self.take_up(&saved, pending),
             Err(fault) => Err(RestoreFault::Snapshot(fault)),
+        }
+    }
+
+    /// Takes up a snapshot, and answers what the event of that restore is answered.
+    pub(super) fn answer_restore(&mut self, from: &[u8]) -> Reply<A>
+        ensures given { (image : List ℕ) (health : Health) →
+            sectors_of (state_of image self.old).extent ≡ self.old.extent.count →
+            MayGive (state_of image self.old) (EventKind.Restore from.now) health health
+            (replies (state_of image self.new) result) }
+        ensures extent { self.new.extent ≡ self.old.extent }
+        ensures device { device_at self.new ≡ device_at self.old }
+        ensures memory { self.new.memory ≡ self.old.memory }
+        ensures disturbed { self.new.disturbed ≡ self.old.disturbed }
+        ensures there { result ≢ Reply.BadSlot }
+        ensures in_range { result ≢ Reply.BadRange }
+        ensures no_memory { result ≢ Reply.NoMemory }
+    {
+        match self.restore(from) {
+            Ok(()) => Reply::Done,
+            Err(_) => Reply::BadState,
         }
     }
 
@@ -68,6 +98,9 @@ impl<A: Allocator> Slot<A> {
         ensures offers { OffersFeatures self.old }
         ensures kept { OnErr result (self.new ≡ self.old) }
         ensures extent { self.new.extent ≡ self.old.extent }
+        ensures device { device_at self.new ≡ device_at self.old }
+        ensures memory { self.new.memory ≡ self.old.memory }
+        ensures disturbed { self.new.disturbed ≡ self.old.disturbed }
     {
         if !self.suits(saved) {
             return Err(RestoreFault::OtherSlot);

@@ -1,20 +1,26 @@
 //! Calls for a slot without an event, for a caller that has the bytes in a slice. A slot whose service is paused stays as
 //! it is.
 
-ghost use Rattle.std.specs.Prelude.{◌≡◌, ◌≢◌, ◌↔◌, ◌<◌, ◌≤◌, length, [], None, IsSomeAnd};
+ghost use Rattle.std.specs.Prelude.{◌≡◌, ◌≢◌, ◌↔◌, ◌<◌, ◌≤◌, length, [], None, Some, IsErrOf, IsOk, IsSomeAnd, OnErr};
 ghost use Rattle.std.specs.Borrow.{sem, u8, Array, Lends};
 ghost use Rattle.std.specs.List.{slice_get};
 ghost use Rattle.board.specs.declared.event.EventKind.{EventKind};
 ghost use Rattle.board.specs.declared.reply.Reply.{Reply};
 ghost use Rattle.board.specs.Image.{Tells};
+ghost use Rattle.board.specs.declared.saved.RestoreFault.{RestoreFault};
 ghost use Rattle.board.specs.Pausing.{HasLimit};
+ghost use Rattle.board.specs.Saved.{IsAs, IsCauseOf, IsLike, IsSnapshotOf};
+ghost use Rattle.board.specs.Slot.{BoardSlot};
 ghost use Rattle.board.specs.World.{KeepsOthers, disturbed_of, extents_of};
 ghost use Rattle.paced.specs.Pacing.{Handle, Responds, paced_world, paused_at, with_slot_bytes};
+ghost use Rattle.paced.specs.Restoring.{restore_response, told_of};
 ghost use Rattle.paced.specs.contracts.paced.Paced.{the_row};
+ghost use Rattle.paced.specs.declared.refusal.RestoreRefusal.{RestoreRefusal};
 
 use crate::paced::Paced;
+use crate::refusal::RestoreRefusal;
 use crate::response::Response;
-use board::{Image, Reply};
+use board::{Image, Reply, RestoreFault};
 use std::alloc::Allocator;
 
 impl<I: Image, A: Allocator + Copy> Paced<I, A> {
@@ -78,6 +84,36 @@ impl<I: Image, A: Allocator> Paced<I, A> {
         }
     }
 
+    /// The slot takes up a snapshot of one of the same description: `step` for that restore. What is refused changes
+    /// nothing.
+    pub fn restore(&mut self, slot: u8, from: &[u8]) -> Result<(), RestoreRefusal>
+        ensures responds { Tells (I.disk self.old.board.image) →
+            Responds {A = A} self.old.budget (paced_world I.disk self.old)
+            (Handle (record { slot = slot; what = EventKind.Restore from.now })) (restore_response result) [] []
+            (paced_world I.disk self.new) }
+
+        // what was saved of a slot is taken by every idle slot of its description, and brings it to its state
+        ensures taken { (saved old new : BoardSlot) → IsSnapshotOf from.now saved →
+            slice_get self.old.board.slots slot ≡ Some old → slice_get self.new.board.slots slot ≡ Some new →
+            IsLike saved old → paused_at self.old.paused slot ≡ None → IsOk result × IsAs saved old new }
+        ensures kept { OnErr result (self.new ≡ self.old) }
+        ensures missing { IsErrOf result RestoreRefusal.BadSlot ↔ (length self.old.board.slots ≤ slot) }
+        ensures busy { IsErrOf result RestoreRefusal.Busy → ¬ (paused_at self.old.paused slot ≡ None) }
+        ensures fault { (why : RestoreFault) → IsErrOf result (RestoreRefusal.Fault why) →
+            IsSomeAnd (slice_get self.old.board.slots slot) (λ old. IsCauseOf old from.now why) }
+        ensures image { self.new.board.image ≡ self.old.board.image }
+        ensures paused { self.new.paused ≡ self.old.paused }
+        ensures budget { self.new.budget ≡ self.old.budget }
+        ensures extents { extents_of self.new.board.slots ≡ extents_of self.old.board.slots }
+        ensures others { KeepsOthers slot self.old.board.slots self.new.board.slots }
+    {
+        match self.waiting(slot) {
+            None => Err(RestoreRefusal::BadSlot),
+            Some(Some(_)) => Err(RestoreRefusal::Busy),
+            Some(None) => told(self.board.restore(slot, from)),
+        }
+    }
+
     /// The bytes of the slot's memory, to be read and written while no service of the slot is paused.
     pub fn memory_mut(&mut self, slot: u8) -> &mut [u8]
         requires there { slot < length self.old.board.slots }
@@ -88,5 +124,16 @@ impl<I: Image, A: Allocator> Paced<I, A> {
             (λ found. result.now ≡ found.memory.bytes) }
     {
         self.board.memory_mut(slot)
+    }
+}
+
+// What is told of a restore by the board.
+fn told(restored: Option<Result<(), RestoreFault>>) -> Result<(), RestoreRefusal>
+    ensures { result ≡ told_of restored }
+{
+    match restored {
+        None => Err(RestoreRefusal::BadSlot),
+        Some(Ok(())) => Ok(()),
+        Some(Err(why)) => Err(RestoreRefusal::Fault(why)),
     }
 }

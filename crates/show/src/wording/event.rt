@@ -17,6 +17,7 @@ pub fn say_place(text: &mut Text, what: &EventKind) {
         },
         EventKind::MemRead { .. } | EventKind::MemWrite { .. } => " memory: ",
         EventKind::Input { .. } | EventKind::Resize { .. } => " console: ",
+        EventKind::Restore { .. } => " devices: ",
     });
 }
 
@@ -58,6 +59,10 @@ pub fn say_event(text: &mut Text, what: &EventKind) {
             text.count(u64::from(*cols));
             text.say(" by ");
             text.count(u64::from(*rows));
+        }
+        EventKind::Restore { bytes } => {
+            text.say("are restored from ");
+            text.counted(bytes.as_slice().len() as u64, "byte");
         }
     }
 }

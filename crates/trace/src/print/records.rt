@@ -214,6 +214,7 @@ fn put_reply<W: Write, A: Allocator, B: Allocator>(
         }
         Reply::BadSlot => buffer.put(out, b"badslot"),
         Reply::BadRange => buffer.put(out, b"badrange"),
+        Reply::BadState => buffer.put(out, b"badstate"),
         Reply::NoMemory => buffer.put(out, b"nomem"),
     }
 }

@@ -3,7 +3,7 @@
 ghost use Rattle.std.specs.Prelude.{All};
 ghost use Rattle.board.specs.Line.{HasInterruptWords};
 
-use super::{Guests, event_of};
+use super::Guests;
 use crate::answer::{put_flag, put_number, put_word};
 use crate::subject::Stuck;
 use crate::words::Words;
@@ -79,9 +79,13 @@ impl<'h, B: Allocator> Guests<'h, B> {
     }
 
     /// Handles an event, with room for its record and the nth request for other memory refused: the record.
-    pub(super) fn handle(&mut self, line: &str, answer: &mut String) -> Result<(), Stuck> {
+    pub(super) fn handle(
+        &mut self,
+        event: Event<&'h RefusingHeap<B>>,
+        answer: &mut String,
+    ) -> Result<(), Stuck> {
         let mut events = Vec::with_capacity(self.heap, 1)?;
-        events.push(event_of(self.heap, line)?)?;
+        events.push(event)?;
         let board = self.board.as_mut().ok_or(Stuck::Conditions)?;
         let mut records = Vec::with_capacity(self.heap, 1)?;
         self.heap.refuse_from(self.refused);

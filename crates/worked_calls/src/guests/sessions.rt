@@ -1,10 +1,10 @@
 //! A session, after whose making the heap refuses all.
 
-use super::{Guests, event_of};
+use super::Guests;
 use crate::answer::{put_bytes, put_number, put_result, put_word};
 use crate::subject::Stuck;
 use crate::words::Words;
-use board::EventKind;
+use board::{Event, EventKind};
 use embed::{Budget, GuestSpec, Progress, Refusal, Session, SessionFault, Typed};
 use refusing::RefusingHeap;
 use std::alloc::{Allocator, Global};
@@ -90,8 +90,7 @@ impl<'h, B: Allocator> Guests<'h, B> {
     }
 
     /// Makes the call of an event.
-    pub(super) fn call_event(&mut self, line: &str, answer: &mut String) -> Result<(), Stuck> {
-        let event = event_of(self.alloc, line)?;
+    pub(super) fn call_event(&mut self, event: &Event, answer: &mut String) -> Result<(), Stuck> {
         let session = self.session.as_mut().ok_or(Stuck::Conditions)?;
         answer_event(self.alloc, session, event.slot, &event.what, answer)
     }
@@ -198,6 +197,7 @@ fn answer_event<A: Allocator + Copy>(
         }
         EventKind::Input { bytes } => put_typed(answer, session.input(slot, bytes.as_slice())),
         EventKind::Resize { cols, rows } => put_result(answer, session.resize(slot, *cols, *rows)),
+        EventKind::Restore { bytes } => put_result(answer, session.restore(slot, bytes.as_slice())),
     }
 }
 

@@ -1,10 +1,10 @@
-//! A slot of a board, saved as a snapshot and restored.
+//! A slot of a board or a session, saved as a snapshot and restored.
 
 use super::Guests;
 use crate::answer::{put_bytes, put_result, put_word};
 use crate::subject::Stuck;
 use crate::words::Words;
-use board::{Board, Image, RestoreFault};
+use board::{Board, Bytes, Event, EventKind, Image, RestoreFault};
 use std::alloc::{AllocError, Allocator};
 
 impl<'h, B: Allocator> Guests<'h, B> {
@@ -18,6 +18,7 @@ impl<'h, B: Allocator> Guests<'h, B> {
         match word {
             "save" => self.save(words, answer)?,
             "restore" => self.restore(words, answer)?,
+            "restore_event" => self.restore_event(words, answer)?,
             _ => return Ok(false),
         }
         Ok(true)
@@ -37,11 +38,30 @@ impl<'h, B: Allocator> Guests<'h, B> {
     fn restore(&mut self, words: &mut Words<'_>, answer: &mut String) -> Result<(), Stuck> {
         let slot = words.u8()?;
         let bytes = words.bytes(self.alloc)?;
+        if let Some(session) = self.session.as_mut() {
+            return put_result(answer, session.restore(slot, &bytes));
+        }
         let board = self.board.as_mut().ok_or(Stuck::Conditions)?;
         match restored(board, slot, &bytes) {
             Some(outcome) => put_result(answer, outcome),
             None => put_word(answer, "none"),
         }
+    }
+
+    // The event of that.
+    fn restore_event(&mut self, words: &mut Words<'_>, answer: &mut String) -> Result<(), Stuck> {
+        let slot = words.u8()?;
+        let from = words.bytes(self.alloc)?;
+        if self.session.is_some() {
+            let what = EventKind::Restore {
+                bytes: Bytes::from(from),
+            };
+            return self.call_event(&Event { slot, what }, answer);
+        }
+        let what = EventKind::Restore {
+            bytes: Bytes::from(from.to_vec(self.heap)?),
+        };
+        self.handle(Event { slot, what }, answer)
     }
 }
 

@@ -7,7 +7,7 @@ use Rattle.board.specs.declared.reply.Reply.TheVariants.{Took}
 use Rattle.board.specs.Slot.{state_of}
 use Rattle.board.proofs.Whole.{whole}
 use Rattle.board.specs.World.{disturbed_of, extents_of}
-use Rattle.board.proofs.Access.{disturbed_kept, typed_answers}
+use Rattle.board.proofs.Access.{disturbed_kept, quiet_answers}
 use Rattle.board.proofs.Seats.{extents_of-set, others_kept}
 use Rattle.board.proofs.board.Board.input.Goals as goal
 
@@ -21,7 +21,7 @@ returns-clause-step g c tells =
     let disk = g.I.Image.disk c.self.inside.cache in
     let slot = c.in-Some.found.now in
     rw (← c.self.view_is)
-    (typed_answers _ c.self.inside.slots.items disk c.args.slot slot c.input.new.self c.args.bytes.now (Took c.in-Answered-Took.taken)
+    (quiet_answers _ c.self.inside.slots.items disk c.args.slot slot c.input.new.self (Input c.args.bytes.now) (Took c.in-Answered-Took.taken)
     c.self.invariant.apart (slice_get_read c.self.inside.slots.items (length c.self.inside.slots.items) c.args.slot slot refl (omega (arith, c.in-Some.ensures.variant.0 refl)) c.in-Some.ensures.value) c.input.ensures.extent c.input.ensures.disturbed refl
     (whole (Input c.args.bytes.now) _ (state_of (bytes_of disk) slot) (health_of disk) (health_of disk) (state_of (bytes_of disk) c.input.new.self) [] (Took c.in-Answered-Took.taken)
     (rw (c.in-Answered-Took.is, c.in-Answered-Took.field-0-is) at (c.input.ensures.comes (bytes_of disk) (health_of disk)))))

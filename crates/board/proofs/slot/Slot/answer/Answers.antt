@@ -5,7 +5,7 @@ use Rattle.board.specs.Slot.{state_of}
 use Rattle.board.proofs.Blocks.{count_of, read_given}
 use Rattle.board.proofs.Turns.{comes_first, silent_answer}
 use Rattle.board.proofs.slot.Slot.answer.Goals as goal
-use Rattle.board.proofs.slot.Slot.answer.Goals.{in-Read, in-MemRead, in-MemWrite, in-Resize}
+use Rattle.board.proofs.slot.Slot.answer.Goals.{in-Read, in-MemRead, in-MemWrite, in-Resize, in-Restore}
 
 pub returns-in-Input-clause-serves : goal.returns-in-Input-clause-serves
 returns-in-Input-clause-serves g c = λ tells.
@@ -28,4 +28,8 @@ returns-clause-serves g c = λ tells.
       | in-MemRead w ↦ rw (w.self-is, w.reply-is, w.in-MemRead.is) (silent_answer _ c.args.budget _ _ _ _ _ out refl (w.read_memory-reply.ensures.given bytes (health_of old)))
       | in-MemWrite w ↦ rw (w.self-is, w.reply-is, w.in-MemWrite.is, ← w.as_slice.ensures) (silent_answer _ c.args.budget _ _ _ _ _ out refl (w.write_memory-reply.ensures.given bytes (health_of old)))
       | in-Resize w ↦ rw (w.self-is, w.reply-is, w.in-Resize.is) (silent_answer _ c.args.budget _ _ _ _ _ out refl (w.resize-reply.ensures.given bytes (health_of old)))
+      | in-Restore w ↦
+          rw (w.self-is, w.reply-is, w.in-Restore.is, ← w.as_slice-in-Restore.ensures)
+          (silent_answer _ c.args.budget _ _ _ _ _ out refl
+          (w.answer_restore-reply.ensures.given bytes (health_of old) (count_of slot.extent old tells (g.met.I.Image.whole c.args.cache.now) c.requires.lies)))
     ]

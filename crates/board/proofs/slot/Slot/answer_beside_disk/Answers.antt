@@ -1,12 +1,17 @@
-use Rattle.std.proofs.Common.{refl, ap}
-use Rattle.board.specs.declared.event.EventKind.TheVariants.{Input}
-use Rattle.board.specs.Hosting.{device_at}
+use Rattle.std.proofs.Common.{◌≡◌, ℕ, List, false, refl, ap}
+use Rattle.board.specs.declared.event.EventKind.{EventKind}
+use Rattle.board.specs.declared.event.EventKind.TheVariants.{Input, Restore}
+use Rattle.board.specs.Hosting.{device_at, must_wait}
 use Rattle.board.specs.Slot.{BoardSlot, state_of}
 use Rattle.board.proofs.Beside.{range_of, same_range}
 use Rattle.board.proofs.Blocks.{read_given}
 use Rattle.board.proofs.Turns.{comes_first, silent_answer}
 use Rattle.board.proofs.slot.Slot.answer_beside_disk.Goals as goal
-use Rattle.board.proofs.slot.Slot.answer_beside_disk.Goals.{in-Read, in-MemRead, in-MemWrite, in-Resize}
+use Rattle.board.proofs.slot.Slot.answer_beside_disk.Goals.{in-Read, in-MemRead, in-MemWrite, in-Resize, in-Restore}
+
+-- a restore waits
+waits : {A : Type 0} {what : EventKind A} {bytes : List ℕ} → what ≡ Restore bytes → must_wait what ≡ false → ⊥
+waits is free = let said = rw is at free in absurd (cc said)
 
 pub returns-in-Input-clause-serves : goal.returns-in-Input-clause-serves
 returns-in-Input-clause-serves g c = λ image health filled.
@@ -18,7 +23,7 @@ pub returns-in-Input-clause-device : goal.returns-in-Input-clause-device
 returns-in-Input-clause-device g c = ap device_at c.input.ensures.rest
 
 pub returns-in-Input-clause-block : goal.returns-in-Input-clause-block
-returns-in-Input-clause-block g c = rw (c.in-Input.is) (ap (λ (slot : BoardSlot). slot.block) c.input.ensures.rest)
+returns-in-Input-clause-block g c free = rw (c.in-Input.is) (ap (λ (slot : BoardSlot). slot.block) c.input.ensures.rest)
 
 pub returns-clause-serves : goal.returns-clause-serves
 returns-clause-serves g c = λ image health filled.
@@ -31,6 +36,7 @@ returns-clause-serves g c = λ image health filled.
       | in-MemRead w ↦ rw (w.self-is, w.reply-is, w.in-MemRead.is) (silent_answer _ c.args.budget _ _ _ _ _ out refl (w.read_memory-reply.ensures.given image health))
       | in-MemWrite w ↦ rw (w.self-is, w.reply-is, w.in-MemWrite.is, ← w.as_slice.ensures) (silent_answer _ c.args.budget _ _ _ _ _ out refl (w.write_memory-reply.ensures.given image health))
       | in-Resize w ↦ rw (w.self-is, w.reply-is, w.in-Resize.is) (silent_answer _ c.args.budget _ _ _ _ _ out refl (w.resize-reply.ensures.given image health))
+      | in-Restore w ↦ rw (w.self-is, w.reply-is, w.in-Restore.is, ← w.as_slice-in-Restore.ensures) (silent_answer _ c.args.budget _ _ _ _ _ out refl (w.answer_restore-reply.ensures.given image health filled))
     ]
 
 pub returns-clause-device : goal.returns-clause-device
@@ -40,15 +46,17 @@ returns-clause-device g c =
       | in-MemRead w ↦ rw (w.self-is) refl
       | in-MemWrite w ↦ rw (w.self-is) (ap device_at w.write_memory-reply.ensures.rest)
       | in-Resize w ↦ rw (w.self-is) (ap device_at w.resize-reply.ensures.rest)
+      | in-Restore w ↦ rw (w.self-is) w.answer_restore-reply.ensures.device
     ]
 
 pub returns-clause-block : goal.returns-clause-block
-returns-clause-block g c =
+returns-clause-block g c free =
     elim c.match-what.branch [
       | in-Read w ↦ rw (w.self-is, w.in-Read.is) refl
       | in-MemRead w ↦ rw (w.self-is, w.in-MemRead.is) refl
       | in-MemWrite w ↦ rw (w.self-is, w.in-MemWrite.is) (ap (λ (slot : BoardSlot). slot.block) w.write_memory-reply.ensures.rest)
       | in-Resize w ↦ rw (w.self-is, w.in-Resize.is) (ap (λ (slot : BoardSlot). slot.block) w.resize-reply.ensures.rest)
+      | in-Restore w ↦ absurd (waits w.in-Restore.is free)
     ]
 
 pub returns-clause-range : goal.returns-clause-range
@@ -58,4 +66,5 @@ returns-clause-range g c =
       | in-MemRead w ↦ rw (w.self-is) (same_range _)
       | in-MemWrite w ↦ rw (w.self-is) w.write_memory-reply.ensures.range
       | in-Resize w ↦ rw (w.self-is) (range_of _ _ (ap (λ (slot : BoardSlot). slot.memory) w.resize-reply.ensures.rest))
+      | in-Restore w ↦ rw (w.self-is) (range_of _ _ w.answer_restore-reply.ensures.memory)
     ]

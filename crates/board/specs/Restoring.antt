@@ -1,0 +1,50 @@
+-- A restore as an event of a slot: what its guest finds that takes up a snapshot.
+use Rattle.std.specs.Prelude.{◌≡◌, ◌⊎◌, ℕ, Bool, false, List, Ok, Err, Result}
+use Rattle.board.specs.declared.reply.Reply.{Reply}
+use Rattle.board.specs.declared.reply.Reply.TheVariants.{BadState, Done}
+use Rattle.board.specs.declared.saved.RestoreFault.{RestoreFault}
+use Rattle.board.specs.Image.{Health, sectors_of}
+use Rattle.board.specs.Outcome.{Outcome, does, replies}
+use Rattle.board.specs.Saved.{IsCauseOf, IsRestored}
+use Rattle.board.specs.Slot.{BoardSlot, SlotState}
+
+-- a slot in this state, on a disk of its own
+abbrev pub slot_in : SlotState → BoardSlot
+slot_in state = record {
+  memory = state.memory;
+  extent = record { start = 0; count = sectors_of state.extent };
+  read_only = state.read_only;
+  identity = state.identity;
+  block = state.block;
+  console = state.console;
+  pending = state.pending;
+  cols = state.cols;
+  rows = state.rows;
+  disturbed = false;
+}
+
+-- The slot takes up the snapshot that these bytes are; the bytes of its disk stay.
+pub record IsTakenUp (state : SlotState) (bytes : List ℕ) (new : SlotState) : Type 0 where
+  pub restored : IsRestored (slot_in state) bytes (slot_in new)
+  pub extent : new.extent ≡ state.extent
+
+-- The bytes are no snapshot that the slot takes up.
+pub record IsNotTakenUp (state : SlotState) (bytes : List ℕ) : Type 0 where
+  pub why : RestoreFault
+  pub cause : IsCauseOf (slot_in state) bytes why
+
+-- What comes of a restore: the slot takes up the snapshot, or nothing changes.
+abbrev pub IsRestoring : {A : Type 0} → SlotState → List ℕ → Outcome A → Type 0
+IsRestoring state bytes outcome =
+    (IsTakenUp state bytes outcome.state × (outcome ≡ does outcome.state))
+    ⊎ (IsNotTakenUp state bytes × (outcome ≡ replies state BadState))
+
+-- The same, for an image that has no part in it.
+pub record Restores {A : Type 0} (state : SlotState) (bytes : List ℕ) (before after : Health) (outcome : Outcome A) : Type 0 where
+  pub alike : IsRestoring state bytes outcome
+  pub image : after ≡ before
+
+-- what the guest's host is answered
+abbrev pub restore_reply : {A : Type 0} → Result (Unit {0}) RestoreFault → Reply A
+restore_reply (Ok done) = Done
+restore_reply (Err why) = BadState

@@ -1,0 +1,43 @@
+//! A guest's devices, brought back from a snapshot. Nothing here takes memory.
+
+ghost use Rattle.std.specs.Prelude.{◌≡◌, ◌↔◌, ◌≤◌, Some, IsErrOf, IsOk, IsSomeAnd, OnErr, length};
+ghost use Rattle.std.specs.List.{slice_get};
+ghost use Rattle.board.specs.declared.event.EventKind.{EventKind};
+ghost use Rattle.board.specs.declared.saved.RestoreFault.{RestoreFault};
+ghost use Rattle.board.specs.Saved.{IsAs, IsCauseOf, IsLike, IsSnapshotOf};
+ghost use Rattle.board.specs.Slot.{BoardSlot};
+ghost use Rattle.paced.specs.declared.refusal.RestoreRefusal.{RestoreRefusal};
+ghost use Rattle.paced.specs.Pacing.{Handle};
+ghost use Rattle.paced.specs.Restoring.{restore_response};
+ghost use Rattle.embed.specs.Pausing.{IsCall, IsWhole};
+ghost use Rattle.embed.specs.Session.{IsIdle};
+
+use crate::session::Session;
+use paced::RestoreRefusal;
+use std::alloc::Allocator;
+
+impl<A: Allocator> Session<A> {
+    /// The slot takes up a snapshot of one of the same description. The bytes of memory and disk aren't in it: the host
+    /// puts them back. It is refused for a bad slot, while a service of the slot is paused, and for bytes that the slot
+    /// doesn't take up, with their fault; what is refused changes nothing.
+    pub fn restore(&mut self, slot: u8, from: &[u8]) -> Result<(), RestoreRefusal>
+        ensures call { IsCall {A = A} self.old
+            (Handle (record { slot = slot; what = EventKind.Restore from.now }))
+            (restore_response result) self.new }
+        ensures whole { IsWhole {A = A} self.old
+            (record { slot = slot; what = EventKind.Restore from.now })
+            (restore_response result) self.new }
+
+        // what was saved of a slot is taken by every idle slot of its description, and brings it to its state
+        ensures taken { (saved old new : BoardSlot) → IsSnapshotOf from.now saved →
+            slice_get self.old.slots slot ≡ Some old → slice_get self.new.slots slot ≡ Some new → IsLike saved old →
+            IsIdle slot self.old → IsOk result × IsAs saved old new }
+        ensures kept { OnErr result (self.new ≡ self.old) }
+        ensures missing { IsErrOf result RestoreRefusal.BadSlot ↔ (length self.old.slots ≤ slot) }
+        ensures busy { IsErrOf result RestoreRefusal.Busy → ¬ IsIdle slot self.old }
+        ensures fault { (why : RestoreFault) → IsErrOf result (RestoreRefusal.Fault why) →
+            IsSomeAnd (slice_get self.old.slots slot) (λ old. IsCauseOf old from.now why) }
+    {
+        self.paced.restore(slot, from)
+    }
+}
