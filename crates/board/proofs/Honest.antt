@@ -24,7 +24,7 @@ use Rattle.block_device.specs.Asking.{IsAsked}
 use Rattle.block_device.specs.Hosting.{HostsTo, IsGivenBack, StopsAt, at_disk, wants_stable}
 use Rattle.block_device.proofs.Unasked.{honest_host_serves}
 use Rattle.board.specs.declared.event.EventKind.{EventKind}
-use Rattle.board.specs.declared.event.EventKind.TheVariants.{Read, Write, MemRead, MemWrite, Input, Resize}
+use Rattle.board.specs.declared.event.EventKind.TheVariants.{Read, Write, MemRead, MemWrite, Input, Resize, Restore}
 use Rattle.board.specs.declared.reply.Reply.TheVariants.{Bytes, BadRange}
 use Rattle.board.specs.Honest.{AreOwn, IsFlown, IsHonestlyServed, IsOwn}
 use Rattle.board.specs.Hosting.{Completed, GivesInFlight, HostedEvent, HostedOutcome, HostedState, InFlight, IsHostedNext, Own, OwnGives, WaitsOrGives, flight_by, in_rooms, is_block_task, must_wait, notifies_block, unlimited}
@@ -87,6 +87,7 @@ given_keeps {A} state (MemRead addr len) outcome free other (inr unread) = same_
 given_keeps state (MemWrite addr bytes) outcome free other (inr never) = absurd never
 given_keeps state (Input bytes) outcome free other (inr never) = absurd never
 given_keeps state (Resize cols rows) outcome free other (inr never) = absurd never
+given_keeps state (Restore bytes) outcome free other gives = absurd (cc free)
 
 readied_keeps : {A : Type 0} (state : SlotState) (what : EventKind A) → must_wait what ≡ false → KeepsQueues state.block (readied what state).block
 readied_keeps {A} state (Write window offset width value) free = write_keeps A window offset width value state free
@@ -95,6 +96,7 @@ readied_keeps state (MemRead addr len) free = keeps_all state.block
 readied_keeps state (MemWrite addr bytes) free = keeps_all state.block
 readied_keeps state (Input bytes) free = keeps_all state.block
 readied_keeps state (Resize cols rows) free = keeps_all state.block
+readied_keeps state (Restore bytes) free = keeps_all state.block
 
 passing_keeps : {A : Type 0} (old : HostedState) (what : EventKind A) (outcome : HostedOutcome A) (rings : Bool) → must_wait what ≡ false → notifies_block what old.slot ≡ rings → GivesInFlight rings old what outcome → KeepsQueues old.slot.block outcome.state.slot.block
 passing_keeps {A} old what outcome true free rings gives =

@@ -29,7 +29,7 @@ no_wait false = refl
 
 -- A slot whose memory stays where it lies, and whose block window stays, is sound as it was.
 pub sound_still : (slot new : BoardSlot) (flight : Option InFlight) → device_at new ≡ device_at slot → new.block ≡ slot.block → SameRange slot.memory new.memory → IsSoundHosted slot flight → IsSoundHosted new flight
-sound_still slot new flight device block same sound = sound_beside {A = ℕ} (MemWrite 0 []) slot new flight (no_wait (is_some flight)) block device same sound
+sound_still slot new flight device block same sound = sound_beside {A = ℕ} (MemWrite 0 []) slot new flight (no_wait (is_some flight)) (λ _. block) device same sound
 
 -- an event that doesn't wait, notifies nobody and puts nothing out
 quiet_next : {A : Type 0} (old new : HostedState) (what : EventKind A) (reply : Reply A) → must_wait what ≡ false → notifies_block what old.slot ≡ false → new.flight ≡ old.flight
