@@ -6,7 +6,7 @@ use Rattle.std.proofs.lemmas.Option.{slice_get_within, slice_get_cases, same_Som
 use Rattle.mmio_window.specs.declared.device_kind.DeviceKind.{DeviceKind}
 use Rattle.block_device.specs.declared.operation.Verdict.{Verdict}
 use Rattle.board.specs.declared.event.EventKind.{EventKind}
-use Rattle.board.specs.declared.event.EventKind.TheVariants.{Read, Write, MemRead, MemWrite, Input, Resize}
+use Rattle.board.specs.declared.event.EventKind.TheVariants.{Read, Write, MemRead, MemWrite, Input, Resize, Restore}
 use Rattle.board.specs.declared.hosted.reply.HostedReply.{HostedReply}
 use Rattle.board.specs.declared.hosted.reply.HostedReply.TheVariants.{Answered, Busy, Idle}
 use Rattle.board.specs.declared.reply.Reply.{Reply}
@@ -16,6 +16,7 @@ use Rattle.board.specs.Hosting.{CompletionGives, Completed, GivesAtRest, GivesIn
 use Rattle.board.specs.Image.{Health}
 use Rattle.board.specs.Machine.{at_rest, task_at}
 use Rattle.board.specs.Outcome.{Outcome, replies}
+use Rattle.board.specs.Restoring.{IsRestoring}
 use Rattle.board.specs.Slot.{SlotState}
 use Rattle.board.specs.Task.{Task, Nothing, ServeBlock, ServeReceive, ServeTransmit, PutOut, Finishes}
 use Rattle.board.specs.Within.{IsPuttingOut, MayPutOut}
@@ -64,6 +65,10 @@ cut_fair : {A : Type 0} (state : SlotState) (window : DeviceKind) (offset width 
 cut_fair state window offset width value reply (inl is) = fair_done state (Write window offset width value) reply is
 cut_fair state window offset width value reply (inr is) = let none = is.0 in (λ no. absurd (cc), λ no any. is.1)
 
+restore_fair : {A : Type 0} (state : SlotState) (bytes : List ℕ) (outcome : Outcome A) → IsRestoring state bytes outcome → Fair state (Restore bytes) outcome.reply
+restore_fair {A} state bytes outcome (inl taken) = fair_done state (Restore bytes) outcome.reply (ap (λ (o : Outcome A). o.reply) taken.1)
+restore_fair {A} state bytes outcome (inr refused) = let is = ap (λ (o : Outcome A). o.reply) refused.1 in (λ no. absurd (cc), λ no any. absurd (cc))
+
 given_fair : {A : Type 0} (state : SlotState) (what : EventKind A) (old new : Health) (outcome : Outcome A) → MayGive state what old new outcome → Fair state what outcome.reply
 given_fair {A} state (Read window offset width) old new outcome (inl served) = let is = ap (λ (o : Outcome A). o.reply) served.alike.alike in (λ no. absurd (cc), λ no any. absurd (cc))
 given_fair state (Write window offset width value) old new outcome (inl served) = fair_done state (Write window offset width value) outcome.reply (finished_done _ _ old new outcome served.alike)
@@ -71,12 +76,14 @@ given_fair {A} state (MemRead addr len) old new outcome (inl served) = read_fair
 given_fair {A} state (MemWrite addr bytes) old new outcome (inl served) = write_fair state _ (MemWrite addr bytes) outcome.reply _ (ap (λ (o : Outcome A). o.reply) served.alike.alike)
 given_fair {A} state (Input bytes) old new outcome (inl served) = let is = ap (λ (o : Outcome A). o.reply) served.alike.is in (λ no. absurd (cc), λ no any. absurd (cc))
 given_fair {A} state (Resize cols rows) old new outcome (inl served) = fair_done state (Resize cols rows) outcome.reply (ap (λ (o : Outcome A). o.reply) served.alike.alike)
+given_fair state (Restore bytes) old new outcome (inl served) = restore_fair state bytes outcome served.alike.alike
 given_fair state (Read window offset width) old new outcome (inr never) = absurd never
 given_fair state (Write window offset width value) old new outcome (inr cut) = cut_fair state window offset width value outcome.reply (cut_to _ _ old new outcome cut)
 given_fair {A} state (MemRead addr len) old new outcome (inr unread) = let is = ap (λ (o : Outcome A). o.reply) unread.unchanged in (λ no. absurd (cc), λ no any. absurd any)
 given_fair state (MemWrite addr bytes) old new outcome (inr never) = absurd never
 given_fair state (Input bytes) old new outcome (inr never) = absurd never
 given_fair state (Resize cols rows) old new outcome (inr never) = absurd never
+given_fair state (Restore bytes) old new outcome (inr never) = absurd never
 
 -- ---- and so with a disk that the host serves
 
@@ -181,6 +188,7 @@ exact_completion old new h verdict reply is = exact_completion_from old new h ve
 abbrev pub refusal_in : {A : Type 0} → HostedReply A → Option Refusal
 refusal_in (Answered BadSlot) = Some refusal.BadSlot
 refusal_in (Answered BadRange) = Some refusal.BadRange
+refusal_in (Answered reply.BadState) = None
 refusal_in (Answered NoMemory) = Some refusal.NoRoom
 refusal_in (Answered (reply.Value value)) = None
 refusal_in (Answered Done) = None
@@ -204,6 +212,7 @@ telling : {A : Type 0} (r : HostedReply A) (why : Refusal) → refusal_in r ≡ 
 telling {A} (Answered BadSlot) why is = ap (λ w. hosted_refusing {A = A} w) (same_Some refusal.BadSlot why is)
 telling {A} (Answered BadRange) why is = ap (λ w. hosted_refusing {A = A} w) (same_Some refusal.BadRange why is)
 telling {A} (Answered NoMemory) why is = ap (λ w. hosted_refusing {A = A} w) (same_Some refusal.NoRoom why is)
+telling (Answered reply.BadState) why is = absurd (cc)
 telling (Answered (reply.Value value)) why is = absurd (cc)
 telling (Answered Done) why is = absurd (cc)
 telling (Answered (Bytes bytes)) why is = absurd (cc)

@@ -6,7 +6,7 @@ use Rattle.std.proofs.lemmas.List.{length-set}
 use Rattle.std.proofs.lemmas.Option.{slice_get_past, slice_get_within}
 use Rattle.mmio_window.specs.declared.device_kind.DeviceKind.{DeviceKind}
 use Rattle.board.specs.declared.event.EventKind.{EventKind}
-use Rattle.board.specs.declared.event.EventKind.TheVariants.{Read, Write, MemRead, MemWrite, Input, Resize}
+use Rattle.board.specs.declared.event.EventKind.TheVariants.{Read, Write, MemRead, MemWrite, Input, Resize, Restore}
 use Rattle.board.specs.declared.hosted.reply.HostedReply.{HostedReply}
 use Rattle.board.specs.declared.hosted.reply.HostedReply.TheVariants.{Answered, Busy, Idle}
 use Rattle.board.specs.declared.reply.Reply.{Reply}
@@ -98,6 +98,7 @@ rings_write (MemRead addr len) state is = absurd (cc)
 rings_write (MemWrite addr bytes) state is = tt
 rings_write (Input bytes) state is = absurd (cc)
 rings_write (Resize cols rows) state is = tt
+rings_write (Restore bytes) state is = absurd (cc)
 
 waits_write : {A : Type 0} (what : EventKind A) → must_wait what ≡ true → SuitsHosted what Busy
 waits_write (Write window offset width value) is = tt
@@ -106,6 +107,7 @@ waits_write (MemRead addr len) is = absurd (cc)
 waits_write (MemWrite addr bytes) is = absurd (cc)
 waits_write (Input bytes) is = absurd (cc)
 waits_write (Resize cols rows) is = absurd (cc)
+waits_write (Restore bytes) is = tt
 
 told_suits : {A : Type 0} (what : EventKind A) (reply told : HostedReply A) → reply ≡ told → SuitsHosted what told → SuitsHosted what reply
 told_suits {A} what reply told is suits = subst (λ (r : HostedReply A). SuitsHosted what r) (sym is) suits
@@ -162,6 +164,7 @@ serving_at window offset width value (reply.Bytes bytes) suits = absurd suits
 serving_at window offset width value (reply.Took taken) suits = absurd suits
 serving_at window offset width value reply.BadSlot suits = tt
 serving_at window offset width value reply.BadRange suits = tt
+serving_at window offset width value reply.BadState suits = absurd suits
 serving_at window offset width value reply.NoMemory suits = tt
 
 pub serving_write : {A : Type 0} (window : DeviceKind) (offset width value : ℕ) (r : HostedReply A) → SuitsHosted (Write window offset width value) r → IsHostedServing r
@@ -176,6 +179,7 @@ landing_at (reply.Bytes bytes) suits = absurd suits
 landing_at (reply.Took taken) suits = absurd suits
 landing_at reply.BadSlot suits = tt
 landing_at reply.BadRange suits = tt
+landing_at reply.BadState suits = absurd suits
 landing_at reply.NoMemory suits = tt
 
 pub serving_completion : {A : Type 0} (r : HostedReply A) → SuitsCompletion r → IsHostedServing r

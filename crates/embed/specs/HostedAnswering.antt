@@ -1,7 +1,7 @@
 -- What a call of a session answers whose disks the host serves, as the board's reply to its event.
 use Rattle.std.specs.Prelude.{ℕ, List, ⊤, Result, Ok, Err}
 use Rattle.board.specs.declared.event.EventKind.{EventKind}
-use Rattle.board.specs.declared.event.EventKind.TheVariants.{Write}
+use Rattle.board.specs.declared.event.EventKind.TheVariants.{Write, Restore}
 use Rattle.board.specs.declared.hosted.reply.HostedReply.{HostedReply}
 use Rattle.board.specs.declared.hosted.reply.HostedReply.TheVariants as hosted
 use Rattle.board.specs.declared.reply.Reply.TheVariants as reply
@@ -61,6 +61,7 @@ hosted_typed (Err why) = hosted_refusing why
 abbrev pub SuitsHosted : {A : Type 0} → EventKind A → HostedReply A → Type 0
 SuitsHosted what (hosted.Answered answer) = Suits what answer
 SuitsHosted (Write window offset width value) hosted.Busy = ⊤
+SuitsHosted (Restore bytes) hosted.Busy = ⊤
 SuitsHosted what hosted.Busy = ⊥
 SuitsHosted what hosted.Idle = ⊥
 
