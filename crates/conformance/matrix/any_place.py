@@ -22,6 +22,7 @@ def stories():
         yield from shown("the bytes of a buffer", "each of 256", [texts(shape), typed(shape)])
     yield from shown("Range of a buffer", "each of 40", [bad_buffer(Split, False), bad_buffer(Packed, True)])
     yield from shown("a table in a table", "each of 40", [nested()])
+    yield from shown("a table of more than 256 entries", "257 to 65536", [long_tables()])
     yield from shown("a head outside", "each of 40 chains", [bad_head()])
     yield from shown("identity, sector, mode, base", "each of 64 slots", [disks()])
     yield from shown("texts, typed bytes, size", "each of 64 slots", [consoles()])
@@ -174,6 +175,22 @@ def nested():
         begin_again(queue)
     write_first(queue, good, True)
     queue.notify(output=bytes(range(40)))
+    return story
+
+
+def long_tables():
+    """Lengths above 4096 bytes, of tables whose first entry is all of their chain."""
+    story = Story("each_place/split_tables_of_257_to_65536_entries", "A table of 256 entries is taken, a longer one is a fault, whatever its length.",
+                  [Slot(length=0x200000)])
+    queue = Split(story, "c", 1, 4, low=INDIRECT_DESC).bring_up()
+    queue.put(TEXT, b"t")
+    queue.put(TABLE, queue.entry(Buffer(TEXT, 1), 0))
+    for count in (257, 258, 259, 260, 271, 272, 273, 288, 289, 300, 319, 320, 384, 511, 512, 513, 1000, 1024, 2048, 4096, 65535, 65536):
+        queue.offer([Buffer(TABLE, 16 * count, INDIRECT, 0)])
+        queue.notify(FAULT)
+        queue.bring_up_again()
+    queue.offer([Buffer(TABLE, 4096, INDIRECT, 0)])
+    queue.notify(output=b"t")
     return story
 
 
