@@ -1,7 +1,8 @@
 """Places of lists that are no power of two, nor beside one: each place of segments, buffers, entries, chains and slots."""
-from .drivers import FAULT, INDIRECT, INDIRECT_DESC, KINDS, SERVED, WRITE, Buffer, Packed, Split, number
+from .drivers import EVENT_IDX, FAULT, INDIRECT, INDIRECT_DESC, KINDS, SERVED, WRITE, Buffer, Packed, Split, number
 from .guests import identity
 from .places import HEADER, ROOM, SHAPES, STATUS_BYTE, TABLE, TEXT, shown
+from .rounds import serve, wide
 from .requests import GET_ID, IN, OUT, WRITE_ZEROES, header
 from .segments import IOERR, OK, UNSUPP, segment
 from .story import BASE, CHANGED, SECTOR, USED, Slot, Story, plain_image
@@ -22,6 +23,9 @@ def stories():
         yield from shown("the bytes of a buffer", "each of 256", [texts(shape), typed(shape)])
     yield from shown("Range of a buffer", "each of 40", [bad_buffer(Split, False), bad_buffer(Packed, True)])
     yield from shown("a table in a table", "each of 40", [nested()])
+    yield from shown("a table of more than 256 entries", "257 to 65536", [long_tables()])
+    yield from shown("a table's length in bytes", "1 to 4104, no multiple of 16", map(odd_tables, KINDS.values()))
+    yield from shown("used_event", "0 to 255, and around 2^15 and 2^16", [events()])
     yield from shown("a head outside", "each of 40 chains", [bad_head()])
     yield from shown("identity, sector, mode, base", "each of 64 slots", [disks()])
     yield from shown("texts, typed bytes, size", "each of 64 slots", [consoles()])
@@ -174,6 +178,55 @@ def nested():
         begin_again(queue)
     write_first(queue, good, True)
     queue.notify(output=bytes(range(40)))
+    return story
+
+
+def long_tables():
+    """Lengths above 4096 bytes, of tables whose first entry is all of their chain."""
+    story = Story("each_place/split_tables_of_257_to_65536_entries", "A table of 256 entries is taken, a longer one is a fault, whatever its length.",
+                  [Slot(length=0x200000)])
+    queue = Split(story, "c", 1, 4, low=INDIRECT_DESC).bring_up()
+    queue.put(TEXT, b"t")
+    queue.put(TABLE, queue.entry(Buffer(TEXT, 1), 0))
+    for count in (257, 258, 259, 260, 271, 272, 273, 288, 289, 300, 319, 320, 384, 511, 512, 513, 1000, 1024, 2048, 4096, 65535, 65536):
+        queue.offer([Buffer(TABLE, 16 * count, INDIRECT, 0)])
+        queue.notify(FAULT)
+        queue.bring_up_again()
+    queue.offer([Buffer(TABLE, 4096, INDIRECT, 0)])
+    queue.notify(output=b"t")
+    return story
+
+
+ODD_LENGTHS = [1, 2, 3, 4, 5, 7, 8, 9, 12, 14, 15, 17, 18, 20, 24, 31, 33, 40, 47, 49, 63, 65, 127, 129, 255, 257, 511, 513, 1023, 1025, 2047, 2049, 4088,
+               4095, 4097, 4104]
+
+
+def odd_tables(kind):
+    """Lengths that are no multiple of 16, of tables whose entries are all good."""
+    story = Story(name_of(kind, "tables_of_no_whole_entries"), "A table whose length is no multiple of 16 is a fault, whatever its length.")
+    queue = kind(story, "c", 1, 4, low=INDIRECT_DESC).bring_up()
+    queue.put(TEXT, b"t")
+    queue.put(TABLE, queue.entry(Buffer(TEXT, 1), 0) * (256 if kind.is_packed else 2))
+    for length in ODD_LENGTHS if kind.is_packed else ODD_LENGTHS[11::4]:
+        queue.offer([Buffer(TABLE, length, INDIRECT, 0)])
+        queue.notify(FAULT)
+        queue.bring_up_again()
+    return story
+
+
+def events():
+    """A service of one chain at each place, which used_event names."""
+    story = Story("each_place/used_event_at_0_to_255_and_around_2_to_15_and_16", "Each place that is passed alone and named is told: 0 to 255, and those around "
+                  "2^15 and 2^16.")
+    ring = wide(story, low=EVENT_IDX)
+    for first, last in ((0, 256), (32760, 32776), (65528, 65544)):
+        while ring.place < first:
+            ring.put(ring.areas[1] + 4 + 512, number((ring.place - 1) % 65536, 2))
+            serve(ring, min(256, first - ring.place), told=0)
+        for place in range(first, last):
+            ring.put(ring.areas[1] + 4 + 512, number(place % 65536, 2))
+            serve(ring, 1)
+            ring.acknowledge()
     return story
 
 
