@@ -222,16 +222,22 @@ def verdict_of_gate():
 
 
 def note(crate, proved_from):
-    """Notes what was proved from these sources, where it is built and they are as they were."""
+    """Notes what was proved from these sources and by which kit, where it is built and they are as they were."""
     if built(crate).exists() and sources(crate) == proved_from:
-        noted(crate).write_text(f"{proved_from} {hashlib.sha256(built(crate).read_bytes()).hexdigest()}\n", encoding="utf-8")
+        kit = subprocess.run(["rt", "version"], capture_output=True, text=True).stdout.strip()
+        noted(crate).write_text(f"{proved_from} {hashlib.sha256(built(crate).read_bytes()).hexdigest()}\n{kit}\n", encoding="utf-8")
+
+
+def kit_of(crate):
+    """The kit by which what is noted of a crate was proved."""
+    return " ".join(noted(crate).read_text(encoding="utf-8").splitlines()[1:]) or "an unknown kit"
 
 
 def is_proved(crate):
     """Whether what rt builds of a crate is there, proved from these sources: yes, no, or None where it was proved from others."""
     if not built(crate).exists() or not noted(crate).exists():
         return False
-    proved_from, _, program = noted(crate).read_text(encoding="utf-8").strip().partition(" ")
+    proved_from, program = noted(crate).read_text(encoding="utf-8").splitlines()[0].split()
     if hashlib.sha256(built(crate).read_bytes()).hexdigest() != program:
         return False
     return True if proved_from == sources(crate) else None
