@@ -1,6 +1,6 @@
 # The commands of the README, the library, its installing and its packages, the measurements, tries from outside, the hosts of the
 # library, and the suite. The first sentence above a target is its line in make help.
-.PHONY: run prove show vshow look-test look-picture show-check test help library install uninstall bench fuzz broken trouble embed linux linux-test linux-picture stress doors peer mutants matrix
+.PHONY: run prove show vshow look-test look-picture show-check test help library install uninstall dist deb dist-check bench fuzz broken trouble embed linux linux-test linux-picture stress doors peer mutants matrix
 
 TRACE ?= examples/two-guests.trace
 IMAGE ?=
@@ -58,8 +58,8 @@ help:
 library:
 	@packaging/build
 
-# Installs the library's header, archive and shared object below PREFIX, with kalyubos.pc and the notices; it is built first
-# where a source is newer. DESTDIR stands before each path.
+# Installs the library's header, archive and shared object below PREFIX, with kalyubos.pc, its pages and the notices; it is
+# built first where a source is newer. DESTDIR stands before each path.
 install: packaging/out/libkalyubos.a
 	@DESTDIR="$(DESTDIR)" LIBDIR="$(LIBDIR)" INCLUDEDIR="$(INCLUDEDIR)" packaging/install "$(PREFIX)"
 
@@ -69,6 +69,19 @@ packaging/out/libkalyubos.a: crates.txt examples/embed/heap.c $(shell find crate
 # Removes what install put there.
 uninstall:
 	@DESTDIR="$(DESTDIR)" LIBDIR="$(LIBDIR)" INCLUDEDIR="$(INCLUDEDIR)" packaging/install --remove "$(PREFIX)"
+
+# Packs the built library and programs, the suite and the pages, for who has no toolchain: an archive in packaging/out. make
+# library, make prove and make vshow build what it wants; vshow is left out where it isn't built.
+dist:
+	@packaging/release dist
+
+# Packs the same as three packages for Debian, by dpkg-deb.
+deb:
+	@packaging/release deb
+
+# Makes the archive and the packages twice each, compares them byte for byte, and looks at the links of their pages.
+dist-check:
+	@packaging/release check
 
 # Times the built program over traces that the script makes.
 bench:

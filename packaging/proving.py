@@ -14,6 +14,7 @@ import sys
 import time
 
 TOP = pathlib.Path(__file__).resolve().parents[1]
+VERDICT = TOP / "out" / "gate.verdict"
 FIRST = "some 50 minutes of processor time at first, seconds after that"
 
 # What rt says: which crate comes next; something of a crate, once it is judged; how far the crate's check is.
@@ -23,14 +24,17 @@ SO_FAR = re.compile(r"so far: (\d+) of (\d+) functions checked")
 WAITS = re.compile(r"rt: waiting for another rt")
 
 
+def listed():
+    """The lines of crates.txt: each crate's words before the colon, and those behind it."""
+    lines = (TOP / "crates.txt").read_text(encoding="utf-8").splitlines()
+    parts = [line.partition("#")[0].partition(":") for line in lines]
+    return [(head.split(), tail.split()) for head, colon, tail in parts if colon]
+
+
 def uses():
     """What each crate of crates.txt uses, by its name."""
-    found = {}
-    for line in (TOP / "crates.txt").read_text(encoding="utf-8").splitlines():
-        head, colon, tail = line.partition("#")[0].partition(":")
-        if colon:
-            found[head.split()[0]] = tail.split()
-    return {name: [it for it in names if it in found] for name, names in found.items()}
+    crates = {head[0]: tail for head, tail in listed()}
+    return {name: [it for it in names if it in crates] for name, names in crates.items()}
 
 
 def order(crate):
@@ -192,26 +196,48 @@ def sources(crate):
 
 
 def built(crate):
-    """The program that rt builds of a crate."""
-    return TOP / "crates" / crate / "out" / crate
+    """What rt builds of a crate: a program, or a static library."""
+    is_library = [crate, "staticlib"] in [head[:2] for head, _ in listed()]
+    return TOP / "crates" / crate / "out" / (f"lib{crate}.a" if is_library else crate)
 
 
 def noted(crate):
-    """The file that says from which sources which program was proved."""
-    return built(crate).with_suffix(".proved")
+    """The file that says from which sources which program or library was proved."""
+    return TOP / "crates" / crate / "out" / f"{crate}.proved"
+
+
+def commit():
+    """The commit that is checked out, and whether files differ from it; None outside a checkout."""
+    try:
+        head = subprocess.run(["git", "rev-parse", "HEAD"], cwd=TOP, capture_output=True, text=True)
+        changed = subprocess.run(["git", "status", "--porcelain", "--untracked-files=no"], cwd=TOP, capture_output=True, text=True)
+    except OSError:
+        return None
+    return None if head.returncode else head.stdout.strip() + (", with changes" if changed.stdout else "")
+
+
+def verdict_of_gate():
+    """The commit over which the gate ran last in this checkout, and its verdict; nothing where it didn't."""
+    return VERDICT.read_text(encoding="utf-8").splitlines() if VERDICT.exists() else []
 
 
 def note(crate, proved_from):
-    """Notes which program was proved from these sources, where a program was built and they are as they were."""
+    """Notes what was proved from these sources and by which kit, where it is built and they are as they were."""
     if built(crate).exists() and sources(crate) == proved_from:
-        noted(crate).write_text(f"{proved_from} {hashlib.sha256(built(crate).read_bytes()).hexdigest()}\n", encoding="utf-8")
+        kit = subprocess.run(["rt", "version"], capture_output=True, text=True).stdout.strip()
+        noted(crate).write_text(f"{proved_from} {hashlib.sha256(built(crate).read_bytes()).hexdigest()}\n{kit}\n", encoding="utf-8")
+
+
+def kit_of(crate):
+    """The kit by which what is noted of a crate was proved."""
+    return " ".join(noted(crate).read_text(encoding="utf-8").splitlines()[1:]) or "an unknown kit"
 
 
 def is_proved(crate):
-    """Whether a proved program of these sources is there: yes, no, or None where it was proved from others."""
+    """Whether what rt builds of a crate is there, proved from these sources: yes, no, or None where it was proved from others."""
     if not built(crate).exists() or not noted(crate).exists():
         return False
-    proved_from, _, program = noted(crate).read_text(encoding="utf-8").strip().partition(" ")
+    proved_from, program = noted(crate).read_text(encoding="utf-8").splitlines()[0].split()
     if hashlib.sha256(built(crate).read_bytes()).hexdigest() != program:
         return False
     return True if proved_from == sources(crate) else None
