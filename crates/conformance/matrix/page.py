@@ -19,6 +19,7 @@ TABLES = [
     "lines",
     "large",
     "sums",
+    "meetings",
     "ends",
     "buffers",
     "segments",
