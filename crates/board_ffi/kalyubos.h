@@ -119,9 +119,9 @@ struct kalyubos_slot {
 /*
  * Makes a board of `slots_len` slots over a copy of the image, with a cache of at most `cache` sectors before it,
  * and puts it into an empty handle. A refusal leaves the handle as it was and keeps no memory. It is BAD_SIZE where a
- * slot's `size` isn't sizeof(struct kalyubos_slot), and nothing behind the first such size is read; else BAD_IMAGE where
- * that holds, else BAD_OUTLET, else the first of the numbers from NO_SLOTS to BAD_CACHE that holds, those of a slot
- * looked for slot by slot; NO_MEMORY may come in the place of the latter.
+ * slot's `size` isn't sizeof(struct kalyubos_slot), and nothing behind the first such size is read. Else it is BAD_IMAGE
+ * where that holds, else BAD_OUTLET, else the first of the numbers from NO_SLOTS to BAD_CACHE that holds, those of a slot
+ * looked for slot by slot. NO_MEMORY may come in the place of the latter.
  *
  * `chains` and `bytes` are the budget of one call, and 0 is no limit: a call serves no more than so many chains, and
  * begins no further chain once those before it had so many bytes in their buffers. So one call moves `bytes` and one
@@ -154,7 +154,7 @@ uint32_t kalyubos_read(struct kalyubos *board, uint8_t slot, uint8_t window, uin
  * NO_ROOM: what the console puts out next, a chain of its transmit queue or the byte of an emergency write, doesn't
  * fit behind what waits in the slot's outlet. The chains before it are served; it is still on offer, and nothing of it
  * is put out. Take the output and make the same write again, as long as it is answered NO_ROOM and there was output to
- * take: a driver that waits for its buffer doesn't notify again, and Linux's console spins for ever on it.
+ * take. A driver that waits for its buffer doesn't notify again, and Linux's console spins for ever on it.
  */
 uint32_t kalyubos_write(struct kalyubos *board, uint8_t slot, uint8_t window, uint16_t offset, uint8_t width,
                         uint32_t value, struct kalyubos_pending *pending);
