@@ -20,6 +20,8 @@
  *  - While a call for a guest runs, and from a KALYUBOS_MORE until its service is done, no CPU of that guest runs, and
  *    nobody reads or writes its memory in place (kalyubos_memory). CPUs of other guests may run then: a call reads and
  *    writes no memory but that of its guest.
+ *  - Where the host serves the disks (kalyubos_create_hosted), it says of an operation that it is done only once it is,
+ *    as kalyubos_operation has it, and ends each transfer before kalyubos_destroy.
  *
  * The library is built for x86-64-v2 (SSE4.2 and POPCNT) and Linux's calling convention.
  *
@@ -36,9 +38,13 @@
  * has no size and never changes: a later version tells more by further calls. Nor do the handle and struct
  * kalyubos_block change.
  *
- * kalyubos_create takes all memory that a board needs, and kalyubos_destroy gives it back. No other call takes or
- * gives any, so no guest can be refused memory for what another did: what a guest sees is decided by its own slot's
- * calls alone.
+ * There are two kinds of board. kalyubos_create makes one whose disks are parts of an image in the library's memory.
+ * kalyubos_create_hosted makes one whose disks the host serves: the board says what it wants of a disk, the host does it
+ * as it likes, and says that it is done; meanwhile the guest runs on. All calls are there for both.
+ *
+ * The two calls that make a board take all memory that it needs, and kalyubos_destroy gives it back. No other call takes
+ * or gives any, so no guest can be refused memory for what another did: what a guest sees is decided by its own slot's
+ * calls alone, the completions of its disk among them.
  */
 #ifndef KALYUBOS_H
 #define KALYUBOS_H
@@ -67,21 +73,24 @@ enum {
     KALYUBOS_HAS_BOARD = 2,         /* the handle holds a board already, and goes on holding it */
     KALYUBOS_BAD_SLOT = 3,          /* the board has no such slot; nothing changed */
     KALYUBOS_BAD_RANGE = 4,         /* not all of the range lies in the memory or the image; nothing changed */
-    KALYUBOS_NO_MEMORY = 5,         /* the heap refused; no call but kalyubos_create answers this */
+    KALYUBOS_NO_MEMORY = 5,         /* the heap refused; only the calls that make a board answer this */
     KALYUBOS_BAD_WINDOW = 6,        /* no window has this number; nothing changed */
     KALYUBOS_BAD_IMAGE = 7,         /* the image isn't whole sectors of 512 bytes */
     KALYUBOS_NO_SLOTS = 8,          /* a board needs a slot */
     KALYUBOS_TOO_MANY_SLOTS = 9,    /* a board has sixty-four slots at most */
     KALYUBOS_BAD_MEMORY_SIZE = 10,  /* a memory's size is no multiple of 4096 from 4096 to 2^46 */
     KALYUBOS_BAD_MEMORY_BASE = 11,  /* a memory's base is no multiple of 4096, or the memory passes 2^64 */
-    KALYUBOS_EXTENT_OUTSIDE = 12,   /* an extent passes the image's end */
+    KALYUBOS_EXTENT_OUTSIDE = 12,   /* an extent passes the image's end, or a disk 2^64 bytes */
     KALYUBOS_EXTENTS_OVERLAP = 13,  /* two extents share a sector */
     KALYUBOS_BAD_CACHE = 14,        /* a cache keeps 1 to 65536 sectors */
     KALYUBOS_NO_ROOM = 15,          /* the console's next output doesn't fit behind what waits; see kalyubos_write */
     KALYUBOS_BAD_OUTLET = 16,       /* an outlet keeps 2^24 bytes at most */
     KALYUBOS_BAD_SIZE = 17,         /* a struct has another size than this version's */
     KALYUBOS_MORE = 18,             /* the slot's service pauses; see kalyubos_go_on */
-    KALYUBOS_BUSY = 19              /* a service of the slot is paused; nothing changed */
+    KALYUBOS_BUSY = 19,             /* a service of the slot is paused, or this write waits for its disk; nothing changed */
+    KALYUBOS_IO = 20,               /* the call is done, and the slot's disk waits for the host; see kalyubos_operation */
+    KALYUBOS_IDLE = 21,             /* nothing of the slot is in flight; nothing changed */
+    KALYUBOS_NO_IMAGE = 22          /* the board has no image: the host serves its disks; nothing changed */
 };
 
 /* A slot's windows, each of 4096 bytes. */
@@ -116,6 +125,32 @@ struct kalyubos_slot {
     uint8_t identity[20]; /* what its disk answers to GET_ID, a shorter text with NULs behind it; Linux's `serial` */
 };
 
+/* What is wanted of a disk that the host serves. */
+enum {
+    KALYUBOS_IN = 0,    /* bytes of the disk go into the runs */
+    KALYUBOS_OUT = 1,   /* the bytes of the runs go to the disk */
+    KALYUBOS_FLUSH = 2, /* what was written before reaches the medium */
+    KALYUBOS_ZEROES = 3 /* the runs, which are of the disk, become zeros */
+};
+
+/* How many runs an operation has at most. */
+enum { KALYUBOS_RUNS = 256 };
+
+/* `len` bytes from `at` on: an address of guest memory, or of a ZEROES a byte of the guest's disk. */
+struct kalyubos_run {
+    uint64_t at;
+    uint64_t len;
+};
+
+/* One operation on a guest's disk, which the library fills. It never changes, as struct kalyubos_pending doesn't. */
+struct kalyubos_operation {
+    uint32_t kind;  /* KALYUBOS_IN, _OUT, _FLUSH or _ZEROES */
+    uint32_t runs;  /* how many runs it has: 0 of FLUSH, KALYUBOS_RUNS at most */
+    uint64_t start; /* the first byte on this guest's disk; 0 of FLUSH and ZEROES */
+    uint64_t len;   /* how many bytes the runs of an IN or OUT have together; 0 of FLUSH and ZEROES */
+    bool stable;    /* what it writes is to be on the medium before it is completed: the driver can't flush (5.2.6.2) */
+};
+
 /*
  * Makes a board of `slots_len` slots over a copy of the image, with a cache of at most `cache` sectors before it,
  * and puts it into an empty handle. A refusal leaves the handle as it was and keeps no memory. It is BAD_SIZE where a
@@ -134,8 +169,20 @@ uint32_t kalyubos_create(struct kalyubos *board, const struct kalyubos_slot *slo
                          const uint8_t *image, size_t image_len, uint32_t cache, uint32_t chains, uint64_t bytes);
 
 /*
- * Ends the board, frees its memory and leaves the handle empty. Take the image's bytes out before, and let go of
- * memory in place.
+ * Makes a board of `slots_len` slots whose disks the host serves, and puts it into an empty handle. Each guest has a disk
+ * of its own, of `count` sectors; `start` is not read. There is no image, no cache and no budget: no call moves a
+ * disk's bytes, and none pauses. A refusal leaves the handle as it was and keeps no memory. It is BAD_SIZE as
+ * kalyubos_create's is; else BAD_OUTLET, else the first of NO_SLOTS, TOO_MANY_SLOTS, BAD_MEMORY_SIZE, BAD_MEMORY_BASE
+ * and EXTENT_OUTSIDE that holds, those of a slot looked for slot by slot; NO_MEMORY may come in the place of the latter.
+ *
+ * Guests of a hosted board share nothing. With a handle for each guest, a board of one slot, guests need no lock between
+ * them: what orders the calls of a guest's CPUs and of its disk is that guest's own.
+ */
+uint32_t kalyubos_create_hosted(struct kalyubos *board, const struct kalyubos_slot *slots, size_t slots_len);
+
+/*
+ * Ends the board, frees its memory and leaves the handle empty. Take the image's bytes out before, let go of
+ * memory in place, and end each transfer of a disk that the host serves: what was in flight is never completed.
  */
 uint32_t kalyubos_destroy(struct kalyubos *board);
 
@@ -155,6 +202,10 @@ uint32_t kalyubos_read(struct kalyubos *board, uint8_t slot, uint8_t window, uin
  * fit behind what waits in the slot's outlet. The chains before it are served; it is still on offer, and nothing of it
  * is put out. Take the output and make the same write again, as long as it is answered NO_ROOM and there was output to
  * take. A driver that waits for its buffer doesn't notify again, and Linux's console spins for ever on it.
+ *
+ * Of a disk that the host serves: IO says that the write is done, and that with it an operation began; no other answer
+ * says so. BUSY: the write, to Status (0x070) or QueueReady (0x044) of the block window, waits for what is in flight. The
+ * CPU that made it waits with it; make the same write again after the completion. All else goes on meanwhile.
  */
 uint32_t kalyubos_write(struct kalyubos *board, uint8_t slot, uint8_t window, uint16_t offset, uint8_t width,
                         uint32_t value, struct kalyubos_pending *pending);
@@ -169,6 +220,35 @@ uint32_t kalyubos_write(struct kalyubos *board, uint8_t slot, uint8_t window, ui
  * other slots may stand in between, and no guest sees that one paused.
  */
 uint32_t kalyubos_go_on(struct kalyubos *board, uint8_t slot, struct kalyubos_pending *pending);
+
+/*
+ * What the slot's disk is asked for: the operation, and the first of its runs, as many as find room in `runs`. With
+ * room for KALYUBOS_RUNS all of them do. It may be asked again and again until kalyubos_completed, and tells the same.
+ * IDLE where nothing is in flight.
+ *
+ * Each run lies inside the guest's memory, or of a ZEROES inside its disk, and none is empty; `start` and `len` lie inside
+ * the disk. They were judged when the operation began, and nothing is read again from guest memory: a guest that
+ * rewrites its rings or its request meanwhile changes nothing of it. The runs of an IN may overlap.
+ *
+ * Before the host says that it is done:
+ *  - IN: the bytes of the disk stand in the runs.
+ *  - OUT and ZEROES: each later IN of the guest finds them. With `stable` they are on the medium; else they may be lost
+ *    with the host's machine until a FLUSH is done.
+ *  - FLUSH: all that was done before it is on the medium, as after fdatasync.
+ * A host that moves bytes between the file and the guest's memory in place keeps the duty above: no transfer touches
+ * the memory while a call for this guest runs. examples/embed/file_disk.c has a buffer of its own, so that the guest's
+ * calls go on during a transfer.
+ */
+uint32_t kalyubos_operation(struct kalyubos *board, uint8_t slot, struct kalyubos_operation *operation,
+                            struct kalyubos_run *runs, size_t runs_len);
+
+/*
+ * Says that the slot's operation is done, or that it failed: then the guest is told IOERR, and what it asked to be read
+ * may stand in its memory in part. The guest's request is completed and its queue looked at again, as after a
+ * notification: the answer is IO where that began a further operation, else DONE. `pending` is what then waits. IDLE
+ * where nothing is in flight.
+ */
+uint32_t kalyubos_completed(struct kalyubos *board, uint8_t slot, bool failed, struct kalyubos_pending *pending);
 
 /*
  * Lends the slot's memory in place: `bytes` is where its first byte lies, that of address `base`, and `len` how many
@@ -205,16 +285,19 @@ uint32_t kalyubos_take_output(struct kalyubos *board, uint8_t slot, uint8_t *int
 /* InterruptStatus of both windows of a slot. A window's line is high while its word isn't 0. */
 uint32_t kalyubos_interrupts(struct kalyubos *board, uint8_t slot, uint8_t *block, uint8_t *console);
 
-/* Whether a call of the image ever failed for the slot: never, since the image is in memory. */
+/* Whether a call of the image ever failed for the slot: never, since the image is in memory, or there is none. */
 uint32_t kalyubos_disturbed(struct kalyubos *board, uint8_t slot, bool *disturbed);
 
-/* The image's length in bytes, and a copy of bytes of it from byte `start` on, as they stand. */
+/*
+ * The image's length in bytes, and a copy of bytes of it from byte `start` on, as they stand. NO_IMAGE of a board whose
+ * disks the host serves.
+ */
 uint32_t kalyubos_image_len(struct kalyubos *board, size_t *len);
 uint32_t kalyubos_read_image(struct kalyubos *board, size_t start, uint8_t *into, size_t into_len);
 
 /*
  * The heap. The installed library has it over malloc, as examples/embed/heap.c does; a host that defines one of these
- * defines all of them. They are of one heap, and are called within kalyubos_create and kalyubos_destroy alone. A block
+ * defines all of them. They are of one heap, and are called within the calls that make a board and kalyubos_destroy alone. A block
  * is aligned to `align`, a power of two up to 16.
  * `found` is false where there is no memory, and `at` is then any address; a block that couldn't be resized stands as
  * it was. Of a block that is resized the first `kept` bytes stay. A block of size 0 is a block as any other.

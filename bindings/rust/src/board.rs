@@ -53,7 +53,7 @@ pub struct Budget {
 
 impl Pending {
     // What a call that answered this number told; a service that pauses is no error.
-    fn told(number: u32, told: ffi::Pending) -> Result<Pending, Error> {
+    pub(crate) fn told(number: u32, told: ffi::Pending) -> Result<Pending, Error> {
         let more = number == MORE;
         if !more {
             Error::check(number)?;
@@ -114,10 +114,7 @@ impl Board {
         cache: u32,
         budget: Budget,
     ) -> Result<Board, CreateError> {
-        let version = unsafe { ffi::kalyubos_version() };
-        if version / 100 != HEADER / 100 {
-            return Err(CreateError::WrongLibrary(version));
-        }
+        Board::check_version()?;
         let slots: Vec<ffi::Slot> = slots.iter().map(Slot::in_c).collect();
         let mut handle = ffi::Handle::empty();
         CreateError::check(unsafe {
@@ -133,6 +130,31 @@ impl Board {
             )
         })?;
         Ok(Board { handle })
+    }
+
+    // A board whose disks the host serves.
+    pub(crate) fn hosted(slots: &[Slot]) -> Result<Board, CreateError> {
+        Board::check_version()?;
+        let slots: Vec<ffi::Slot> = slots.iter().map(Slot::in_c).collect();
+        let mut handle = ffi::Handle::empty();
+        CreateError::check(unsafe {
+            ffi::kalyubos_create_hosted(&mut handle, slots.as_ptr(), slots.len())
+        })?;
+        Ok(Board { handle })
+    }
+
+    // Whether the library is one that the crate fits.
+    fn check_version() -> Result<(), CreateError> {
+        let version = unsafe { ffi::kalyubos_version() };
+        if version / 100 != HEADER / 100 {
+            return Err(CreateError::WrongLibrary(version));
+        }
+        Ok(())
+    }
+
+    // The handle, for the calls of a board whose disks the host serves.
+    pub(crate) fn handle(&mut self) -> &mut ffi::Handle {
+        &mut self.handle
     }
 
     /// What a guest's read of `width` bytes (1, 2 or 4) at an offset of a window gives, extended by zeros. Every offset

@@ -13,8 +13,11 @@ pub enum Error {
     BadRange,
     /// What the console puts out next doesn't fit behind what waits; see [`Board::write`](crate::Board::write).
     NoRoom,
-    /// A service of the slot is paused; see [`Board::go_on`](crate::Board::go_on).
+    /// A service of the slot is paused; see [`Board::go_on`](crate::Board::go_on). Or the write waits for the slot's disk,
+    /// which the host serves; see [`HostedBoard::write`](crate::HostedBoard::write).
     Busy,
+    /// Nothing of the slot is in flight; see [`HostedBoard::complete`](crate::HostedBoard::complete).
+    Idle,
     /// A number that this crate doesn't know, of a newer library.
     Other(u32),
 }
@@ -60,6 +63,7 @@ impl Error {
             4 => Err(Error::BadRange),
             15 => Err(Error::NoRoom),
             19 => Err(Error::Busy),
+            21 => Err(Error::Idle),
             number => Err(Error::Other(number)),
         }
     }
@@ -95,7 +99,8 @@ impl fmt::Display for Error {
             Error::NoRoom => {
                 f.write_str("the console's next output does not fit behind what waits")
             }
-            Error::Busy => f.write_str("a service of the slot is paused"),
+            Error::Busy => f.write_str("a service of the slot is paused, or its disk is at work"),
+            Error::Idle => f.write_str("nothing of the slot is in flight"),
             Error::Other(number) => write!(f, "the library answered {number}"),
         }
     }

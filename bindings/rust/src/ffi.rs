@@ -1,5 +1,6 @@
 //! The declarations of `kalyubos.h`, which says what each call does and what its caller must keep.
 
+use crate::operation::Run;
 use std::ffi::c_void;
 
 /// A board, or none.
@@ -41,6 +42,20 @@ pub struct Pending {
     pub output: u64,
 }
 
+/// One operation on a guest's disk.
+#[derive(Default)]
+#[repr(C)]
+pub struct Operation {
+    pub kind: u32,
+    pub runs: u32,
+    pub start: u64,
+    pub len: u64,
+    pub stable: bool,
+}
+
+/// How many runs an operation has at most.
+pub const RUNS: usize = 256;
+
 unsafe extern "C" {
     pub fn kalyubos_version() -> u32;
     pub fn kalyubos_create(
@@ -53,6 +68,7 @@ unsafe extern "C" {
         chains: u32,
         bytes: u64,
     ) -> u32;
+    pub fn kalyubos_create_hosted(board: *mut Handle, slots: *const Slot, slots_len: usize) -> u32;
     pub fn kalyubos_destroy(board: *mut Handle) -> u32;
     pub fn kalyubos_read(
         board: *mut Handle,
@@ -69,6 +85,19 @@ unsafe extern "C" {
         offset: u16,
         width: u8,
         value: u32,
+        pending: *mut Pending,
+    ) -> u32;
+    pub fn kalyubos_operation(
+        board: *mut Handle,
+        slot: u8,
+        operation: *mut Operation,
+        runs: *mut Run,
+        runs_len: usize,
+    ) -> u32;
+    pub fn kalyubos_completed(
+        board: *mut Handle,
+        slot: u8,
+        failed: bool,
         pending: *mut Pending,
     ) -> u32;
     pub fn kalyubos_go_on(board: *mut Handle, slot: u8, pending: *mut Pending) -> u32;

@@ -4,10 +4,14 @@
 mod board;
 mod error;
 mod ffi;
+mod hosted;
 mod identity;
+mod operation;
 mod slot;
 
 pub use board::{Board, Budget, Interrupts, Pending, Window};
 pub use error::{CreateError, Error};
+pub use hosted::{HostedBoard, Served};
 pub use identity::{Identity, IdentityTooLong};
+pub use operation::{Kind, Operation, Outcome, Run};
 pub use slot::Slot;

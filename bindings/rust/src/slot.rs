@@ -19,8 +19,8 @@ pub struct Slot {
 }
 
 impl Slot {
-    /// A guest with `len` bytes of memory from `base` on, whose disk shows some sectors of the image: one that may be
-    /// written and whose identity is 20 NULs, with a console of 80 by 25 and an outlet of 32 KiB.
+    /// A guest with `len` bytes of memory from `base` on, whose disk shows some sectors of the image, or where the host
+    /// serves it has as many: one that may be written and whose identity is 20 NULs, with a console of 80 by 25 and an outlet of 32 KiB.
     ///
     /// ```
     /// use kalyubos::Slot;

@@ -1,3 +1,4 @@
 pub mod AsBox
 pub mod HandleSteps
 pub mod Outlets
+pub mod Runs

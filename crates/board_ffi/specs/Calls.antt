@@ -1,110 +1,120 @@
--- What a call does to the board behind its handle.
-use Rattle.std.specs.Prelude.{◌≡◌, ℕ, ◌==◌, if◌then◌else◌, ◌<◌, ◌≤◌, ◌+◌, ◌++◌, Bool, List, Option, Some, None, IsTrue, MatchOption, IsSomeAnd, length, min, take, drop, false, Result}
-use Rattle.chain.specs.declared.budget.Progress.{Progress}
+-- What a call does to the board behind its handle, by the board's kind.
+use Rattle.std.specs.Prelude.{◌≡◌, ℕ, ◌==◌, if◌then◌else◌, Bool, List, Option, Some, None, MatchOption, IsSomeAnd, length}
 use Rattle.std.specs.List.{slice_get}
-use Rattle.std.specs.Option.{option_map}
 use Rattle.std.specs.Global.{Global}
 use Rattle.mmio_window.specs.declared.device_kind.DeviceKind.{DeviceKind}
 use Rattle.mmio_window.specs.declared.device_kind.DeviceKind.TheVariants.{Block, Console}
 use Rattle.board.specs.declared.event.EventKind.{EventKind}
 use Rattle.board.specs.declared.reply.Reply.{Reply}
-use Rattle.board.specs.Slot.{BoardSlot, interrupt_words}
-use Rattle.embed.specs.Course.{IsTaken}
-use Rattle.embed.specs.declared.refusal.Refusal.{Refusal}
-use Rattle.embed.specs.Pausing.{IsCall, IsWhole, WentOn}
-use Rattle.embed.specs.Session.{IsIdle, SessionState, output_of}
-use Rattle.paced.specs.Pacing.{Handle}
+use Rattle.board.specs.declared.reply.Reply.TheVariants as reply
+use Rattle.board.specs.HostedLine.{words_of}
+use Rattle.board.specs.Slot.{interrupt_words}
+use Rattle.embed.specs.Hosted.{HostedSessionState}
+use Rattle.embed.specs.Session.{SessionState, output_of, waiting_at}
+use Rattle.board_ffi.specs.declared.any_session.AnySession.{AnySession}
+use Rattle.board_ffi.specs.declared.any_session.AnySession.TheVariants.{Hosted, OfImage}
+use Rattle.board_ffi.specs.declared.operation.Operation.{Operation}
+use Rattle.board_ffi.specs.declared.operation.Run.{Run}
 use Rattle.board_ffi.specs.declared.pending.Pending.{Pending}
-use Rattle.board_ffi.specs.Codes.{is_response, response_of, went_on_code}
 use Rattle.board_ffi.specs.Handle.{Held}
+use Rattle.board_ffi.specs.Hosted as hosted
+use Rattle.board_ffi.specs.OfImage as image
 
 -- A call on a handle: where it holds no board it answers 1 and goes on holding none; a board does this, and is
 -- still there.
-abbrev pub Calls : Held → Held → ℕ → (SessionState → SessionState → Type 0) → Type 0
+abbrev pub Calls : Held → Held → ℕ → (AnySession → AnySession → Type 0) → Type 0
 Calls before after code step =
     MatchOption before ((code ≡ 1) × (after ≡ None)) (λ old. IsSomeAnd after (step old))
 
--- The board takes a call for this event of a slot, and its response is the one that the number stands for: where the
--- call is done it is this reply, and a step of the board.
-pub record Takes (slot : ℕ) (what : EventKind Global) (code : ℕ) (done : Reply Global) (old new : SessionState) : Type 0 where
-  pub call : IsCall old (Handle (record { slot = slot; what = what })) (response_of code done) new
-  pub whole : IsWhole old (record { slot = slot; what = what }) (response_of code done) new
-  pub code_is : IsTrue (is_response code)
+-- A board over an image does this, or one whose disks the host serves does that. It stays of its kind.
+abbrev pub ByKind : (SessionState → SessionState → Type 0) → (HostedSessionState → HostedSessionState → Type 0) → AnySession → AnySession → Type 0
+ByKind over served (OfImage old) (OfImage new) = over old new
+ByKind over served (Hosted old) (Hosted new) = served old new
+ByKind over served (OfImage old) (Hosted new) = ⊥
+ByKind over served (Hosted old) (OfImage new) = ⊥
 
--- The service of a slot goes on, and this is told of it.
-pub record GoesOn (slot code : ℕ) (old new : SessionState) : Type 0 where
-  pub result : Result Progress Refusal
-  pub went : WentOn Global old slot result new
-  pub code_is : code ≡ went_on_code result
+-- a board over an image does this, and one whose disks the host serves never does
+abbrev pub OverImage : (SessionState → SessionState → Type 0) → AnySession → AnySession → Type 0
+OverImage over = ByKind over (λ old new. ⊥)
+
+-- and the other way round
+abbrev pub Served : (HostedSessionState → HostedSessionState → Type 0) → AnySession → AnySession → Type 0
+Served served = ByKind (λ old new. ⊥) served
 
 -- the window of each number
 abbrev pub window_of : ℕ → Option DeviceKind
 window_of number = if number == 0 then Some Block else (if number == 1 then Some Console else None)
 
--- The first bytes of what a slot's console put out are moved out, as many as find room, and the others stay.
-pub record MovesOutput (slot : ℕ) (into_old into_new : List ℕ) (taken : ℕ) (old new : SessionState) : Type 0 where
-  pub there : slot < length old.slots
-  pub count : taken ≡ min (length (output_of slot old)) (length into_old)
-  pub moved : into_new ≡ take taken (output_of slot old) ++ drop taken into_old
-  pub left : IsTaken old slot (length into_old) (take taken (output_of slot old)) new
+-- ---- events of a guest
 
--- what waits for a slot of a session: both interrupt words, and how many bytes of its console's output
-abbrev pub pending_of : ℕ → BoardSlot → SessionState → Pending
-pending_of slot found session = record {
-  block = (interrupt_words found).0;
-  console = (interrupt_words found).1;
-  output = length (output_of slot session);
-}
+abbrev pub Takes : ℕ → EventKind Global → ℕ → Reply Global → AnySession → AnySession → Type 0
+Takes slot what code done = ByKind (image.Takes slot what code done) (hosted.Takes slot what code done)
 
--- What waits for a slot is told of the board as the call leaves it; of a slot or a board that isn't there nothing is.
+abbrev pub Writes : ℕ → EventKind Global → ℕ → AnySession → AnySession → Type 0
+Writes slot what code = ByKind (image.Takes slot what code reply.Done) (hosted.Writes slot what code)
+
+abbrev pub GoesOn : ℕ → ℕ → AnySession → AnySession → Type 0
+GoesOn slot code = ByKind (image.GoesOn slot code) (hosted.HasNoPause slot code)
+
+abbrev pub PausesBehind : ℕ → ℕ → AnySession → AnySession → Type 0
+PausesBehind slot took = OverImage (image.PausesBehind slot took)
+
+-- ---- the disk of a guest
+
+abbrev pub IsAskedFor : ℕ → Operation → List Run → List Run → AnySession → AnySession → Type 0
+IsAskedFor slot operation room runs = Served (hosted.IsAskedFor slot operation room runs)
+
+abbrev pub IsAtRest : ℕ → ℕ → AnySession → AnySession → Type 0
+IsAtRest slot code = ByKind (image.HasNoFlight slot code) (hosted.IsAtRest slot code)
+
+abbrev pub Completes : ℕ → Bool → ℕ → AnySession → AnySession → Type 0
+Completes slot failed code = ByKind (image.HasNoFlight slot code) (hosted.Completes slot failed code)
+
+-- ---- between events
+
+abbrev pub MovesOutput : ℕ → List ℕ → List ℕ → ℕ → AnySession → AnySession → Type 0
+MovesOutput slot into_old into_new taken =
+    ByKind (image.MovesOutput slot into_old into_new taken) (hosted.MovesOutput slot into_old into_new taken)
+
+abbrev pub HasMemory : ℕ → ℕ → AnySession → AnySession → Type 0
+HasMemory slot len = ByKind (image.HasMemory slot len) (hosted.HasMemory slot len)
+
+abbrev pub IsMissing : ℕ → ℕ → AnySession → AnySession → Type 0
+IsMissing slot code = ByKind (image.IsMissing slot code) (hosted.IsMissing slot code)
+
+abbrev pub IsBusy : ℕ → ℕ → AnySession → AnySession → Type 0
+IsBusy slot code = OverImage (image.IsBusy slot code)
+
+abbrev pub HasWords : ℕ → ℕ → ℕ → AnySession → AnySession → Type 0
+HasWords slot block console = ByKind (image.HasWords slot block console) (hosted.HasWords slot block console)
+
+abbrev pub IsUndisturbed : ℕ → Bool → AnySession → AnySession → Type 0
+IsUndisturbed slot disturbed = ByKind (image.IsUndisturbed slot disturbed) (hosted.IsUndisturbed slot disturbed)
+
+abbrev pub HasImage : ℕ → ℕ → AnySession → AnySession → Type 0
+HasImage code len = ByKind (image.HasImage code len) (hosted.HasNoImage code)
+
+abbrev pub CopiesImage : ℕ → ℕ → List ℕ → AnySession → AnySession → Type 0
+CopiesImage start len into = OverImage (image.CopiesImage start len into)
+
+abbrev pub IsOutside : ℕ → ℕ → ℕ → AnySession → AnySession → Type 0
+IsOutside start len code = ByKind (image.IsOutside start len code) (hosted.HasNoImage code)
+
+-- ---- what waits
+
+-- what waits for a slot: both interrupt words, and how many bytes of its console's output
+abbrev pub pending_of : (ℕ × ℕ) → List ℕ → Pending
+pending_of words output = record { block = words.0; console = words.1; output = length output }
+
+-- it is told of the session as the call leaves it; of a slot that isn't there nothing is
+abbrev pub TellsOf : ℕ → AnySession → Pending → Pending → Type 0
+TellsOf slot (OfImage session) before after =
+    MatchOption (slice_get session.slots slot) (after ≡ before)
+    (λ found. after ≡ pending_of (interrupt_words found) (output_of slot session))
+TellsOf slot (Hosted session) before after =
+    MatchOption (slice_get session.slots slot) (after ≡ before)
+    (λ found. after ≡ pending_of (words_of found) (waiting_at slot session.outputs).bytes)
+
+-- and of a board that isn't there
 abbrev pub Tells : ℕ → Held → Pending → Pending → Type 0
-Tells slot board before after =
-    MatchOption board (after ≡ before)
-    (λ session. MatchOption (slice_get session.slots slot) (after ≡ before) (λ found. after ≡ pending_of slot found session))
-
--- there is such a slot, of which nothing is paused, its memory has so many bytes, and nothing changes
-pub record HasMemory (slot len : ℕ) (old new : SessionState) : Type 0 where
-  pub idle : IsIdle slot old
-  pub there : IsSomeAnd (slice_get old.slots slot) (λ found. len ≡ length found.memory.bytes)
-  pub kept : new ≡ old
-
--- there is no such slot, and nothing changes
-pub record IsMissing (slot code : ℕ) (old new : SessionState) : Type 0 where
-  pub missing : length old.slots ≤ slot
-  pub bad_slot : code ≡ 3
-  pub kept : new ≡ old
-
--- a service of the slot is paused, and nothing changes
-pub record IsBusy (slot code : ℕ) (old new : SessionState) : Type 0 where
-  pub paused : ¬ IsIdle slot old
-  pub busy : code ≡ 19
-  pub kept : new ≡ old
-
--- both interrupt words of a slot, and nothing changes
-pub record HasWords (slot block console : ℕ) (old new : SessionState) : Type 0 where
-  pub words : option_map interrupt_words (slice_get old.slots slot) ≡ Some (block, console)
-  pub kept : new ≡ old
-
--- there is such a slot, no call of its image failed, and nothing changes
-pub record IsUndisturbed (slot : ℕ) (disturbed : Bool) (old new : SessionState) : Type 0 where
-  pub there : slot < length old.slots
-  pub noted : disturbed ≡ false
-  pub kept : new ≡ old
-
--- the image's length, and nothing changes
-pub record HasImage (code len : ℕ) (old new : SessionState) : Type 0 where
-  pub code_is : code ≡ 0
-  pub len_is : len ≡ length old.image
-  pub kept : new ≡ old
-
--- as many bytes of the image as there were places, from byte start on; and nothing changes
-pub record CopiesImage (start len : ℕ) (into : List ℕ) (old new : SessionState) : Type 0 where
-  pub inside : start + len ≤ length old.image
-  pub copied : into ≡ take len (drop start old.image)
-  pub kept : new ≡ old
-
--- not all of the range lies in the image, and nothing changes
-pub record IsOutside (start len code : ℕ) (old new : SessionState) : Type 0 where
-  pub outside : length old.image < start + len
-  pub bad_range : code ≡ 4
-  pub kept : new ≡ old
+Tells slot board before after = MatchOption board (after ≡ before) (λ session. TellsOf slot session before after)

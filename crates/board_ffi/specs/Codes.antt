@@ -1,5 +1,5 @@
 -- The number that stands for each answer.
-use Rattle.std.specs.Prelude.{ℕ, ◌==◌, ◌||◌, Bool, if◌then◌else◌, Result, Ok, Err}
+use Rattle.std.specs.Prelude.{ℕ, ◌==◌, ◌||◌, nat_lt, Bool, if◌then◌else◌, Result, Ok, Err}
 use Rattle.chain.specs.declared.budget.Progress.{Progress}
 use Rattle.chain.specs.declared.budget.Progress.TheVariants.{More, Done}
 use Rattle.guest_memory.specs.declared.fault.MemoryFault.TheVariants.{BadSize, BadBase}
@@ -9,11 +9,15 @@ use Rattle.sector_cache.specs.declared.fault.CacheFault.TheVariants as cache
 use Rattle.board.specs.declared.reply.Reply.{Reply}
 use Rattle.board.specs.declared.reply.Reply.TheVariants as reply
 use Rattle.paced.specs.declared.response.Response.{Response}
+use Rattle.board.specs.declared.hosted.reply.HostedReply.{HostedReply}
+use Rattle.board.specs.declared.hosted.reply.HostedReply.TheVariants as hosted
 use Rattle.paced.specs.declared.response.Response.TheVariants as response
 use Rattle.board.specs.declared.fault.BoardFault.{BoardFault}
 use Rattle.board.specs.declared.fault.BoardFault.TheVariants as board
 use Rattle.embed.specs.declared.refusal.Refusal.{Refusal}
-use Rattle.embed.specs.declared.refusal.Refusal.TheVariants.{BadSlot, BadRange, NoRoom, Busy}
+use Rattle.embed.specs.declared.refusal.Refusal.TheVariants.{BadSlot, BadRange, NoRoom, Busy, Idle}
+use Rattle.embed.specs.declared.hosted.progress.HostedProgress.{HostedProgress}
+use Rattle.embed.specs.declared.hosted.progress.HostedProgress.TheVariants as now
 use Rattle.embed.specs.declared.fault.SessionFault.{SessionFault}
 use Rattle.embed.specs.declared.fault.SessionFault.TheVariants as session
 
@@ -23,6 +27,7 @@ refusal_code BadSlot = 3
 refusal_code BadRange = 4
 refusal_code NoRoom = 15
 refusal_code Busy = 19
+refusal_code Idle = 21
 
 -- the board's response that a number stands for, where this one is what a call that is done is replied; where an outlet
 -- has no room the board has no memory for the output
@@ -37,6 +42,38 @@ response_of code done =
 -- the numbers that a call answers which comes to a board's response
 abbrev pub is_response : ℕ → Bool
 is_response code = (code == 0) || (code == 3) || (code == 4) || (code == 15) || (code == 18) || (code == 19)
+
+-- the reply of a board whose disks the host serves that a number stands for, where this one is what a call that is done is
+-- replied; what a disk is then asked for is told aside
+abbrev pub hosted_reply_of : {A : Type 0} → ℕ → Reply A → HostedReply A
+hosted_reply_of code done =
+    if (code == 0) || (code == 20) then hosted.Answered done
+    else (if code == 3 then hosted.Answered reply.BadSlot
+    else (if code == 4 then hosted.Answered reply.BadRange
+    else (if code == 15 then hosted.Answered reply.NoMemory
+    else (if code == 19 then hosted.Busy else hosted.Idle))))
+
+-- the numbers that a call answers which comes to such a reply
+abbrev pub is_hosted : ℕ → Bool
+is_hosted code = (code == 0) || (code == 3) || (code == 4) || (code == 15) || (code == 19) || (code == 21)
+
+-- a call that is done, or was refused
+abbrev pub code_by : {X : Type 0} → Result X Refusal → ℕ
+code_by (Ok done) = 0
+code_by (Err why) = refusal_code why
+
+-- what a slot's disk is asked for once a call is done: something, or nothing that is new
+abbrev pub asking_code : HostedProgress → ℕ
+asking_code now.Done = 0
+asking_code now.Asks = 20
+
+abbrev pub hosted_code : Result HostedProgress Refusal → ℕ
+hosted_code (Ok progress) = asking_code progress
+hosted_code (Err why) = refusal_code why
+
+-- what is answered of a slot, if there is one of so many
+abbrev pub code_at : ℕ → ℕ → ℕ → ℕ
+code_at slot count code = if nat_lt slot count then code else 3
 
 -- what is told of a service that went on
 abbrev pub progress_code : Progress → ℕ

@@ -1,11 +1,13 @@
 -- What comes of making a board.
 use Rattle.std.specs.Prelude.{◌≡◌, ℕ, ◌/◌, ◌==◌, if◌then◌else◌, List, Option, Some, None, length, All}
 use Rattle.chain.specs.declared.budget.Budget.{Budget}
-use Rattle.board.specs.Fault.{IsAccepted}
+use Rattle.board.specs.Fault.{AreGoodHosted, IsAccepted}
 use Rattle.embed.specs.declared.fault.SessionFault.{SessionFault}
 use Rattle.embed.specs.declared.guest.GuestSpec.{GuestSpec}
+use Rattle.embed.specs.Hosted.{IsHostedRefusedFor, new_hosted_session}
 use Rattle.embed.specs.Session.{new_session, slots_of}
 use Rattle.embed.specs.Refusing.{AreOutlets, IsRefusedFor}
+use Rattle.board_ffi.specs.declared.any_session.AnySession.TheVariants.{Hosted, OfImage}
 use Rattle.board_ffi.specs.declared.create.Slot.{Slot}
 use Rattle.board_ffi.specs.Codes.{fault_code}
 use Rattle.board_ffi.specs.Handle.{Held}
@@ -43,7 +45,7 @@ budget_of chains bytes = record { chains = limit_of chains; bytes = limit_of byt
 
 -- there is a new board of these guests over the image
 pub record IsMade (guests : List GuestSpec) (image : List ℕ) (cache : ℕ) (budget : Budget) (after : Held) : Type 0 where
-  pub made : after ≡ Some (new_session guests image budget)
+  pub made : after ≡ Some (OfImage (new_session guests image budget))
   pub accepted : IsAccepted (length image / 512) (slots_of guests) cache
   pub outlets : AreOutlets guests
 
@@ -53,3 +55,16 @@ pub record IsNotMade (guests : List GuestSpec) (image : List ℕ) (cache : ℕ) 
   pub why : SessionFault
   pub code_is : code ≡ fault_code why
   pub fault : IsRefusedFor guests image cache budget why
+
+-- there is a new board of these guests, whose disks the host serves
+pub record IsHostedMade (guests : List GuestSpec) (after : Held) : Type 0 where
+  pub made : after ≡ Some (Hosted (new_hosted_session guests))
+  pub accepted : AreGoodHosted (slots_of guests)
+  pub outlets : AreOutlets guests
+
+-- there is none, and the number is that of a fault of what was described
+pub record IsHostedNotMade (guests : List GuestSpec) (code : ℕ) (after : Held) : Type 0 where
+  pub none : after ≡ None
+  pub why : SessionFault
+  pub code_is : code ≡ fault_code why
+  pub fault : IsHostedRefusedFor guests why

@@ -1,4 +1,4 @@
--- What a handle holds: a session behind its pointer, or none where that is null.
+-- What a handle holds: a session of either kind behind its pointer, or none where that is null.
 use base.Fml.{Fml, ftrue, ffalse, fex}
 use base.Stored.{Coded}
 use denote.RawPtr.{Ptr, null_ptr, block_ptr}
@@ -6,19 +6,19 @@ use Rattle.std.specs.Prelude.{◌≡◌, Option, Some, None}
 use Rattle.std.specs.Coded.{coded_option}
 use Rattle.std.specs.Box.Ownership.{box_owns}
 use Rattle.std.specs.Global.{Global}
-use Rattle.std.specs.contracts.alloc.Global.{the_row as heap_row}
 use Rattle.std.specs.contracts.impls.GlobalAllocator.TheImpl.{ghosts}
-use Rattle.embed.specs.contracts.session.Session.{the_row}
+use Rattle.board_ffi.specs.contracts.any_session.AnySession.{the_row}
+use Rattle.board_ffi.specs.declared.any_session.AnySession.{AnySession}
 
 -- a session, or none
 abbrev pub Held : Type 0
-Held = Option (the_row heap_row ghosts).Denot
+Held = Option AnySession
 
 abbrev pub held_coded : Coded Held
-held_coded = coded_option (the_row heap_row ghosts).coded
+held_coded = coded_option the_row.coded
 
 -- what is owned of it: null owns nothing, and any other pointer what a box owns
 abbrev pub held : Global → Ptr → Held → Fml
 held alloc null_ptr session = fex (session ≡ None) (λ _. ftrue)
 held alloc (block_ptr b o) None = ffalse
-held alloc (block_ptr b o) (Some session) = box_owns (ghosts.dealloc_token alloc) (the_row heap_row ghosts) (block_ptr b o) session
+held alloc (block_ptr b o) (Some session) = box_owns (ghosts.dealloc_token alloc) the_row (block_ptr b o) session

@@ -1,5 +1,7 @@
 pub mod Handle
 pub mod Codes
+pub mod OfImage
+pub mod Hosted
 pub mod Calls
 pub mod Create
 pub mod Version

@@ -1,9 +1,9 @@
 //! The number of each answer, which has its name in the header.
 
-ghost use Rattle.std.specs.Prelude.{◌≡◌};
-ghost use Rattle.board_ffi.specs.Codes.{refusal_code, board_code, fault_code, progress_code};
+ghost use Rattle.std.specs.Prelude.{◌≡◌, IfOk, OnErr};
+ghost use Rattle.board_ffi.specs.Codes.{asking_code, board_code, code_by, fault_code, hosted_code, progress_code, refusal_code, went_on_code};
 
-use embed::{BoardFault, CacheFault, MemoryFault, Progress, Refusal, SessionFault};
+use embed::{BoardFault, CacheFault, HostedProgress, MemoryFault, Progress, Refusal, SessionFault};
 
 pub(crate) const DONE: u32 = 0;
 
@@ -45,6 +45,12 @@ pub(crate) const MORE: u32 = 18;
 
 pub(crate) const BUSY: u32 = 19;
 
+pub(crate) const IO: u32 = 20;
+
+pub(crate) const IDLE: u32 = 21;
+
+pub(crate) const NO_IMAGE: u32 = 22;
+
 /// The number of a call that was refused.
 pub(crate) fn of_refusal(why: Refusal) -> u32
     ensures { result ≡ refusal_code why }
@@ -54,6 +60,53 @@ pub(crate) fn of_refusal(why: Refusal) -> u32
         Refusal::BadRange => BAD_RANGE,
         Refusal::NoRoom => NO_ROOM,
         Refusal::Busy => BUSY,
+        Refusal::Idle => IDLE,
+    }
+}
+
+/// The number of a call that has nothing to tell.
+pub(crate) fn of_done(answer: Result<(), Refusal>) -> u32
+    ensures { result ≡ code_by answer }
+{
+    match answer {
+        Ok(()) => DONE,
+        Err(why) => of_refusal(why),
+    }
+}
+
+/// The number of a call that tells a register's value, and the value where there is one.
+pub(crate) fn told(answer: Result<u32, Refusal>, value: &mut u32) -> u32
+    ensures number { result ≡ code_by answer }
+    ensures value { IfOk answer (λ found. value.new ≡ found) }
+    ensures kept { OnErr answer (value.new ≡ value.old) }
+{
+    match answer {
+        Ok(found) => {
+            *value = found;
+            DONE
+        }
+        Err(why) => of_refusal(why),
+    }
+}
+
+/// The number of a call whose service may pause.
+pub(crate) fn of_served(answer: Result<Progress, Refusal>) -> u32
+    ensures { result ≡ went_on_code answer }
+{
+    match answer {
+        Ok(progress) => of_progress(progress),
+        Err(why) => of_refusal(why),
+    }
+}
+
+/// The number of a call in which a disk may come to be asked for something.
+pub(crate) fn of_hosted_progress(answer: Result<HostedProgress, Refusal>) -> u32
+    ensures { result ≡ hosted_code answer }
+{
+    match answer {
+        Ok(HostedProgress::Done) => DONE,
+        Ok(HostedProgress::Asks) => IO,
+        Err(why) => of_refusal(why),
     }
 }
 

@@ -1,15 +1,13 @@
 //! A guest's console from the outside: what is typed, its size, and what it puts out.
 
-ghost use Rattle.std.specs.Prelude.{◌≡◌, ◌≢◌, ◌⊎◌, Some};
-ghost use Rattle.embed.specs.Pausing.{taken_at};
+ghost use Rattle.std.specs.Prelude.{◌≡◌, ◌≢◌, ◌⊎◌};
 ghost use Rattle.board.specs.declared.event.EventKind.{EventKind};
 ghost use Rattle.board.specs.declared.reply.Reply.{Reply};
-ghost use Rattle.board_ffi.specs.Calls.{Calls, IsMissing, MovesOutput, Takes, Tells};
+ghost use Rattle.board_ffi.specs.Calls.{Calls, IsMissing, MovesOutput, PausesBehind, Takes, Tells};
 
-use crate::codes::{BAD_SLOT, DONE, NO_BOARD, of_progress, of_refusal};
+use crate::codes::NO_BOARD;
 use crate::handle::Handle;
 use crate::pending::Pending;
-use embed::Typed;
 use std::alloc::Global;
 
 /// Types bytes to a guest's console, and tells how many were taken, the first ones, and what then waits.
@@ -25,7 +23,7 @@ pub extern "C" fn kalyubos_input(
     ensures step { Calls board.old.session board.new.session result
         (Takes slot (EventKind.Input bytes.now) result (Reply.Took took.new)) }
     ensures taken { result ≡ 18 → Calls board.old.session board.new.session result
-        (λ old new. taken_at slot new ≡ Some took.new) }
+        (PausesBehind slot took.new) }
     ensures refused { (result ≡ 0) ⊎ (result ≡ 1) ⊎ (result ≡ 3) ⊎ (result ≡ 18) ⊎ (result ≡ 19) }
     ensures kept { result ≢ 0 → result ≢ 18 → took.new ≡ took.old }
     ensures pending { Tells slot board.new.session pending.old pending.new }
@@ -33,16 +31,10 @@ pub extern "C" fn kalyubos_input(
     let Some(mut session) = board.take(alloc) else {
         return NO_BOARD;
     };
-    let answer = session.input(slot, bytes);
+    let answer = session.input(slot, bytes, took);
     pending.tell(&session, slot);
     board.put(session);
-    match answer {
-        Ok(Typed { taken, progress }) => {
-            *took = taken;
-            of_progress(progress)
-        }
-        Err(why) => of_refusal(why),
-    }
+    answer
 }
 
 /// Gives a guest's console another size, of which its driver is told, and tells what then waits.
@@ -65,10 +57,7 @@ pub extern "C" fn kalyubos_resize(
     let answer = session.resize(slot, cols, rows);
     pending.tell(&session, slot);
     board.put(session);
-    match answer {
-        Ok(()) => DONE,
-        Err(why) => of_refusal(why),
-    }
+    answer
 }
 
 /// Moves out the first bytes of what a guest's console put out, as many as find room, and tells how many
@@ -91,13 +80,7 @@ pub extern "C" fn kalyubos_take_output(
     let Some(mut session) = board.take(alloc) else {
         return NO_BOARD;
     };
-    let answer = session.take_output(slot, into);
+    let answer = session.take_output(slot, into, taken);
     board.put(session);
-    match answer {
-        Some(count) => {
-            *taken = count;
-            DONE
-        }
-        None => BAD_SLOT,
-    }
+    answer
 }

@@ -1,4 +1,4 @@
-//! A board is made of what C describes, and is destroyed.
+//! A board over an image is made of what C describes, and a board of either kind is destroyed.
 
 ghost use Rattle.std.specs.Prelude.{◌≡◌, ◌≢◌, ◌⊎◌, ◌↔◌, ◌≤◌, ◌/◌, ◌%◌, All, IsTrue, Some, None, MatchOption, IfOk, IfErr, OnOk, IfSome, IsErrAnd, IsErrOf, length, map};
 ghost use Rattle.chain.specs.Budget.{IsSpent};
@@ -7,9 +7,11 @@ ghost use Rattle.board.specs.Fault.{IsAccepted};
 ghost use Rattle.embed.specs.declared.fault.SessionFault.{SessionFault};
 ghost use Rattle.embed.specs.Refusing.{AreOutlets, IsBoardFault, IsRefusedFor};
 ghost use Rattle.embed.specs.Session.{new_session, slots_of};
+ghost use Rattle.board_ffi.specs.declared.any_session.AnySession.{AnySession};
 ghost use Rattle.board_ffi.specs.Codes.{board_code};
 ghost use Rattle.board_ffi.specs.Create.{AreSized, IsMade, IsNotMade, budget_of, guest_of};
 
+use crate::any_session::AnySession;
 use crate::codes::{BAD_SIZE, DONE, HAS_BOARD, NO_BOARD, NO_MEMORY, of_fault};
 use crate::handle::Handle;
 use embed::{Budget, Extent, GuestSpec, Session, SessionFault, SlotSpec};
@@ -134,9 +136,10 @@ fn session(
     image: &[u8],
     cache: u32,
     budget: Budget,
-) -> Result<Box<Session>, SessionFault>
+) -> Result<Box<AnySession>, SessionFault>
     requires { ¬ IsSpent budget }
-    ensures made { IfOk result (λ session. session.value ≡ new_session (map guest_of slots.now) image.now budget) }
+    ensures made { IfOk result (λ session.
+        session.value ≡ AnySession.OfImage (new_session (map guest_of slots.now) image.now budget)) }
     ensures accepted { OnOk result (IsAccepted (length image.now / 512) (slots_of (map guest_of slots.now)) cache) }
     ensures outlets { OnOk result (AreOutlets (map guest_of slots.now)) }
     ensures fault { IfErr result (IsRefusedFor (map guest_of slots.now) image.now cache budget) }
@@ -156,7 +159,7 @@ fn session(
         return Err(SessionFault::NoMemory);
     };
     let session = Session::new(alloc, &guests, image, cache, budget)?;
-    match Box::new(alloc, session) {
+    match Box::new(alloc, AnySession::OfImage(session)) {
         Ok(session) => Ok(session),
         Err(_) => Err(SessionFault::NoMemory),
     }
@@ -173,15 +176,15 @@ fn budget(chains: u32, bytes: u64) -> Budget
     }
 }
 
-// Whether each slot has the size of this version. Nothing behind the first that hasn't is read.
-fn are_sized(slots: &[Slot]) -> bool
+/// Whether each slot has the size of this version. Nothing behind the first that hasn't is read.
+pub(crate) fn are_sized(slots: &[Slot]) -> bool
     ensures { IsTrue result ↔ AreSized slots.now }
 {
     slots.iter().all(|slot| slot.size == SLOT_SIZE)
 }
 
-// Whether no slot's outlet is larger than it may be.
-fn are_outlets(slots: &[Slot]) -> bool
+/// Whether no slot's outlet is larger than it may be.
+pub(crate) fn are_outlets(slots: &[Slot]) -> bool
     ensures { IsTrue result ↔ AreOutlets (map guest_of slots.now) }
 {
     no_slot_passes(slots, MOST_WAITING)
@@ -194,8 +197,8 @@ fn no_slot_passes(slots: &[Slot], most: u32) -> bool
     slots.iter().all(|slot| slot.outlet <= most)
 }
 
-// The guests of these slots.
-fn guests(alloc: Global, slots: &[Slot]) -> Result<Vec<GuestSpec>, AllocError>
+/// The guests of these slots.
+pub(crate) fn guests(alloc: Global, slots: &[Slot]) -> Result<Vec<GuestSpec>, AllocError>
     ensures { IfOk result (λ guests. guests.items ≡ map guest_of slots.now) }
 {
     slots.iter().map(|slot| slot.guest()).collect(alloc)

@@ -8,7 +8,7 @@ ghost use Rattle.board_ffi.specs.Handle.{Held, held, held_coded};
 
 pub(crate) mod parts;
 
-use embed::Session;
+use crate::any_session::AnySession;
 use parts::Parts;
 use std::alloc::Global;
 use std::marker::Model;
@@ -27,7 +27,7 @@ impl Model for Handle {
 
 impl Handle {
     /// Takes the session out, and leaves none.
-    pub(crate) fn take(&mut self, alloc: Global) -> Option<Box<Session>>
+    pub(crate) fn take(&mut self, alloc: Global) -> Option<Box<AnySession>>
         ensures taken { MatchOption result (self.old.session ≡ None)
             (λ session. self.old.session ≡ Some session.value) }
         ensures left { self.new.session ≡ None }
@@ -36,7 +36,7 @@ impl Handle {
     }
 
     /// Takes the session out to be ended, and leaves none.
-    pub(crate) fn take_parts(&mut self, alloc: Global) -> Option<Parts<Session, Global>>
+    pub(crate) fn take_parts(&mut self, alloc: Global) -> Option<Parts<AnySession, Global>>
         ensures taken { MatchOption result (self.old.session ≡ None)
             (λ parts. self.old.session ≡ Some parts.value) }
         ensures left { self.new.session ≡ None }
@@ -45,7 +45,7 @@ impl Handle {
     }
 
     /// Holds this session from now on.
-    pub(crate) fn put(&mut self, session: Box<Session>)
+    pub(crate) fn put(&mut self, session: Box<AnySession>)
         ensures { self.new.session ≡ Some session.value }
     {
         *self = Handle::of_parts(Parts::of(session));
@@ -60,7 +60,7 @@ impl Handle {
         }
     }
 
-    pub(crate) fn of_parts(parts: Parts<Session, Global>) -> Handle
+    pub(crate) fn of_parts(parts: Parts<AnySession, Global>) -> Handle
         ensures { result.session ≡ Some parts.value }
     {
         let Parts { ptr, alloc } = parts;
@@ -70,7 +70,7 @@ impl Handle {
         }
     }
 
-    fn into_parts(self) -> Option<Parts<Session, Global>>
+    fn into_parts(self) -> Option<Parts<AnySession, Global>>
         ensures { MatchOption result (self.session ≡ None)
             (λ parts. self.session ≡ Some parts.value) }
     {
@@ -79,7 +79,7 @@ impl Handle {
             return None;
         }
         Some(Parts {
-            ptr: at as *mut Session,
+            ptr: at as *mut AnySession,
             alloc,
         })
     }

@@ -1,9 +1,9 @@
-//! The image's bytes as they stand, while the board lives.
+//! The image's bytes as they stand, while the board lives. A board whose disks the host serves has none.
 
-ghost use Rattle.std.specs.Prelude.{◌≡◌, ◌≢◌, ◌+◌, ◌<◌, ◌≤◌, length, take, drop};
+ghost use Rattle.std.specs.Prelude.{◌≡◌, ◌≢◌, length};
 ghost use Rattle.board_ffi.specs.Calls.{Calls, CopiesImage, HasImage, IsOutside};
 
-use crate::codes::{BAD_RANGE, DONE, NO_BOARD};
+use crate::codes::NO_BOARD;
 use crate::handle::Handle;
 use std::alloc::Global;
 
@@ -16,9 +16,9 @@ pub extern "C" fn kalyubos_image_len(alloc: Global, board: &mut Handle, len: &mu
     let Some(session) = board.take(alloc) else {
         return NO_BOARD;
     };
-    *len = session.image().len();
+    let answer = session.image_len(len);
     board.put(session);
-    DONE
+    answer
 }
 
 /// Copies bytes out of the image, from byte `start` on.
@@ -38,22 +38,7 @@ pub extern "C" fn kalyubos_read_image(
     let Some(session) = board.take(alloc) else {
         return NO_BOARD;
     };
-    let answer = copy(session.image(), start, into);
+    let answer = session.read_image(start, into);
     board.put(session);
     answer
-}
-
-// Copies bytes from byte `start` on, where there are as many.
-fn copy(image: &[u8], start: usize, into: &mut [u8]) -> u32
-    ensures inside { result ≡ 0 → start + length into.old ≤ length image.now }
-    ensures copied { result ≡ 0 → into.new ≡ take (length into.old) (drop start image.now) }
-    ensures outside { result ≢ 0 → length image.now < start + length into.old }
-    ensures bad_range { result ≢ 0 → result ≡ 4 }
-    ensures kept { result ≢ 0 → into.new ≡ into.old }
-{
-    if image.len() < start || image.len() - start < into.len() {
-        return BAD_RANGE;
-    }
-    into.copy_from_slice(&image[start..start + into.len()]);
-    DONE
 }

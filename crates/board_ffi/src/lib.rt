@@ -1,16 +1,22 @@
 //! The board for C: a static library, whose header is `kalyubos.h`.
 //!
 //! Each export takes a handle, does what the session behind it does, and answers a number. `handle` is what
-//! C holds, `codes` the numbers, `pending` what waits once a call is answered. `create` makes a board and destroys it;
-//! `registers`, `memory`, `console` and `image` have the calls on one. `version` is the header's number.
+//! C holds, `any_session` the session of either kind, `codes` the numbers, `pending` what waits once a call is answered,
+//! `operation` what a disk is asked for. `create` makes a board over an image and destroys any, `create_hosted` makes one
+//! whose disks the host serves; `registers`, `disk`, `memory`, `console` and `image` have the calls on one. `version` is the
+//! header's number.
 #![tactic(auto)]
 
+mod any_session;
 mod codes;
 mod console;
 mod create;
+mod create_hosted;
+mod disk;
 mod handle;
 mod image;
 mod memory;
+mod operation;
 mod pending;
 mod registers;
 #[cfg(test)]

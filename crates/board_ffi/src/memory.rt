@@ -1,17 +1,13 @@
 //! A guest's memory between its accesses. Nothing here takes memory.
 
-ghost use Rattle.std.specs.Prelude.{◌≡◌, ◌≢◌, ◌≤◌, length, IsSomeAnd};
-ghost use Rattle.std.specs.List.{slice_get};
+ghost use Rattle.std.specs.Prelude.{◌≡◌, ◌≢◌, length};
 ghost use Rattle.board.specs.declared.event.EventKind.{EventKind};
 ghost use Rattle.board.specs.declared.reply.Reply.{Reply};
-ghost use Rattle.embed.specs.Session.{IsIdle};
 ghost use Rattle.board_ffi.specs.Calls.{Calls, HasMemory, IsBusy, IsMissing, Takes};
 
-use crate::codes::{DONE, NO_BOARD, of_refusal};
+use crate::codes::NO_BOARD;
 use crate::handle::Handle;
-use embed::Session;
 use std::alloc::Global;
-use std::ptr::NonNull;
 
 /// Copies bytes out of a guest's memory, from address `addr` on.
 #[unsafe(no_mangle)]
@@ -31,10 +27,7 @@ pub extern "C" fn kalyubos_read_memory(
     };
     let answer = session.read_memory(slot, addr, into);
     board.put(session);
-    match answer {
-        Ok(()) => DONE,
-        Err(why) => of_refusal(why),
-    }
+    answer
 }
 
 /// Copies bytes into a guest's memory, from address `addr` on.
@@ -54,10 +47,7 @@ pub extern "C" fn kalyubos_write_memory(
     };
     let answer = session.write_memory(slot, addr, from);
     board.put(session);
-    match answer {
-        Ok(()) => DONE,
-        Err(why) => of_refusal(why),
-    }
+    answer
 }
 
 /// Lends a guest's memory in place: where its first byte lies, and how many bytes there are.
@@ -79,28 +69,7 @@ pub extern "C" fn kalyubos_memory(
     let Some(session) = board.take(alloc) else {
         return NO_BOARD;
     };
-    let answer = lend(&session, slot, bytes, len);
+    let answer = session.lend(slot, bytes, len);
     board.put(session);
     answer
-}
-
-// Where the slot's memory lies.
-fn lend(session: &Session, slot: u8, bytes: &mut *mut u8, len: &mut usize) -> u32
-    ensures lent { result ≡ 0 → IsSomeAnd (slice_get session.now.slots slot)
-        (λ found. len.new ≡ length found.memory.bytes) }
-    ensures idle { result ≡ 0 → IsIdle slot session.now }
-    ensures missing { result ≢ 0 → result ≢ 19 → (result ≡ 3) × (length session.now.slots ≤ slot) }
-    ensures busy { result ≡ 19 → ¬ IsIdle slot session.now }
-    ensures kept { result ≢ 0 → (bytes.new ≡ bytes.old) × (len.new ≡ len.old) }
-{
-    let memory = match session.memory(slot) {
-        Ok(memory) => memory,
-        Err(why) => return of_refusal(why),
-    };
-    let lent = memory.slice(memory.base(), memory.len());
-    if let Some(first) = lent.first() {
-        *bytes = NonNull::from_ref(first).as_ptr();
-    }
-    *len = lent.len();
-    DONE
 }

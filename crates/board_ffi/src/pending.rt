@@ -1,10 +1,9 @@
 //! What waits for a guest and for its host once a call is answered.
 
-ghost use Rattle.std.specs.Prelude.{◌≡◌, MatchOption};
-ghost use Rattle.std.specs.List.{slice_get};
-ghost use Rattle.board_ffi.specs.Calls.{pending_of};
+ghost use Rattle.std.specs.Prelude.{◌≡◌, IfNone, IfSome};
+ghost use Rattle.board_ffi.specs.Calls.{TellsOf};
 
-use embed::Session;
+use crate::any_session::AnySession;
 
 /// Both interrupt words of a slot, and how many bytes of its console's output wait to be taken.
 #[derive(Clone, Copy, Debug, PartialEq, Eq)]
@@ -20,14 +19,26 @@ pub struct Pending {
 
 impl Pending {
     /// Tells what waits for a slot; of one that isn't there nothing is told.
-    pub(crate) fn tell(&mut self, session: &Session, slot: u8)
-        ensures { MatchOption (slice_get session.now.slots slot) (self.new ≡ self.old)
-            (λ found. self.new ≡ pending_of slot found session.now) }
+    pub(crate) fn tell(&mut self, session: &AnySession, slot: u8)
+        ensures { TellsOf slot session.now self.old self.new }
     {
-        let (Some((block, console)), Some(output)) = (
-            session.interrupts(slot),
-            session.output_len(slot),
-        ) else {
+        match session {
+            AnySession::OfImage(session) => {
+                self.tell_of(session.interrupts(slot), session.output_len(slot));
+            }
+            AnySession::Hosted(session) => {
+                self.tell_of(session.interrupts(slot), session.output_len(slot));
+            }
+        }
+    }
+
+    // Tells these words and how many bytes wait, where both are there.
+    fn tell_of(&mut self, words: Option<(u8, u8)>, output: Option<usize>)
+        ensures told { IfSome words (λ found. IfSome output (λ count.
+            self.new ≡ record { block = found.0; console = found.1; output = count })) }
+        ensures missing { IfNone words (self.new ≡ self.old) }
+    {
+        let (Some((block, console)), Some(output)) = (words, output) else {
             return;
         };
         *self = Pending {

@@ -3,9 +3,9 @@
 ghost use Rattle.std.specs.Prelude.{◌≡◌, ◌≢◌, MatchOption};
 ghost use Rattle.board.specs.declared.event.EventKind.{EventKind};
 ghost use Rattle.board.specs.declared.reply.Reply.{Reply};
-ghost use Rattle.board_ffi.specs.Calls.{Calls, GoesOn, HasWords, IsMissing, IsUndisturbed, Takes, Tells, window_of};
+ghost use Rattle.board_ffi.specs.Calls.{Calls, GoesOn, HasWords, IsMissing, IsUndisturbed, Takes, Tells, Writes, window_of};
 
-use crate::codes::{BAD_SLOT, BAD_WINDOW, DONE, NO_BOARD, of_progress, of_refusal};
+use crate::codes::{BAD_WINDOW, NO_BOARD};
 use crate::handle::Handle;
 use crate::pending::Pending;
 use embed::DeviceKind;
@@ -34,15 +34,9 @@ pub extern "C" fn kalyubos_read(
     let Some(mut session) = board.take(alloc) else {
         return NO_BOARD;
     };
-    let answer = session.read(slot, window, offset, width);
+    let answer = session.read(slot, window, offset, width, value);
     board.put(session);
-    match answer {
-        Ok(found) => {
-            *value = found;
-            DONE
-        }
-        Err(why) => of_refusal(why),
-    }
+    answer
 }
 
 /// A guest's write of a register. What it notifies is served within the budget, and what then waits is told.
@@ -60,7 +54,7 @@ pub extern "C" fn kalyubos_write(
     ensures step { MatchOption (window_of window)
         ((result ≡ 6) × (board.new ≡ board.old))
         (λ kind. Calls board.old.session board.new.session result
-        (Takes slot (EventKind.Write kind offset width value) result Reply.Done)) }
+        (Writes slot (EventKind.Write kind offset width value) result)) }
     ensures pending { MatchOption (window_of window) (pending.new ≡ pending.old)
         (λ _. Tells slot board.new.session pending.old pending.new) }
 {
@@ -73,10 +67,7 @@ pub extern "C" fn kalyubos_write(
     let answer = session.write(slot, window, offset, width, value);
     pending.tell(&session, slot);
     board.put(session);
-    match answer {
-        Ok(progress) => of_progress(progress),
-        Err(why) => of_refusal(why),
-    }
+    answer
 }
 
 /// Goes on with a guest's service that is paused, and tells what then waits.
@@ -96,10 +87,7 @@ pub extern "C" fn kalyubos_go_on(
     let answer = session.go_on(slot);
     pending.tell(&session, slot);
     board.put(session);
-    match answer {
-        Ok(progress) => of_progress(progress),
-        Err(why) => of_refusal(why),
-    }
+    answer
 }
 
 // The window of a number.
@@ -131,19 +119,12 @@ pub extern "C" fn kalyubos_interrupts(
     let Some(session) = board.take(alloc) else {
         return NO_BOARD;
     };
-    let answer = session.interrupts(slot);
+    let answer = session.interrupts(slot, block, console);
     board.put(session);
-    match answer {
-        Some((block_word, console_word)) => {
-            *block = block_word;
-            *console = console_word;
-            DONE
-        }
-        None => BAD_SLOT,
-    }
+    answer
 }
 
-/// Tells whether a call of the image failed for a guest: none does, of an image in memory.
+/// Tells whether a call of the image failed for a guest: none does, of an image in memory, or where there is none.
 #[unsafe(no_mangle)]
 pub extern "C" fn kalyubos_disturbed(
     alloc: Global,
@@ -160,13 +141,7 @@ pub extern "C" fn kalyubos_disturbed(
     let Some(session) = board.take(alloc) else {
         return NO_BOARD;
     };
-    let answer = session.disturbed(slot);
+    let answer = session.disturbed(slot, disturbed);
     board.put(session);
-    match answer {
-        Some(told) => {
-            *disturbed = told;
-            DONE
-        }
-        None => BAD_SLOT,
-    }
+    answer
 }

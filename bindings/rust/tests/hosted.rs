@@ -1,0 +1,125 @@
+//! A board whose disks the host serves: a flight from its write to its completion.
+
+use kalyubos::{CreateError, Error, HostedBoard, Kind, Outcome, Run, Slot, Window};
+
+const MEMORY: u64 = 0x8000_0000;
+const LEN: u64 = 0x1_0000;
+const NOTIFY: u16 = 0x050;
+const STATUS: u16 = 0x070;
+
+/// A board of one guest, whose driver has a read of sector 1 on offer: status at 0, header at 0x10, data at 0x400 and 0x500.
+fn one_read_on_offer() -> HostedBoard {
+    let mut board = HostedBoard::new(&[Slot::new(MEMORY, LEN, 0..2)]).expect("a board");
+    let at = MEMORY as u32;
+    for (offset, value) in [
+        (STATUS, 1),
+        (STATUS, 3),
+        (0x024, 1),
+        (0x020, 1),
+        (STATUS, 11),
+        (0x038, 4),
+        (0x080, at + 0x100),
+        (0x090, at + 0x200),
+        (0x0a0, at + 0x300),
+        (0x044, 1),
+        (STATUS, 15),
+    ] {
+        let served = board
+            .write(0, Window::Block, offset, 4, value)
+            .expect("a store");
+        assert!(!served.io);
+    }
+    let memory = board.memory(0).expect("a memory");
+    memory[0x18] = 1; // the sector
+    for (place, (addr, len, flags, next)) in [
+        (0x10, 16, 1, 1u8),
+        (0x400, 0x100, 3, 2),
+        (0x600, 0x100, 3, 3),
+        (0, 1, 2, 0),
+    ]
+    .into_iter()
+    .enumerate()
+    {
+        let entry = &mut memory[0x100 + 16 * place..][..16];
+        entry[..8].copy_from_slice(&(MEMORY + addr).to_le_bytes());
+        entry[8..12].copy_from_slice(&u32::to_le_bytes(len));
+        entry[12] = flags;
+        entry[14] = next;
+    }
+    memory[0x202] = 1; // one chain on offer
+    memory[0] = 0xff;
+    board
+}
+
+#[test]
+fn a_request_waits_for_the_host() {
+    let mut board = one_read_on_offer();
+    assert_eq!(board.complete(0, Outcome::Done), Err(Error::Idle));
+    let served = board
+        .write(0, Window::Block, NOTIFY, 4, 0)
+        .expect("a store");
+    assert!(served.io && served.pending.interrupts.block == 0);
+
+    let asked = board.operation(0).expect("a slot").expect("an operation");
+    assert_eq!(
+        (asked.kind, asked.start, asked.len, asked.stable),
+        (Kind::In, 512, 512, false)
+    );
+    let runs = [(0x400, 0x100), (0x600, 0x100)].map(|(at, len)| Run {
+        at: MEMORY + at,
+        len,
+    });
+    assert_eq!(asked.runs, runs);
+
+    // the guest runs on, but can't reset its device
+    assert_eq!(board.read(0, Window::Block, 0x008, 4), Ok(2));
+    assert_eq!(
+        board.write(0, Window::Block, STATUS, 4, 0),
+        Err(Error::Busy)
+    );
+    board.memory(0).expect("a memory")[0x101] = 0xff;
+    assert_eq!(
+        board
+            .operation(0)
+            .expect("a slot")
+            .expect("an operation")
+            .runs,
+        runs
+    );
+
+    board
+        .write_memory(0, runs[1].at, &[7; 0x100])
+        .expect("a run");
+    let served = board.complete(0, Outcome::Done).expect("a completion");
+    assert!(!served.io && served.pending.interrupts.block == 1);
+    let memory = board.memory(0).expect("a memory");
+    assert_eq!((memory[0], memory[0x6ff], memory[0x302]), (0, 7, 1));
+    assert_eq!(board.operation(0), Ok(None));
+}
+
+#[test]
+fn a_failure_is_an_error_of_the_request() {
+    let mut board = one_read_on_offer();
+    assert!(
+        board
+            .write(0, Window::Block, NOTIFY, 4, 0)
+            .expect("a store")
+            .io
+    );
+    let served = board.complete(0, Outcome::Failed).expect("a completion");
+    assert!(!served.io && served.pending.interrupts.block == 1);
+    assert_eq!(board.memory(0).expect("a memory")[0], 1);
+}
+
+#[test]
+fn refusals_are_told() {
+    let mut board = one_read_on_offer();
+    assert_eq!(board.operation(1), Err(Error::BadSlot));
+    assert_eq!(board.complete(1, Outcome::Done), Err(Error::BadSlot));
+    assert_eq!(HostedBoard::new(&[]).unwrap_err(), CreateError::NoSlots);
+    let long = Slot::new(MEMORY, LEN, 0..1 << 55);
+    assert_eq!(
+        HostedBoard::new(&[long]).unwrap_err(),
+        CreateError::ExtentOutside
+    );
+}

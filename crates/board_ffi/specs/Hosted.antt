@@ -1,0 +1,136 @@
+-- What a call does to a board whose disks the host serves.
+use Rattle.std.specs.Prelude.{◌≡◌, ℕ, ◌==◌, ◌||◌, ◌<◌, ◌≤◌, ◌++◌, Bool, List, [], ◌∷◌, Option, Some, None, IsTrue, IsSomeAnd, if◌then◌else◌, length, min, take, drop, false}
+use Rattle.std.specs.List.{slice_get}
+use Rattle.std.specs.Option.{option_map}
+use Rattle.std.specs.Global.{Global}
+use Rattle.chain.specs.declared.segment.Segment.{Segment}
+use Rattle.block_device.specs.declared.operation.Operation as disk
+use Rattle.block_device.specs.declared.operation.OperationKind.{OperationKind}
+use Rattle.block_device.specs.declared.operation.OperationKind.TheVariants as kind
+use Rattle.block_device.specs.declared.operation.Verdict.{Verdict}
+use Rattle.block_device.specs.declared.operation.Verdict.TheVariants as verdict
+use Rattle.block_device.specs.Operation.{LiesInside}
+use Rattle.board.specs.declared.event.EventKind.{EventKind}
+use Rattle.board.specs.declared.reply.Reply.{Reply}
+use Rattle.board.specs.declared.reply.Reply.TheVariants as reply
+use Rattle.board.specs.Hosting.{HostedEvent, HostedState, InFlight}
+use Rattle.board.specs.HostedLine.{words_of}
+use Rattle.board.specs.Image.{sectors_of}
+use Rattle.embed.specs.Hosted.{HostedSessionState, IsHostedCall, operation_at, progress_by}
+use Rattle.embed.specs.HostedCourse.{IsHostedTaken}
+use Rattle.embed.specs.Session.{waiting_at}
+use Rattle.board_ffi.specs.declared.operation.Operation.{Operation}
+use Rattle.board_ffi.specs.declared.operation.Run.{Run}
+use Rattle.board_ffi.specs.Codes.{asking_code, code_at, hosted_reply_of, is_hosted}
+
+-- The board takes a call for this event of a slot, and its reply is the one that the number stands for: where the call is
+-- done it is this one.
+pub record Takes (slot : ℕ) (what : EventKind Global) (code : ℕ) (done : Reply Global) (old new : HostedSessionState) : Type 0 where
+  pub call : IsHostedCall old slot (HostedEvent.Own what) (hosted_reply_of code done) new
+  pub code_is : IsTrue (is_hosted code)
+
+-- the numbers of a call that is done: the second tells that the disk is asked for something from now on
+abbrev pub is_done : ℕ → Bool
+is_done code = (code == 0) || (code == 20)
+
+-- The board takes a call for a slot in which its disk may come to be asked for something.
+pub record MayAsk (slot : ℕ) (event : HostedEvent Global) (before : Option disk.Operation) (code : ℕ)
+    (old new : HostedSessionState) : Type 0 where
+  pub call : IsHostedCall old slot event (hosted_reply_of code reply.Done) new
+  pub code_is : IsTrue (is_done code || is_hosted code)
+  pub asks : IsTrue (is_done code) → code ≡ asking_code (progress_by before (operation_at slot new))
+
+-- a guest's write
+abbrev pub Writes : ℕ → EventKind Global → ℕ → HostedSessionState → HostedSessionState → Type 0
+Writes slot what code old new = MayAsk slot (HostedEvent.Own what) (operation_at slot old) code old new
+
+-- what came of an operation
+abbrev pub verdict_of : Bool → Verdict
+verdict_of failed = if failed then verdict.Failed else verdict.Done
+
+-- what is in flight of a slot is completed
+abbrev pub Completes : ℕ → Bool → ℕ → HostedSessionState → HostedSessionState → Type 0
+Completes slot failed code old new = MayAsk slot (HostedEvent.Completed (verdict_of failed)) None code old new
+
+-- no service is ever paused, and nothing changes
+pub record HasNoPause (slot code : ℕ) (old new : HostedSessionState) : Type 0 where
+  pub code_is : code ≡ code_at slot (length old.slots) 0
+  pub kept : new ≡ old
+
+-- The first bytes of what a slot's console put out are moved out, as many as find room, and the others stay.
+pub record MovesOutput (slot : ℕ) (into_old into_new : List ℕ) (taken : ℕ) (old new : HostedSessionState) : Type 0 where
+  pub there : slot < length old.slots
+  pub count : taken ≡ min (length (waiting_at slot old.outputs).bytes) (length into_old)
+  pub moved : into_new ≡ take taken (waiting_at slot old.outputs).bytes ++ drop taken into_old
+  pub left : IsHostedTaken old slot (length into_old) (take taken (waiting_at slot old.outputs).bytes) new
+
+-- there is such a slot, its memory has so many bytes, and nothing changes
+pub record HasMemory (slot len : ℕ) (old new : HostedSessionState) : Type 0 where
+  pub there : IsSomeAnd (slice_get old.slots slot) (λ found. len ≡ length found.slot.memory.bytes)
+  pub kept : new ≡ old
+
+-- there is no such slot, and nothing changes
+pub record IsMissing (slot code : ℕ) (old new : HostedSessionState) : Type 0 where
+  pub missing : length old.slots ≤ slot
+  pub bad_slot : code ≡ 3
+  pub kept : new ≡ old
+
+-- both interrupt words of a slot, and nothing changes
+pub record HasWords (slot block console : ℕ) (old new : HostedSessionState) : Type 0 where
+  pub words : option_map words_of (slice_get old.slots slot) ≡ Some (block, console)
+  pub kept : new ≡ old
+
+-- there is such a slot, and nothing changes
+pub record IsUndisturbed (slot : ℕ) (disturbed : Bool) (old new : HostedSessionState) : Type 0 where
+  pub there : slot < length old.slots
+  pub noted : disturbed ≡ false
+  pub kept : new ≡ old
+
+-- there is no image, and nothing changes
+pub record HasNoImage (code : ℕ) (old new : HostedSessionState) : Type 0 where
+  pub code_is : code ≡ 22
+  pub kept : new ≡ old
+
+-- ---- what a disk is asked for
+
+abbrev pub kind_code : OperationKind → ℕ
+kind_code kind.In = 0
+kind_code kind.Out = 1
+kind_code kind.Flush = 2
+kind_code kind.Zeroes = 3
+
+-- an operation with its runs, as C has it
+abbrev pub told_operation : disk.Operation → List Segment → Operation
+told_operation operation runs = record {
+  kind = kind_code operation.kind;
+  runs = length runs;
+  start = operation.start;
+  len = operation.len;
+  stable = operation.stable;
+}
+
+abbrev pub told_run : Segment → Run
+told_run run = record { at = run.addr; len = run.len }
+
+-- the first runs, as many as find room, and what stood in the room behind them
+abbrev pub told_runs : List Segment → List Run → List Run
+told_runs [] room = room
+told_runs (run ∷ runs) [] = []
+told_runs (run ∷ runs) (place ∷ room) = told_run run ∷ told_runs runs room
+
+-- What is in flight of a slot is told. None of it lies outside the guest's memory or its disk. Nothing changes.
+pub record IsAskedFor (slot : ℕ) (operation : Operation) (room runs : List Run) (old new : HostedSessionState) : Type 0 where
+  pub found : HostedState
+  pub here : InFlight
+  pub there : slice_get old.slots slot ≡ Some found
+  pub flight : found.flight ≡ Some here
+  pub told : operation ≡ told_operation here.flight.operation here.runs
+  pub runs_are : runs ≡ told_runs here.runs room
+  pub inside : LiesInside (sectors_of found.slot.extent) found.slot.memory here.flight.operation here.runs
+  pub kept : new ≡ old
+
+-- nothing of the slot is in flight, if there is such a slot, and nothing changes
+pub record IsAtRest (slot code : ℕ) (old new : HostedSessionState) : Type 0 where
+  pub rests : operation_at slot old ≡ None
+  pub code_is : code ≡ code_at slot (length old.slots) 21
+  pub kept : new ≡ old

@@ -1,0 +1,74 @@
+//! A guest's console from the outside.
+
+ghost use Rattle.std.specs.Prelude.{◌≡◌, ◌≢◌, ◌⊎◌, None, Some};
+ghost use Rattle.board.specs.declared.event.EventKind.{EventKind};
+ghost use Rattle.board.specs.declared.reply.Reply.{Reply};
+ghost use Rattle.board_ffi.specs.Calls.{IsMissing, MovesOutput, PausesBehind, Takes};
+
+use crate::any_session::AnySession;
+use crate::codes::{BAD_SLOT, DONE, of_done, of_progress, of_refusal};
+use embed::Typed;
+
+impl AnySession {
+    /// Types bytes to a guest's console, and tells how many were taken, the first ones.
+    pub(crate) fn input(&mut self, slot: u8, bytes: &[u8], took: &mut usize) -> u32
+        ensures takes { Takes slot (EventKind.Input bytes.now) result (Reply.Took took.new) self.old self.new }
+        ensures taken { result ≡ 18 → PausesBehind slot took.new self.old self.new }
+        ensures refused { (result ≡ 0) ⊎ (result ≡ 3) ⊎ (result ≡ 18) ⊎ (result ≡ 19) }
+        ensures kept { result ≢ 0 → result ≢ 18 → took.new ≡ took.old }
+    {
+        match self {
+            AnySession::OfImage(session) => match session.input(slot, bytes) {
+                Ok(Typed { taken, progress }) => {
+                    *took = taken;
+                    of_progress(progress)
+                }
+                Err(why) => of_refusal(why),
+            },
+            AnySession::Hosted(session) => match session.input(slot, bytes) {
+                Ok(taken) => {
+                    *took = taken;
+                    DONE
+                }
+                Err(why) => of_refusal(why),
+            },
+        }
+    }
+
+    /// Gives a guest's console another size.
+    pub(crate) fn resize(&mut self, slot: u8, cols: u16, rows: u16) -> u32
+        ensures { Takes slot (EventKind.Resize cols rows) result Reply.Done self.old self.new }
+    {
+        match self {
+            AnySession::OfImage(session) => of_done(session.resize(slot, cols, rows)),
+            AnySession::Hosted(session) => of_done(session.resize(slot, cols, rows)),
+        }
+    }
+
+    /// Moves out the first bytes of what a guest's console put out, and tells how many they are.
+    pub(crate) fn take_output(&mut self, slot: u8, into: &mut [u8], taken: &mut usize) -> u32
+        ensures moved { result ≡ 0 → MovesOutput slot into.old into.new taken.new self.old self.new }
+        ensures missing { result ≢ 0 → IsMissing slot result self.old self.new }
+        ensures kept { result ≢ 0 → taken.new ≡ taken.old }
+        ensures kept_into { result ≢ 0 → into.new ≡ into.old }
+    {
+        match self {
+            AnySession::OfImage(session) => tell_count(session.take_output(slot, into), taken),
+            AnySession::Hosted(session) => tell_count(session.take_output(slot, into), taken),
+        }
+    }
+}
+
+// Tells how many bytes were taken of a slot, where it is there.
+fn tell_count(count: Option<usize>, taken: &mut usize) -> u32
+    ensures told { result ≡ 0 → count ≡ Some taken.new }
+    ensures missing { result ≢ 0 → count ≡ None }
+    ensures bad_slot { result ≢ 0 → result ≡ 3 }
+    ensures kept { result ≢ 0 → taken.new ≡ taken.old }
+{
+    let Some(count) = count else {
+        return BAD_SLOT;
+    };
+    *taken = count;
+    DONE
+}

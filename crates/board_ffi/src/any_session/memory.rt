@@ -1,0 +1,66 @@
+//! A guest's memory between its accesses.
+
+ghost use Rattle.std.specs.Prelude.{◌≡◌, ◌≢◌, length};
+ghost use Rattle.board.specs.declared.event.EventKind.{EventKind};
+ghost use Rattle.board.specs.declared.reply.Reply.{Reply};
+ghost use Rattle.board_ffi.specs.Calls.{HasMemory, IsBusy, IsMissing, Takes};
+
+use crate::any_session::AnySession;
+use crate::codes::{DONE, of_done, of_refusal};
+use embed::GuestMemory;
+use std::ptr::NonNull;
+
+impl AnySession {
+    /// Copies bytes out of a guest's memory, from address `addr` on.
+    pub(crate) fn read_memory(&self, slot: u8, addr: u64, into: &mut [u8]) -> u32
+        ensures takes { Takes slot (EventKind.MemRead addr (length into.old)) result (Reply.Bytes into.new) self.now self.now }
+        ensures kept { result ≢ 0 → into.new ≡ into.old }
+    {
+        match self {
+            AnySession::OfImage(session) => of_done(session.read_memory(slot, addr, into)),
+            AnySession::Hosted(session) => of_done(session.read_memory(slot, addr, into)),
+        }
+    }
+
+    /// Copies bytes into a guest's memory, from address `addr` on.
+    pub(crate) fn write_memory(&mut self, slot: u8, addr: u64, from: &[u8]) -> u32
+        ensures { Takes slot (EventKind.MemWrite addr from.now) result Reply.Done self.old self.new }
+    {
+        match self {
+            AnySession::OfImage(session) => of_done(session.write_memory(slot, addr, from)),
+            AnySession::Hosted(session) => of_done(session.write_memory(slot, addr, from)),
+        }
+    }
+
+    /// Tells where a guest's memory lies, and how many bytes it has.
+    pub(crate) fn lend(&self, slot: u8, bytes: &mut *mut u8, len: &mut usize) -> u32
+        ensures lent { result ≡ 0 → HasMemory slot len.new self.now self.now }
+        ensures missing { result ≢ 0 → result ≢ 19 → IsMissing slot result self.now self.now }
+        ensures busy { result ≡ 19 → IsBusy slot result self.now self.now }
+        ensures kept { result ≢ 0 → (bytes.new ≡ bytes.old) × (len.new ≡ len.old) }
+    {
+        match self {
+            AnySession::OfImage(session) => match session.memory(slot) {
+                Ok(memory) => place(memory, bytes, len),
+                Err(why) => of_refusal(why),
+            },
+            AnySession::Hosted(session) => match session.memory(slot) {
+                Ok(memory) => place(memory, bytes, len),
+                Err(why) => of_refusal(why),
+            },
+        }
+    }
+}
+
+// Tells where a memory lies.
+fn place(memory: &GuestMemory, bytes: &mut *mut u8, len: &mut usize) -> u32
+    ensures done { result ≡ 0 }
+    ensures len { len.new ≡ length memory.now.bytes }
+{
+    let lent = memory.slice(memory.base(), memory.len());
+    if let Some(first) = lent.first() {
+        *bytes = NonNull::from_ref(first).as_ptr();
+    }
+    *len = lent.len();
+    DONE
+}

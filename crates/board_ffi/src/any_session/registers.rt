@@ -1,0 +1,115 @@
+//! A guest's reads and writes of registers.
+
+ghost use Rattle.std.specs.Prelude.{◌≡◌, ◌≢◌, ◌<◌, ◌≤◌, None, Some, false};
+ghost use Rattle.board.specs.declared.event.EventKind.{EventKind};
+ghost use Rattle.board.specs.declared.reply.Reply.{Reply};
+ghost use Rattle.board_ffi.specs.Calls.{GoesOn, HasWords, IsMissing, IsUndisturbed, Takes, Writes};
+
+use crate::any_session::{AnySession, answer_at};
+use crate::codes::{BAD_SLOT, DONE, of_hosted_progress, of_served, told};
+use embed::DeviceKind;
+
+impl AnySession {
+    /// A guest's read of a register: what it gets.
+    pub(crate) fn read(
+        &mut self,
+        slot: u8,
+        window: DeviceKind,
+        offset: u16,
+        width: u8,
+        value: &mut u32,
+    ) -> u32
+        ensures takes { Takes slot (EventKind.Read window offset width) result (Reply.Value value.new) self.old self.new }
+        ensures kept { result ≢ 0 → value.new ≡ value.old }
+    {
+        match self {
+            AnySession::OfImage(session) => told(session.read(slot, window, offset, width), value),
+            AnySession::Hosted(session) => told(session.read(slot, window, offset, width), value),
+        }
+    }
+
+    /// A guest's write of a register.
+    pub(crate) fn write(
+        &mut self,
+        slot: u8,
+        window: DeviceKind,
+        offset: u16,
+        width: u8,
+        value: u32,
+    ) -> u32
+        ensures { Writes slot (EventKind.Write window offset width value) result self.old self.new }
+    {
+        match self {
+            AnySession::OfImage(session) => {
+                of_served(session.write(slot, window, offset, width, value))
+            }
+            AnySession::Hosted(session) => {
+                of_hosted_progress(session.write(slot, window, offset, width, value))
+            }
+        }
+    }
+
+    /// Goes on with a guest's service that is paused. Where the host serves the disks none ever is.
+    pub(crate) fn go_on(&mut self, slot: u8) -> u32
+        ensures { GoesOn slot result self.old self.new }
+    {
+        match self {
+            AnySession::OfImage(session) => of_served(session.go_on(slot)),
+            AnySession::Hosted(session) => answer_at(slot, session.slots(), DONE),
+        }
+    }
+
+    /// Tells InterruptStatus of both windows of a guest.
+    pub(crate) fn interrupts(&self, slot: u8, block: &mut u8, console: &mut u8) -> u32
+        ensures told { result ≡ 0 → HasWords slot block.new console.new self.now self.now }
+        ensures missing { result ≢ 0 → IsMissing slot result self.now self.now }
+        ensures kept { result ≢ 0 → (block.new ≡ block.old) × (console.new ≡ console.old) }
+    {
+        match self {
+            AnySession::OfImage(session) => tell_words(session.interrupts(slot), block, console),
+            AnySession::Hosted(session) => tell_words(session.interrupts(slot), block, console),
+        }
+    }
+
+    /// Tells whether a call of the image failed for a guest: none does.
+    pub(crate) fn disturbed(&self, slot: u8, disturbed: &mut bool) -> u32
+        ensures told { result ≡ 0 → IsUndisturbed slot disturbed.new self.now self.now }
+        ensures missing { result ≢ 0 → IsMissing slot result self.now self.now }
+        ensures kept { result ≢ 0 → disturbed.new ≡ disturbed.old }
+    {
+        match self {
+            AnySession::OfImage(session) => tell_undisturbed(slot, session.slots(), disturbed),
+            AnySession::Hosted(session) => tell_undisturbed(slot, session.slots(), disturbed),
+        }
+    }
+}
+
+// Tells both words of a slot, where it is there.
+fn tell_words(words: Option<(u8, u8)>, block: &mut u8, console: &mut u8) -> u32
+    ensures told { result ≡ 0 → words ≡ Some (block.new, console.new) }
+    ensures missing { result ≢ 0 → words ≡ None }
+    ensures bad_slot { result ≢ 0 → result ≡ 3 }
+    ensures kept { result ≢ 0 → (block.new ≡ block.old) × (console.new ≡ console.old) }
+{
+    let Some((block_word, console_word)) = words else {
+        return BAD_SLOT;
+    };
+    *block = block_word;
+    *console = console_word;
+    DONE
+}
+
+// Tells that a slot of so many isn't disturbed.
+fn tell_undisturbed(slot: u8, slots: usize, disturbed: &mut bool) -> u32
+    ensures there { result ≡ 0 → slot < slots }
+    ensures told { result ≡ 0 → disturbed.new ≡ false }
+    ensures missing { result ≢ 0 → slots ≤ slot }
+    ensures bad_slot { result ≢ 0 → result ≡ 3 }
+    ensures kept { result ≢ 0 → disturbed.new ≡ disturbed.old }
+{
+    if usize::from(slot) >= slots {
+        return BAD_SLOT;
+    }
+    *disturbed = false;
+    DONE
+}

@@ -1,0 +1,81 @@
+//! A board whose disks the host serves is made of what C describes.
+
+ghost use Rattle.std.specs.Prelude.{◌≡◌, ◌≢◌, ◌⊎◌, ◌↔◌, None, IfOk, IfErr, OnOk, IfSome, IsErrAnd, IsErrOf, Some, map};
+ghost use Rattle.board.specs.declared.fault.BoardFault.{BoardFault};
+ghost use Rattle.board.specs.Fault.{AreGoodHosted};
+ghost use Rattle.embed.specs.declared.fault.SessionFault.{SessionFault};
+ghost use Rattle.embed.specs.Hosted.{IsHostedBoardFault, IsHostedRefusedFor, new_hosted_session};
+ghost use Rattle.embed.specs.Refusing.{AreOutlets};
+ghost use Rattle.embed.specs.Session.{slots_of};
+ghost use Rattle.board_ffi.specs.declared.any_session.AnySession.{AnySession};
+ghost use Rattle.board_ffi.specs.Codes.{board_code};
+ghost use Rattle.board_ffi.specs.Create.{AreSized, IsHostedMade, IsHostedNotMade, guest_of};
+
+use crate::any_session::AnySession;
+use crate::codes::{BAD_SIZE, DONE, HAS_BOARD, of_fault};
+use crate::create::{Slot, are_outlets, are_sized, guests};
+use crate::handle::Handle;
+use embed::{HostedSession, SessionFault};
+use std::alloc::Global;
+
+/// Makes a board of these slots whose disks the host serves, and puts it into an empty handle. Of an extent the count
+/// alone is read.
+#[unsafe(no_mangle)]
+pub extern "C" fn kalyubos_create_hosted(alloc: Global, board: &mut Handle, slots: &[Slot]) -> u32
+    ensures full { IfSome board.old.session (λ old. (result ≡ 2) × (board.new.session ≡ Some old)) }
+
+    // the sizes are judged before all else that is described
+    ensures bad_size { board.old.session ≡ None → ((result ≡ 17) ↔ ¬ AreSized slots.now) }
+    ensures sized { board.old.session ≡ None → result ≢ 17 → AreSized slots.now }
+    ensures bad_size_keeps { board.old.session ≡ None → result ≡ 17 → board.new.session ≡ None }
+
+    ensures made { board.old.session ≡ None → result ≡ 0 →
+        IsHostedMade (map guest_of slots.now) board.new.session }
+    ensures not_made { board.old.session ≡ None → result ≢ 0 → result ≢ 17 →
+        IsHostedNotMade (map guest_of slots.now) result board.new.session }
+
+    // exactly that number, but that want of memory may come before a board's
+    ensures bad_outlet { board.old.session ≡ None → AreSized slots.now → ¬ AreOutlets (map guest_of slots.now) →
+        result ≡ 16 }
+    ensures bad_board { board.old.session ≡ None → AreSized slots.now → (fault : BoardFault) →
+        IsHostedBoardFault (map guest_of slots.now) fault → (result ≡ board_code fault) ⊎ (result ≡ 5) }
+{
+    if let Some(held) = board.take(alloc) {
+        board.put(held);
+        return HAS_BOARD;
+    }
+    if !are_sized(slots) {
+        return BAD_SIZE;
+    }
+    match session(alloc, slots) {
+        Ok(session) => {
+            board.put(session);
+            DONE
+        }
+        Err(why) => of_fault(why),
+    }
+}
+
+// A session of these slots.
+fn session(alloc: Global, slots: &[Slot]) -> Result<Box<AnySession>, SessionFault>
+    ensures made { IfOk result (λ session.
+        session.value ≡ AnySession.Hosted (new_hosted_session (map guest_of slots.now))) }
+    ensures accepted { OnOk result (AreGoodHosted (slots_of (map guest_of slots.now))) }
+    ensures outlets { OnOk result (AreOutlets (map guest_of slots.now)) }
+    ensures fault { IfErr result (IsHostedRefusedFor (map guest_of slots.now)) }
+    ensures bad_outlet { ¬ AreOutlets (map guest_of slots.now) → IsErrOf result SessionFault.BadOutlet }
+    ensures bad_board { (fault : BoardFault) → IsHostedBoardFault (map guest_of slots.now) fault →
+        IsErrAnd result (λ why. (why ≡ SessionFault.Board fault) ⊎ (why ≡ SessionFault.NoMemory)) }
+{
+    if !are_outlets(slots) {
+        return Err(SessionFault::BadOutlet);
+    }
+    let Ok(guests) = guests(alloc, slots) else {
+        return Err(SessionFault::NoMemory);
+    };
+    let session = HostedSession::new(alloc, &guests)?;
+    match Box::new(alloc, AnySession::Hosted(session)) {
+        Ok(session) => Ok(session),
+        Err(_) => Err(SessionFault::NoMemory),
+    }
+}
