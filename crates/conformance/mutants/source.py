@@ -49,7 +49,7 @@ class Model:
     def changed(self, old, new):
         """The names of a model with another text in place of `old`, which it has once."""
         function = self.function_at(self.text.index(old))
-        if function is None:
+        if function is None or old not in self.text[function.start:function.end]:
             names = {"__name__": "model"}
             exec(compile(self.text.replace(old, new), MODEL, "exec"), names)
             return names
