@@ -1,25 +1,28 @@
 -- What holds of each call of a session whose disks the host serves.
-use Rattle.std.proofs.Common.{◌≡◌, ℕ, true, Option, Some, None, List, length, refl, sym, ◌∙◌, ap, subst}
-use Rattle.std.specs.Prelude.{MatchOption, slice_set}
+use Rattle.std.proofs.Common.{◌≡◌, ◌≢◌, ◌⊎◌, inl, inr, ℕ, eqb, Bool, true, false, Option, Some, None, List, [], ◌++◌, length, refl, sym, ◌∙◌, ap, subst, append-nil}
+use Rattle.std.specs.Prelude.{⊤, MatchOption, slice_set, unwrap_or}
 use Rattle.std.specs.List.{slice_get}
 use Rattle.std.specs.Option.{option_and_then}
+use Rattle.std.proofs.lemmas.Bool.Decides.{eqb_tells}
 use Rattle.guest_memory.specs.Memory.{Memory}
 use Rattle.guest_memory.proofs.Ranges.{is_inside-tells}
+use Rattle.block_device.specs.declared.operation.Verdict.{Verdict}
 use Rattle.board.specs.declared.event.EventKind.{EventKind}
 use Rattle.board.specs.declared.event.EventKind.TheVariants.{MemWrite}
 use Rattle.board.specs.declared.hosted.reply.HostedReply.{HostedReply}
 use Rattle.board.specs.declared.hosted.reply.HostedReply.TheVariants.{Answered, Busy, Idle}
 use Rattle.board.specs.declared.reply.Reply.TheVariants.{BadSlot, Done}
-use Rattle.board.specs.Hosting.{HostedEvent, HostedOutcome, HostedState, InFlight, IsHostedNext, Own, must_wait}
+use Rattle.board.specs.Hosting.{CompletionGives, Completed, GivesAtRest, GivesInFlight, HostedEvent, HostedOutcome, HostedState, InFlight, IsBesideDisk, IsHostedNext, Own, OwnGives, WaitsOrGives, must_wait, notifies_block}
 use Rattle.board.specs.HostedLine.{CallsNone, CallsSlot, HostedCall, Told, put_back, with_bytes}
 use Rattle.board.proofs.Alone.{get_set}
 use Rattle.board.proofs.HostedAccess.{set_same, was_written}
 use Rattle.board.proofs.HostedSeats.{others_stay}
 use Rattle.board.proofs.Waiting.{busy_stays, idle_stays, outlasts}
-use Rattle.embed.specs.Hosted.{HostedSessionState, IsHostedCall, flight_at, with_hosted_bytes}
-use Rattle.embed.specs.Session.{waiting_at}
+use Rattle.embed.specs.Hosted.{HostedSessionState, IsHostedCall, IsKept, flight_at, with_hosted_bytes}
+use Rattle.embed.specs.Session.{Waiting, none_waiting, waiting_at}
 use Rattle.embed.proofs.HostedSteps.{quiet}
 use Rattle.embed.proofs.InPlace.{whole_inside}
+use Rattle.embed.proofs.Steps.{rebuilt}
 
 -- what a call for a slot that is there comes to
 pub record Came {A : Type 0} (h : ℕ) (state : HostedState) (event : HostedEvent A) (reply : HostedReply A) (old new : HostedSessionState) : Type 0 where
@@ -27,6 +30,7 @@ pub record Came {A : Type 0} (h : ℕ) (state : HostedState) (event : HostedEven
   pub next : IsHostedNext state event outcome
   pub replied : reply ≡ outcome.reply
   pub slots : new.slots ≡ slice_set old.slots h outcome.state
+  pub behind : (waiting_at h new.outputs).bytes ≡ (waiting_at h old.outputs).bytes ++ outcome.output
 
 pub came_to : {A : Type 0} (old new : HostedSessionState) (h : ℕ) (event : HostedEvent A) (reply : HostedReply A) (state : HostedState) → slice_get old.slots h ≡ Some state → IsHostedCall old h event reply new → Came h state event reply old new
 came_to {A} old new h event reply state here is =
@@ -35,7 +39,13 @@ came_to {A} old new h event reply state here is =
     let told : Told A = record { reply = reply; output = is.takes.output; block_irq = is.block; console_irq = is.console } in
     let calls : CallsSlot old.slots h state call told new.slots =
     subst (λ (o : Option HostedState). MatchOption o (CallsNone old.slots told new.slots) (λ s. CallsSlot old.slots h s call told new.slots)) here is.takes.calls in
-    record { outcome = calls.outcome; next = calls.next.next; replied = ap (λ (t : Told A). t.reply) calls.told_is; slots = calls.slots }
+    record {
+      outcome = calls.outcome;
+      next = calls.next.next;
+      replied = ap (λ (t : Told A). t.reply) calls.told_is;
+      slots = calls.slots;
+      behind = is.takes.appended ∙ ap (λ (t : Told A). waits.bytes ++ t.output) calls.told_is;
+    }
 
 -- ---- what is in flight
 
@@ -62,23 +72,78 @@ told_none {A} old new h event reply here is =
     subst (λ (o : Option HostedState). MatchOption o (CallsNone old.slots told new.slots) (λ s. CallsSlot old.slots h s (record { event = event; limit = Some waits.limit; waiting = waits.bytes }) told new.slots)) here is.takes.calls in
     ap (λ (t : Told A). t.reply) calls.told_is
 
-busy_from : {A : Type 0} (old new : HostedSessionState) (h : ℕ) (what : EventKind A) (o : Option HostedState) → slice_get old.slots h ≡ o → IsHostedCall old h (Own what) Busy new → (new.slots ≡ old.slots) × (must_wait what ≡ true)
+-- a reply that says that nothing was done
+abbrev Stalls : {A : Type 0} → HostedReply A → Type 0
+Stalls (Answered told) = ⊥
+Stalls Busy = ⊤
+Stalls Idle = ⊤
+
+-- where it is told nothing is put out
+beside_stalls : {A : Type 0} (old : HostedState) (what : EventKind A) (outcome : HostedOutcome A) → IsBesideDisk old what outcome → Stalls outcome.reply → ⊥
+beside_stalls {A} old what outcome h stalls = subst (λ (r : HostedReply A). Stalls r) h.replied stalls
+
+rest_silent : {A : Type 0} (old : HostedState) (what : EventKind A) (outcome : HostedOutcome A) (rings : Bool) → GivesAtRest rings old what outcome → Stalls outcome.reply → outcome.output ≡ []
+rest_silent {A} old what outcome true gives stalls = ap (λ (o : HostedOutcome A). o.output) gives.1
+rest_silent old what outcome false gives stalls = absurd (beside_stalls old what outcome gives stalls)
+
+passing_silent : {A : Type 0} (old : HostedState) (what : EventKind A) (outcome : HostedOutcome A) (rings : Bool) → GivesInFlight rings old what outcome → Stalls outcome.reply → outcome.output ≡ []
+passing_silent {A} old what outcome true gives stalls = ap (λ (o : HostedOutcome A). o.output) gives
+passing_silent old what outcome false gives stalls = absurd (beside_stalls old what outcome gives stalls)
+
+waiting_silent : {A : Type 0} (old : HostedState) (what : EventKind A) (outcome : HostedOutcome A) (waits : Bool) → WaitsOrGives waits old what outcome → Stalls outcome.reply → outcome.output ≡ []
+waiting_silent {A} old what outcome true gives stalls = ap (λ (o : HostedOutcome A). o.output) gives
+waiting_silent old what outcome false gives stalls = passing_silent old what outcome (notifies_block what old.slot) gives stalls
+
+own_silent : {A : Type 0} (old : HostedState) (what : EventKind A) (outcome : HostedOutcome A) (flight : Option InFlight) → OwnGives flight old what outcome → Stalls outcome.reply → outcome.output ≡ []
+own_silent old what outcome None gives stalls = rest_silent old what outcome (notifies_block what old.slot) gives stalls
+own_silent old what outcome (Some here) gives stalls = waiting_silent old what outcome (must_wait what) gives stalls
+
+completed_silent : {A : Type 0} (old : HostedState) (verdict : Verdict) (outcome : HostedOutcome A) (flight : Option InFlight) → CompletionGives flight old verdict outcome → outcome.output ≡ []
+completed_silent {A} old verdict outcome None gives = ap (λ (o : HostedOutcome A). o.output) gives
+completed_silent {A} old verdict outcome (Some here) gives = ap (λ (o : HostedOutcome A). o.output) gives.1
+
+next_silent : {A : Type 0} (old : HostedState) (event : HostedEvent A) (outcome : HostedOutcome A) → IsHostedNext old event outcome → Stalls outcome.reply → outcome.output ≡ []
+next_silent old (Own what) outcome next stalls = own_silent old what outcome old.flight next stalls
+next_silent old (Completed verdict) outcome next stalls = completed_silent old verdict outcome old.flight next
+
+same_waiting : (old new : Waiting) → new.bytes ≡ old.bytes → new.limit ≡ old.limit → new ≡ old
+same_waiting old new bytes limit = rebuilt new.bytes old.bytes new.limit old.limit bytes limit
+
+output_stays : {A : Type 0} (old new : HostedSessionState) (h : ℕ) (event : HostedEvent A) (reply : HostedReply A) (state : HostedState) → slice_get old.slots h ≡ Some state → IsHostedCall old h event reply new → Stalls reply → (slot : ℕ)
+    → ((eqb slot h ≡ true) × (slot ≡ h)) ⊎ ((eqb slot h ≡ false) × (slot ≢ h)) → waiting_at slot new.outputs ≡ waiting_at slot old.outputs
+output_stays {A} old new h event reply state here is stalls slot (inl same) =
+    let came = came_to old new h event reply state here is in
+    let silent : came.outcome.output ≡ [] = next_silent state event came.outcome came.next (subst (λ (r : HostedReply A). Stalls r) came.replied stalls) in
+    let bytes : (waiting_at h new.outputs).bytes ≡ (waiting_at h old.outputs).bytes =
+    came.behind ∙ (ap (λ (b : List ℕ). (waiting_at h old.outputs).bytes ++ b) silent ∙ append-nil (waiting_at h old.outputs).bytes) in
+    subst (λ (k : ℕ). waiting_at k new.outputs ≡ waiting_at k old.outputs) (sym same.1) (same_waiting (waiting_at h old.outputs) (waiting_at h new.outputs) bytes (is.limits h))
+output_stays old new h event reply state here is stalls slot (inr differ) = ap (λ (o : Option Waiting). unwrap_or o (none_waiting 0)) (is.outputs slot differ.1)
+
+busy_from : {A : Type 0} (old new : HostedSessionState) (h : ℕ) (what : EventKind A) (o : Option HostedState) → slice_get old.slots h ≡ o → IsHostedCall old h (Own what) Busy new → IsKept old new × (must_wait what ≡ true)
 busy_from {A} old new h what None here is = let told : ◌≡◌ {A = HostedReply A} Busy (Answered BadSlot) = told_none old new h (Own what) Busy here is in absurd (cc)
 busy_from old new h what (Some state) here is =
     let came = came_to old new h (Own what) Busy state here is in
-    let stays = busy_stays state what came.outcome came.next (sym came.replied) in
-    (came.slots ∙ set_same old.slots h state came.outcome.state here stays.0, stays.1)
+    let stays = busy_stays state what came.outcome came.next (sym came.replied) in (
+      record {
+        slots = came.slots ∙ set_same old.slots h state came.outcome.state here stays.0;
+        outputs = λ slot. output_stays old new h (Own what) Busy state here is tt slot (eqb_tells slot h);
+      },
+      stays.1,
+    )
 
-pub busy_keeps : {A : Type 0} (old new : HostedSessionState) (h : ℕ) (what : EventKind A) → IsHostedCall old h (Own what) Busy new → (new.slots ≡ old.slots) × (must_wait what ≡ true)
+pub busy_keeps : {A : Type 0} (old new : HostedSessionState) (h : ℕ) (what : EventKind A) → IsHostedCall old h (Own what) Busy new → IsKept old new × (must_wait what ≡ true)
 busy_keeps old new h what is = busy_from old new h what (slice_get old.slots h) refl is
 
-idle_from : {A : Type 0} (old new : HostedSessionState) (h : ℕ) (event : HostedEvent A) (o : Option HostedState) → slice_get old.slots h ≡ o → IsHostedCall old h event Idle new → new.slots ≡ old.slots
+idle_from : {A : Type 0} (old new : HostedSessionState) (h : ℕ) (event : HostedEvent A) (o : Option HostedState) → slice_get old.slots h ≡ o → IsHostedCall old h event Idle new → IsKept old new
 idle_from {A} old new h event None here is = let told : ◌≡◌ {A = HostedReply A} Idle (Answered BadSlot) = told_none old new h event Idle here is in absurd (cc)
 idle_from old new h event (Some state) here is =
     let came = came_to old new h event Idle state here is in
-    came.slots ∙ set_same old.slots h state came.outcome.state here (idle_stays state event came.outcome came.next (sym came.replied))
+    record {
+      slots = came.slots ∙ set_same old.slots h state came.outcome.state here (idle_stays state event came.outcome came.next (sym came.replied));
+      outputs = λ slot. output_stays old new h event Idle state here is tt slot (eqb_tells slot h);
+    }
 
-pub idle_keeps : {A : Type 0} (old new : HostedSessionState) (h : ℕ) (event : HostedEvent A) → IsHostedCall old h event Idle new → new.slots ≡ old.slots
+pub idle_keeps : {A : Type 0} (old new : HostedSessionState) (h : ℕ) (event : HostedEvent A) → IsHostedCall old h event Idle new → IsKept old new
 idle_keeps old new h event is = idle_from old new h event (slice_get old.slots h) refl is
 
 -- ---- a write in place

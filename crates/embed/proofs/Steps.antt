@@ -283,7 +283,7 @@ limits_set (o ∷ outputs) zero before after here same (suc slot) = refl
 limits_set (o ∷ outputs) (suc h) before after here same zero = refl
 limits_set (o ∷ outputs) (suc h) before after here same (suc slot) = limits_set outputs h before after here same slot
 
-rebuilt : (l k : List ℕ) (m n : ℕ) → l ≡ k → m ≡ n → ◌≡◌ {A = Waiting} (record { bytes = l; limit = m }) (record { bytes = k; limit = n })
+pub rebuilt : (l k : List ℕ) (m n : ℕ) → l ≡ k → m ≡ n → ◌≡◌ {A = Waiting} (record { bytes = l; limit = m }) (record { bytes = k; limit = n })
 rebuilt l k m n p q = rw (p, q) refl
 
 same_outlet : (a b : Waiting) → a.bytes ≡ b.bytes → a.limit ≡ b.limit → a ≡ b

@@ -43,6 +43,11 @@ pub record IsHostedCall {A : Type 0} (old : HostedSessionState) (slot : ℕ) (ev
   pub outputs : KeepsOtherOutputs slot old.outputs new.outputs
   pub limits : (slot : ℕ) → (waiting_at slot new.outputs).limit ≡ (waiting_at slot old.outputs).limit
 
+-- nothing of a session is other
+pub record IsKept (old new : HostedSessionState) : Type 0 where
+  pub slots : new.slots ≡ old.slots
+  pub outputs : (slot : ℕ) → waiting_at slot new.outputs ≡ waiting_at slot old.outputs
+
 -- what is in flight of a slot
 abbrev pub flight_at : ℕ → HostedSessionState → Option InFlight
 flight_at slot session = option_and_then (λ found. found.flight) (slice_get session.slots slot)

@@ -6,7 +6,7 @@ ghost use Rattle.board.specs.declared.event.EventKind.{EventKind};
 ghost use Rattle.board.specs.declared.hosted.reply.HostedReply.{HostedReply};
 ghost use Rattle.board.specs.Hosting.{HostedEvent, HostedState, InFlight, must_wait};
 ghost use Rattle.board.specs.declared.reply.Reply.{Reply};
-ghost use Rattle.embed.specs.Hosted.{HostedSessionState, IsHostedCall, flight_at, with_hosted_bytes};
+ghost use Rattle.embed.specs.Hosted.{HostedSessionState, IsHostedCall, IsKept, flight_at, with_hosted_bytes};
 ghost use Rattle.embed.specs.HostedCourse.{HostedDeed, IsHostedAlone, IsHostedCourse};
 
 use std::alloc::Allocator;
@@ -26,13 +26,12 @@ pub fn a_flight_outlasts_own_events<A: Allocator>()
         flight_at slot new ≡ Some here }
 {}
 
-/// A write that waits changes no slot, and only the two writes that may wait do; nor does a completion of nothing.
+/// A write that waits changes nothing, and only the two writes that may wait do; nor does a completion of nothing.
 pub fn what_waits_changes_nothing<A: Allocator>()
     ensures busy { (old new : HostedSessionState) (slot : ℕ) (what : EventKind A) →
-        IsHostedCall old slot (HostedEvent.Own what) HostedReply.Busy new →
-        (new.slots ≡ old.slots) × (must_wait what ≡ true) }
+        IsHostedCall old slot (HostedEvent.Own what) HostedReply.Busy new → IsKept old new × (must_wait what ≡ true) }
     ensures idle { (old new : HostedSessionState) (slot : ℕ) (event : HostedEvent A) →
-        IsHostedCall old slot event HostedReply.Idle new → new.slots ≡ old.slots }
+        IsHostedCall old slot event HostedReply.Idle new → IsKept old new }
 {}
 
 /// Bytes that were put into a guest's memory in place, between two calls, are the event of their write: so what holds of
