@@ -114,6 +114,22 @@ static void notify_in_place(void)
         must(KALYUBOS_BAD_SLOT);
 }
 
+/* The same where the host serves the disk: the notify asks, and the host says that it is done without moving a byte. */
+static void ask_and_complete(void)
+{
+    static struct kalyubos_run runs[KALYUBOS_RUNS];
+    struct kalyubos_operation operation;
+    struct kalyubos_pending pending;
+    idx++;
+    memcpy(memory + (AVAIL - MEMORY) + 2, &idx, 2);
+    if (kalyubos_write(&board, guest, KALYUBOS_BLOCK, 0x50, 4, 0, &pending) != KALYUBOS_IO)
+        must(KALYUBOS_BAD_SLOT);
+    must(kalyubos_operation(&board, guest, &operation, runs, KALYUBOS_RUNS));
+    must(kalyubos_completed(&board, guest, false, &pending));
+    if (operation.len != LEN || memory[HEADER - MEMORY + 16] != 0 || pending.block != 1)
+        must(KALYUBOS_BAD_SLOT);
+}
+
 static void copy_out(void)
 {
     must(kalyubos_read_memory(&board, guest, DATA, buffer, LEN));
@@ -165,8 +181,8 @@ static void time_of(const char *what, void (*work)(void), int count)
     printf("%-52s %8.1f ns\n", what, best);
 }
 
-/* So many guests, of which the last has all sectors. */
-static void open_board(uint8_t guests)
+/* So many guests, of which the last has all sectors; their disks are the host's, or parts of the image. */
+static void open_board(uint8_t guests, bool is_hosted)
 {
     struct kalyubos_slot slots[MOST];
     size_t memory_len;
@@ -175,7 +191,8 @@ static void open_board(uint8_t guests)
             .size = sizeof *slots, .base = MEMORY, .len = 0x100000, .count = i + 1 == guests ? SECTORS : 0,
             .cols = 80, .rows = 25, .outlet = OUTLET,
         };
-    must(kalyubos_create(&board, slots, guests, image, sizeof image, 8, 0, 0));
+    must(is_hosted ? kalyubos_create_hosted(&board, slots, guests)
+                   : kalyubos_create(&board, slots, guests, image, sizeof image, 8, 0, 0));
     guest = guests - 1;
     idx = 0;
     must(kalyubos_memory(&board, guest, &memory, &memory_len));
@@ -183,7 +200,7 @@ static void open_board(uint8_t guests)
 
 int main(void)
 {
-    open_board(1);
+    open_board(1, false);
     bring_up();
     bring_up_console();
     time_of("a register read", read_register, READS);
@@ -196,10 +213,14 @@ int main(void)
     time_of("a WRITE_ZEROES of 65536 sectors", request, 1);
     time_of("a memset of as many bytes", fill_alone, 1);
     must(kalyubos_destroy(&board));
-    open_board(MOST);
+    open_board(MOST, false);
     bring_up();
     time_of("a register read, of the last of 64 guests", read_register, READS);
     time_of("a notify with one IN of 4 KiB, memory in place, of it", notify_in_place, REQUESTS);
+    must(kalyubos_destroy(&board));
+    open_board(1, true);
+    bring_up();
+    time_of("hosted: a notify that asks, what for, its completion", ask_and_complete, REQUESTS);
     must(kalyubos_destroy(&board));
     return 0;
 }
