@@ -26,6 +26,9 @@ def stories():
     for size in (1, 4, 8):
         for place in range(2):
             yield used_event_off_four(size, place)
+    yield used_event_elsewhere()
+    for kind in KINDS:
+        yield last_byte_at_each_place(kind)
 
 
 def bits_that_are_not_set(window):
@@ -107,4 +110,44 @@ def used_event_off_four(size, place):
             queue.put(at, number(wanted % 65536, 2) + number(other % 65536, 2))
             queue.notify(told=USED if named else 0)
             queue.acknowledge()
+    return story
+
+
+def used_event_elsewhere():
+    """used_event names places that a service doesn't pass."""
+    story = Story("meetings/used_event_names_another_place", "a service that doesn't pass the named place isn't told", [Slot()],
+                  shows=[("used_event", "each power of two and its neighbours, where it is no place of the service")])
+    queue = Split(story, "b", 0, 4, low=EVENT_IDX).bring_up()
+    queue.put(BASE + 0x4000, FLUSH)
+    for named in sorted({at for power in range(4, 16) for at in (2 ** power - 2, 2 ** power - 1, 2 ** power)} | {65534, 65535}):
+        if named == queue.offered:
+            continue
+        queue.offer([Buffer(BASE + 0x4000, 16), Buffer(BASE + 0x5000, 1, WRITE)])
+        queue.put(queue.areas[1] + 12, number(named, 2))
+        queue.notify(told=0)
+    return story
+
+
+# Which buffer, counted from 0, takes a chain's bytes to 2^32 - 1 or past it.
+LAST_PLACES = (16, 17, 30, 31, 32, 33, 62, 63, 64, 65, 126, 127, 128, 129, 253, 254, 255)
+
+
+def last_byte_at_each_place(kind):
+    """The buffer at a place takes the chain to 2^32 - 1 bytes, or a byte further. Those before it are empty, or the whole memory."""
+    story = Story(f"meetings/{kind}_bytes_at_each_place", "the bytes of a chain are judged at each of its buffers", [SLOT],
+                  shows=[(f"bytes of a chain, {kind}", f"2^32 - 1 and one more, by the buffer at {', '.join(map(str, LAST_PLACES))}")])
+    queue = KINDS[kind](story, "b", 0, 256, areas=[LARGE + 0x1000, LARGE + 0x3000, LARGE + 0x5000]).bring_up()
+    for place in LAST_PLACES:
+        front = [Buffer(HEADER, 16)] + [Buffer(LARGE, 0, WRITE)] * (place - 16) + [Buffer(LARGE, LENGTH, WRITE)] * 15
+        for more in (0, 1):
+            size = LENGTH - 17 + more
+            queue.put(HEADER, FLUSH)
+            queue.put(LARGE + size - 1, b"\xee")
+            queue.offer([*front, Buffer(LARGE, size, WRITE)])
+            if more:
+                queue.notify(FAULT)
+                queue.bring_up_again()
+            else:
+                queue.notify()
+            story.look(LARGE + size - 1, 1, b"\xee" if more else b"\0")
     return story
