@@ -13,7 +13,8 @@ ghost use Rattle.replay.specs.Pieces.{SendsRun};
 ghost use Rattle.replay.specs.Running.{AnswersEvent, AnswersSaid, HasRoomFor, IsPart, RunsLine, RunsSaid, words_of};
 ghost use Rattle.trace.specs.Said.{IsFineSaid};
 ghost use Rattle.trace.specs.Sends.{waiting};
-ghost use Rattle.trace.specs.Words.{IsBytesField, Says, Bytes as ByBytes};
+ghost use Rattle.hexadecimal.specs.Fields.{IsBytesField};
+ghost use Rattle.trace.specs.Words.{Says, Bytes as ByBytes};
 
 use board::{Board, EventKind, Reply};
 use sector_cache::Image;

@@ -15,11 +15,13 @@ use Rattle.trace.specs.Cuts.{fields_of}
 use Rattle.trace.specs.Faults.{AllSay, AreAsMany, MayStand, order, fault_of}
 use Rattle.trace.specs.Printable.{KindInRange, IsPrintableKind, SlotInRange}
 use Rattle.trace.specs.Refusals.{IsFine}
-use Rattle.trace.specs.Spelling.{num, fixed, bytes, window, mode, width_digit}
+use Rattle.hexadecimal.specs.Spelling.{num, fixed, bytes}
+use Rattle.trace.specs.Spelling.{window, mode, width_digit}
 use Rattle.trace.specs.Text.{line, cache_fields, cache_line, slot_fields, slot_line, event_fields, event_line, what_fields}
 use Rattle.trace.specs.Version.{in_version_2}
-use Rattle.trace.specs.Words.{Shape, Value, Says, shape_of, shapes, spelled, width_among, IsNum, IsFixed, IsWidth}
-use Rattle.trace.proofs.ByteFields.{bytes_digits}
+use Rattle.hexadecimal.specs.Fields.{IsNum, IsFixed}
+use Rattle.trace.specs.Words.{Shape, Value, Says, shape_of, shapes, spelled, width_among, IsWidth}
+use Rattle.trace.proofs.Signs.{bytes_digits}
 use Rattle.trace.proofs.Signs.{Above, AllAbove, above_tested, above_num, above_fixed, fields_of-line, above_line}
 
 -- ---- words

@@ -1,11 +1,9 @@
-pub mod Digits
 pub mod Versions
-pub mod Numbers
 pub mod Cutting
 pub mod Signs
-pub mod ByteFields
-pub mod PairSteps
-pub mod Judging
+pub mod Fronts
+pub mod Widths
+pub mod Identities
 pub mod Entries
 pub mod Saying
 pub mod Taking

@@ -4,10 +4,10 @@ use Rattle.hex.specs.Hex.{encode_lower}
 use Rattle.board.specs.declared.reply.Reply.{Reply}
 use Rattle.trace.specs.Records.{entry_of, quiet_line, record_line, reply_field}
 use Rattle.trace.specs.Sends.{Sends}
-use Rattle.trace.specs.Spelling.{bytes, digit, fixed, num}
+use Rattle.hexadecimal.specs.Spelling.{bytes, digit, fixed, num}
 use Rattle.trace.specs.Text.{line, ended}
-use Rattle.trace.proofs.ByteFields.{all_written, encode_append}
-use Rattle.trace.proofs.Numbers.{num_digit, num_split}
+use Rattle.hexadecimal.proofs.ByteFields.{all_written, encode_append}
+use Rattle.hexadecimal.proofs.Numbers.{num_digit, num_split}
 use Rattle.trace.proofs.Passing.{sends_more, sends_same}
 
 -- a slot's number by one digit, or by two

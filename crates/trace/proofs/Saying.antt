@@ -10,7 +10,7 @@ use Rattle.trace.specs.Printable.{IsPrintableKind, KindInRange}
 use Rattle.trace.specs.Refusals.{IsFine}
 use Rattle.trace.specs.Said.{IsFineSaid, IsFineWhat, IsPlain, said_fields, said_line, what_said}
 use Rattle.trace.specs.Text.{event_fields, event_line, line, what_fields}
-use Rattle.trace.proofs.ByteFields.{spelled_len}
+use Rattle.hexadecimal.proofs.ByteFields.{spelled_len}
 use Rattle.trace.proofs.Entries.{cut_event}
 
 -- an event with these fields, and as many bytes as are still spelled

@@ -4,14 +4,17 @@ use Rattle.std.proofs.Common.{◌≡◌, ℕ, ◌+◌, ◌<◌, ◌≤◌, ltb, 
 use Rattle.std.specs.List.{AllByRecursion, slice_split, join_with_byte, flat_map, list_all}
 use Rattle.std.proofs.lemmas.Bool.{ltb-true, ne_eqb, and_parts}
 use Rattle.std.proofs.lemmas.List.{append_assoc, append-nil}
-use Rattle.std.proofs.lemmas.List.Elements.{All-from_recursion}
+use Rattle.std.proofs.lemmas.List.Elements.{All-from_recursion, recursion_from_All}
+use Rattle.hex.specs.Hex.{encode_lower}
 use Rattle.std.proofs.lemmas.List.Splits.{slice_split_at, slice_split_none, join_with_byte-slice_split}
 use Rattle.trace.specs.Cuts.{fields_of, lines_of, is_space, is_line_feed}
-use Rattle.trace.specs.Spelling.{num, fixed}
+use Rattle.hexadecimal.specs.Fields.{IsDigit}
+use Rattle.hexadecimal.specs.Spelling.{num, fixed, bytes}
 use Rattle.trace.specs.Text.{line, joined, ended, header}
 use Rattle.trace.proofs.Cutting.{is_byte}
-use Rattle.trace.proofs.Digits.{digit_above}
-use Rattle.trace.proofs.Numbers.{AreDigits, are_digits_num, are_digits_fixed}
+use Rattle.hexadecimal.proofs.ByteFields.{AreBytes, digits_encoded, is_bytes}
+use Rattle.hexadecimal.proofs.Digits.{digit_above}
+use Rattle.hexadecimal.proofs.Numbers.{AreDigits, are_digits_num, are_digits_fixed}
 
 -- each byte is above b
 abbrev pub Above : ℕ → List ℕ → Type 0
@@ -49,6 +52,12 @@ differs b (x ∷ xs) h = let first = h.0 in (ne_eqb x b (λ e. omega arith), dif
 
 pub without : (b : ℕ) (xs : List ℕ) → Above b xs → All (λ c. is_byte b c ≡ false) xs
 without b xs h = All-from_recursion (λ c. is_byte b c ≡ false) xs (differs b xs h)
+
+-- no byte of a spelling is a sign that cuts a text
+pub bytes_digits : (bs : List ℕ) → AreBytes bs → Above 32 (bytes bs)
+unfolding bytes
+bytes_digits [] h = above_tested 32 (45 ∷ []) refl
+bytes_digits (b ∷ bs) h = above_digits (encode_lower (b ∷ bs)) (recursion_from_All IsDigit (encode_lower (b ∷ bs)) (digits_encoded (b ∷ bs) (is_bytes (b ∷ bs) h)))
 
 -- ---- fields
 

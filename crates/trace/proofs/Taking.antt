@@ -3,7 +3,8 @@ use Rattle.std.proofs.Common.{◌≡◌, ℕ, ◌*◌, ◌^◌, ◌<◌, List, [
 use Rattle.trace.specs.Cuts.{fields_of}
 use Rattle.trace.specs.declared.value.FieldValue.TheVariants as value
 use Rattle.trace.specs.Values.{SaysValue}
-use Rattle.trace.specs.Words.{AllRight, IsFixed, IsWidthField, Says, Value}
+use Rattle.hexadecimal.specs.Fields.{IsFixed}
+use Rattle.trace.specs.Words.{AllRight, IsWidthField, Says, Value}
 use Rattle.trace.proofs.Cutting.{some_fields}
 
 -- a field after those that a line has

@@ -19,12 +19,13 @@ use Rattle.trace.specs.Faults.{IsCleanBefore, IsEnded, IsFault, Passes, line_at,
 use Rattle.trace.specs.Printable.{IsPrintableKind, IsWriteAccess, KindInRange}
 use Rattle.trace.specs.Refusals.{IsFine, IsFineSlot}
 use Rattle.trace.specs.Version.{IsVersion}
-use Rattle.trace.specs.Spelling.{bytes, fixed, mode, window}
+use Rattle.hexadecimal.specs.Spelling.{bytes, fixed}
+use Rattle.trace.specs.Spelling.{mode, window}
 use Rattle.trace.specs.Text.{Content, cache_line, event_fields, event_line, slot_fields, slot_line, text, trace_lines, what_fields}
 use Rattle.trace.specs.Words.{spelled}
-use Rattle.trace.proofs.ByteFields.{AreBytes, is_bytes}
+use Rattle.hexadecimal.proofs.ByteFields.{AreBytes, is_bytes}
 use Rattle.trace.proofs.Entries.{cut_cache, cut_event, cut_slot, entered_event, entered_slot, fits_digits, same_word}
-use Rattle.trace.proofs.Numbers.{same_fixed, same_num}
+use Rattle.hexadecimal.proofs.Numbers.{same_fixed, same_num}
 use Rattle.trace.proofs.Signs.{lines_of-joined}
 use Rattle.trace.proofs.Sofar.{Fits, Sofar, clean, lines_left, next_is, unbroken}
 

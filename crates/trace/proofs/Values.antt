@@ -12,7 +12,7 @@ use Rattle.trace.specs.Printable.{IsWriteAccess}
 use Rattle.trace.specs.Spelling.{value_text}
 use Rattle.trace.specs.Values.{AreOf, IsOf, SaysValue, SayValues}
 use Rattle.trace.specs.Words.{AllRight, AreRight, IsWidth, Mode, Num, Offset, Says, Shape, Value, Width, Window, fields_in, shape_of, shapes, width_among}
-use Rattle.trace.proofs.Numbers.{num_width}
+use Rattle.trace.proofs.Widths.{num_width}
 use Rattle.trace.proofs.Versions.{map_in_version_2}
 
 -- ---- the values so far

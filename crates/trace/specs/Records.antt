@@ -3,7 +3,7 @@ use Rattle.std.specs.Prelude.{ℕ, List, [], ◌∷◌, ◌++◌, codes, map}
 use Rattle.board.specs.declared.reply.Record.{Record}
 use Rattle.board.specs.declared.reply.Reply.{Reply}
 use Rattle.board.specs.declared.reply.Reply.TheVariants as reply
-use Rattle.trace.specs.Spelling.{digit, num, fixed, bytes}
+use Rattle.hexadecimal.specs.Spelling.{digit, num, fixed, bytes}
 use Rattle.trace.specs.Text.{line, joined}
 
 -- what was answered: a value by eight digits, bytes, how many of them were taken, or a word

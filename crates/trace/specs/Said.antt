@@ -5,7 +5,7 @@ use Rattle.board.specs.declared.event.EventKind.TheVariants as what
 use Rattle.trace.specs.declared.read.said.Said.{Said}
 use Rattle.trace.specs.declared.word.Word.TheVariants.{MemWrite, Input}
 use Rattle.trace.specs.Printable.{IsPrintableKind, KindInRange}
-use Rattle.trace.specs.Spelling.{num}
+use Rattle.hexadecimal.specs.Spelling.{num}
 use Rattle.trace.specs.Text.{line, what_fields}
 use Rattle.trace.specs.Words.{Bytes, Says, spelled}
 

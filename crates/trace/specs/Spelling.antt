@@ -1,7 +1,6 @@
 -- How each field of a trace and of the records is spelled, as a list of ASCII bytes.
-use Rattle.std.specs.Prelude.{ℕ, zero, suc, ◌+◌, ◌*◌, ◌/◌, ◌%◌, Bool, true, false, List, [], ◌∷◌, ◌++◌, map, slice_index, codes}
-use Rattle.std.specs.Int.Digits.{digits_of}
-use Rattle.hex.specs.Hex.{lower_digits, encode_lower}
+use Rattle.std.specs.Prelude.{ℕ, ◌+◌, ◌*◌, Bool, true, false, List, [], ◌∷◌, codes}
+use Rattle.hexadecimal.specs.Spelling.{num, fixed, bytes}
 use Rattle.mmio_window.specs.declared.device_kind.DeviceKind.{DeviceKind}
 use Rattle.mmio_window.specs.declared.device_kind.DeviceKind.TheVariants.{Block, Console}
 use Rattle.trace.specs.declared.print.line.LineFields.{LineFields}
@@ -9,25 +8,6 @@ use Rattle.trace.specs.declared.table.Field.{Field}
 use Rattle.trace.specs.declared.table.Field.TheVariants as field
 use Rattle.trace.specs.declared.value.FieldValue.{FieldValue}
 use Rattle.trace.specs.declared.value.FieldValue.TheVariants.{Number, Mode, Window, Offset, Width, Value, Identity, Spelled}
-
--- the lower case hexadecimal digit of a number below 16
-unfoldable pub digit : ℕ → ℕ
-digit d = slice_index lower_digits d
-
--- a whole number in hexadecimal, the highest digit first and without leading zeros; zero is `0`
-unfoldable pub num : ℕ → List ℕ
-num zero = codes "0"
-num (suc n) = map digit (digits_of 16 (suc n))
-
--- exactly k digits of a number below 16 ^ k, leading zeros included
-unfoldable pub fixed : ℕ → ℕ → List ℕ
-fixed zero n = []
-fixed (suc k) n = fixed k (n / 16) ++ digit (n % 16) ∷ []
-
--- bytes as two digits each, and none as `-`
-unfoldable pub bytes : List ℕ → List ℕ
-bytes [] = codes "-"
-bytes (b ∷ bs) = encode_lower (b ∷ bs)
 
 -- the window of a kind of device
 abbrev pub window : DeviceKind → List ℕ

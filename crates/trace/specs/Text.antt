@@ -8,7 +8,8 @@ use Rattle.board.specs.declared.event.EventKind.TheVariants as what
 use Rattle.board.specs.declared.spec.SlotSpec.{SlotSpec}
 use Rattle.trace.specs.declared.trace.Trace.{Trace}
 use Rattle.trace.specs.declared.word.Word.TheVariants.{Cache, Slot, Read, Write, MemRead, MemWrite, Input, Resize}
-use Rattle.trace.specs.Spelling.{num, fixed, bytes, window, width_digit, mode}
+use Rattle.hexadecimal.specs.Spelling.{num, fixed, bytes}
+use Rattle.trace.specs.Spelling.{window, width_digit, mode}
 use Rattle.trace.specs.Version.{in_version_2}
 use Rattle.trace.specs.Words.{spelled}
 

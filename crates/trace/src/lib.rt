@@ -3,15 +3,13 @@
 //! A trace says which board there is and what its guests do. It is ASCII text of lines, and each trace has
 //! one text. `read` has the way from a text to its trace, `print` the way back and the text of records, and
 //! `round_trip` goes both ways. `word` says what a line is, `table` which fields it has, `value` what one says, and
-//! `version` what the first line says. `digit` is one digit, and `pairs` the two that spell a byte, there and back.
+//! `version` what the first line says. How numbers and bytes are spelled is `hexadecimal`'s.
 //! `fault` has what is answered for a text that isn't a trace, and `laws` says that a text has one meaning or one fault.
 #![tactic(auto)]
 
-mod digit;
 mod fault;
 mod laws;
 mod no_memory;
-mod pairs;
 mod print;
 mod read;
 mod round_trip;

@@ -1,6 +1,6 @@
 //! Writing a whole trace.
 //!
-//! `line` writes a line, `push` one field, and `range` says the bounds of its numbers. `records` puts records into the
+//! `line` writes a line, and `range` says the bounds of its numbers. `records` puts records into the
 //! `buffer` before a writer, and `write` writes whole texts.
 
 ghost use Rattle.std.specs.Prelude.{◌≡◌, ◌*◌, ◌^◌, ◌<◌, ◌↔◌, ◌++◌, ◌∷◌, All, IsTrue, IfOk, OnOk, map};
@@ -12,7 +12,6 @@ ghost use Rattle.trace.specs.Words.{IsWidth, fields_in, spelled};
 
 mod buffer;
 mod line;
-mod push;
 mod range;
 mod records;
 mod write;

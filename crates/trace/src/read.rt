@@ -1,7 +1,7 @@
 //! Reading a whole trace.
 //!
 //! `cut` takes lines and fields off. `entry` and `fields` read one line, whose `values` are read over the table of its
-//! fields, and `frequent` those that come most often. `number`, `choice` and `bytes` read one field. `said` is the event
+//! fields, and `frequent` those that come most often. `choice`, `offset` and `identity` read one field, and `number` the front of a line. `said` is the event
 //! that a line says, with its bytes still spelled. `judging` goes over a whole text and keeps what stands before its
 //! events, `events` takes these one by one, and `at_fault` finds the fault of a line, and its field.
 
@@ -14,7 +14,6 @@ ghost use Rattle.trace.specs.Said.{IsFineSaid};
 ghost use Rattle.trace.specs.Version.{IsVersion};
 
 mod at_fault;
-mod bytes;
 mod choice;
 mod cut;
 mod entry;
@@ -22,15 +21,16 @@ mod event_line;
 mod events;
 mod fields;
 mod frequent;
+mod identity;
 mod judging;
 mod number;
+mod offset;
 mod said;
 mod values;
 
 use crate::fault::{FaultKind, TraceFault};
 use crate::read::at_fault::fault_in;
 pub use crate::read::at_fault::{field_at_fault, first_word};
-pub use crate::read::bytes::{read_bytes, spelled_len};
 pub use crate::read::cut::line_of;
 use crate::read::cut::{take_field, take_line};
 use crate::read::entry::{Entry, entry_of};
@@ -43,6 +43,7 @@ use crate::trace::Trace;
 use crate::version::{VERSION_1, version_of};
 use crate::word::{Word, is_cache};
 use board::Event;
+pub use hexadecimal::{read_bytes, spelled_len};
 use std::alloc::{AllocError, Allocator};
 
 /// The version that the first line names, and what follows it.

@@ -5,7 +5,7 @@ ghost use Rattle.trace.specs.Spelling.{field_text};
 ghost use Rattle.trace.specs.Text.{ended, line};
 ghost use Rattle.trace.specs.Words.{fields_in, spelled};
 
-use crate::print::push::{push_bytes, push_fixed, push_num};
+use hexadecimal::{push_bytes, push_fixed, push_num};
 use crate::table::{Field, fields_after};
 use crate::word::{Word, spelling_of};
 use board::DeviceKind;

@@ -5,12 +5,11 @@ ghost use Rattle.board.specs.Line.{HasInterruptWords};
 ghost use Rattle.hex.specs.Hex.{encode_lower};
 ghost use Rattle.trace.specs.Records.{entry_of, quiet_line, read_line, record_line, records_text, reply_field};
 ghost use Rattle.trace.specs.Sends.{Sends, waiting};
-ghost use Rattle.trace.specs.Spelling.{bytes as bytes_field, digit, fixed, num};
+ghost use Rattle.hexadecimal.specs.Spelling.{bytes as bytes_field, digit, fixed, num};
 ghost use Rattle.trace.specs.Text.{ended};
 
-use crate::digit::digit_of;
 use crate::no_memory::NoMemory;
-use crate::pairs::spell;
+use hexadecimal::{digit_of, spell};
 use crate::print::buffer::{Buffer, Nowhere};
 use board::{Record, Reply};
 use std::alloc::Allocator;

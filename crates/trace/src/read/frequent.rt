@@ -5,12 +5,14 @@
 
 ghost use Rattle.std.specs.Prelude.{◌≡◌, ◌++◌, ◌∷◌, ◌^◌, ◌<◌, IfSome};
 ghost use Rattle.trace.specs.Said.{IsFineSaid, said_line};
-ghost use Rattle.trace.specs.Spelling.{fixed, num, width_digit, window};
+ghost use Rattle.hexadecimal.specs.Spelling.{fixed, num};
+ghost use Rattle.trace.specs.Spelling.{width_digit, window};
 ghost use Rattle.trace.specs.Words.{IsWidth, spelled};
 
-use crate::read::bytes::are_bytes;
 use crate::read::choice::{width_of, window_of};
-use crate::read::number::{fixed_number, number_u8, number_u32, offset_of, take_number};
+use crate::read::number::take_number;
+use crate::read::offset::offset_of;
+use hexadecimal::{are_bytes, fixed_number, number_u8, number_u32};
 use crate::read::said::Said;
 use crate::word::Word;
 use board::{DeviceKind, EventKind};

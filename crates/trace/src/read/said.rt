@@ -8,9 +8,10 @@ ghost use Rattle.trace.specs.Judging.{said_len};
 ghost use Rattle.trace.specs.Refusals.{IsFine};
 ghost use Rattle.trace.specs.Said.{IsFineSaid, said_fields};
 ghost use Rattle.trace.specs.Text.{event_fields};
-ghost use Rattle.trace.specs.Words.{IsBytesField, Says, Bytes as ByBytes};
+ghost use Rattle.hexadecimal.specs.Fields.{IsBytesField};
+ghost use Rattle.trace.specs.Words.{Says, Bytes as ByBytes};
 
-use crate::read::bytes::{read_bytes, spelled_len};
+use hexadecimal::{read_bytes, spelled_len};
 use board::{Bytes, Event, EventKind};
 use std::alloc::{AllocError, Allocator, Global};
 

@@ -1,5 +1,5 @@
 use Rattle.std.proofs.Common.{◌∷◌, [], ℕ, ap, sym, ◌∙◌, arith}
-use Rattle.trace.proofs.Numbers.{num_digit, num_split}
+use Rattle.hexadecimal.proofs.Numbers.{num_digit, num_split}
 use Rattle.trace.proofs.Passing.{sends_more, sends_same}
 use Rattle.trace.proofs.print.records.+put_num.Goals as goal
 

@@ -1,7 +1,7 @@
 use Rattle.std.proofs.Common.{length, refl, sym, arith}
 use Rattle.std.proofs.lemmas.Bool.{eqb-false, eqb-true}
 use Rattle.trace.specs.Sends.{waiting}
-use Rattle.trace.proofs.ByteFields.{bytes_none, bytes_some}
+use Rattle.hexadecimal.proofs.ByteFields.{bytes_none, bytes_some}
 use Rattle.trace.proofs.Passing.{sends_none, sends_same}
 use Rattle.trace.proofs.RecordLines.{put_all, put_more}
 use Rattle.trace.proofs.print.records.put_bytes.Goals as goal

@@ -1,6 +1,6 @@
 use Rattle.std.proofs.Common.{◌++◌, ◌∙◌, codes, length, refl, sym}
 use Rattle.std.proofs.lemmas.Bool.{eqb-true}
-use Rattle.trace.specs.Spelling.{fixed}
+use Rattle.hexadecimal.specs.Spelling.{fixed}
 use Rattle.trace.proofs.Passing.{sends_same}
 use Rattle.trace.proofs.RecordLines.{quiet_of}
 use Rattle.trace.proofs.print.records.put_line.Goals as goal

@@ -1,6 +1,6 @@
 use Rattle.std.proofs.Common.{ℕ, List, ◌∷◌, length, sym, ap}
 use Rattle.std.proofs.lemmas.Bool.{eqb-true}
-use Rattle.trace.proofs.ByteFields.{bytes_none}
+use Rattle.hexadecimal.proofs.ByteFields.{bytes_none}
 use Rattle.trace.proofs.Passing.{sends_more, sends_same}
 use Rattle.trace.proofs.print.records.put_output.Goals as goal
 

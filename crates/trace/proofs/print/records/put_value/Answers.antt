@@ -1,5 +1,5 @@
 use Rattle.std.proofs.Common.{List, ℕ, [], ◌∷◌, ◌++◌, codes, ap, ◌∙◌}
-use Rattle.trace.specs.Spelling.{digit, fixed, num}
+use Rattle.hexadecimal.specs.Spelling.{digit, fixed, num}
 use Rattle.trace.proofs.Passing.{sends_same}
 use Rattle.trace.proofs.RecordLines.{quiet_is, value_is}
 use Rattle.trace.proofs.print.records.put_value.Goals as goal

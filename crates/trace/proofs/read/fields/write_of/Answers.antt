@@ -1,6 +1,6 @@
 use Rattle.std.proofs.Common.{rules, arith}
 use Rattle.std.proofs.lemmas.Grind.{common_steps}
-use Rattle.trace.proofs.Numbers.{num_width}
+use Rattle.trace.proofs.Widths.{num_width}
 use Rattle.trace.proofs.Values.{written}
 use Rattle.trace.proofs.read.fields.write_of.Goals as goal
 

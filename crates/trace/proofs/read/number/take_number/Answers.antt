@@ -1,6 +1,7 @@
 use Rattle.std.proofs.Common.{get_or, refl, arith}
 use Rattle.std.proofs.lemmas.List.{take_rest}
-use Rattle.trace.proofs.Numbers.{reads_more, room, number_taken}
+use Rattle.hexadecimal.proofs.Numbers.{reads_more, room}
+use Rattle.trace.proofs.Fronts.{number_taken}
 use Rattle.trace.proofs.read.number.take_number.Goals as goal
 
 pub returns-then-c-eq32 : goal.returns-then-c-eq32

@@ -1,4 +1,4 @@
-use Rattle.trace.proofs.Numbers.{Reads}
+use Rattle.hexadecimal.proofs.Numbers.{Reads}
 use Rattle.trace.proofs.read.number.take_number.Given as goal
 
 -- what the bytes so far say

@@ -1,5 +1,5 @@
 use Rattle.std.proofs.Common.{refl, sym, ◌∙◌}
-use Rattle.trace.proofs.Numbers.{num_width}
+use Rattle.trace.proofs.Widths.{num_width}
 use Rattle.trace.proofs.read.values.value_of.Goals as goal
 
 pub returns-in_ok-width_of-in-Width-clause-some : goal.returns-in_ok-width_of-in-Width-clause-some

@@ -1,0 +1,5 @@
+pub mod Digits
+pub mod Numbers
+pub mod ByteFields
+pub mod PairSteps
+pub mod Judging

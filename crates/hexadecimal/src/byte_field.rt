@@ -1,0 +1,64 @@
+//! Fields that spell bytes.
+
+ghost use Rattle.std.specs.Prelude.{◌≡◌, ◌/◌, ◌∷◌, [], ◌↔◌, All, IsTrue, IfNone, IfSome, length};
+ghost use Rattle.hexadecimal.specs.Fields.{ArePairs, IsBytesField, IsDigit, SpellsBytes};
+
+use crate::pairs::read_pairs;
+
+/// Whether all bytes are lower case digits.
+pub fn are_digits(field: &[u8]) -> bool
+    ensures { IsTrue result ↔ All IsDigit field.now }
+{
+    let mut all = true;
+    for c in field {
+        all &= is_digit(*c);
+    }
+    all
+}
+
+/// Whether the byte is a lower case digit. It has no branch, so that many bytes are judged at once.
+#[tactic(auto, using(crate::proofs::Judging::digit_test))]
+fn is_digit(c: u8) -> bool
+    ensures { IsTrue result ↔ IsDigit c }
+{
+    (c >= b'0') & (c <= b'9') | (c >= b'a') & (c <= b'f')
+}
+
+/// Whether they are so, and in pairs.
+fn are_pairs(field: &[u8]) -> bool
+    ensures { IsTrue result ↔ ArePairs field.now }
+{
+    !field.is_empty() && field.len() % 2 == 0 && are_digits(field)
+}
+
+/// Whether the field says that there are no bytes.
+fn is_minus(field: &[u8]) -> bool
+    ensures { IsTrue result ↔ (field.now ≡ 45 ∷ []) }
+{
+    matches!(field, b"-")
+}
+
+/// Whether the field spells bytes: by two digits each, or by `-` where there are none.
+pub fn are_bytes(field: &[u8]) -> bool
+    ensures { IsTrue result ↔ SpellsBytes field.now }
+{
+    is_minus(field) || are_pairs(field)
+}
+
+/// How many bytes the field spells.
+pub fn spelled_len(field: &[u8]) -> usize
+    ensures { result ≡ length field.now / 2 }
+{
+    field.len() / 2
+}
+
+/// Writes the bytes that the field spells.
+pub fn read_bytes(field: &[u8], bytes: &mut [u8])
+    requires spelled { SpellsBytes field.now }
+    requires size { length bytes.old ≡ length field.now / 2 }
+    ensures { IsBytesField field.now bytes.new }
+{
+    if !bytes.is_empty() {
+        read_pairs(field, bytes);
+    }
+}

@@ -1,6 +1,0 @@
-use Rattle.trace.proofs.PairSteps.{AreRead}
-use Rattle.trace.proofs.pairs.read_many.Given as goal
-
--- the bytes so far have the digits so far
-abbrev pub invariant-loop-i : goal.invariant-loop-i
-invariant-loop-i l = AreRead l.digits l.bytes l.i

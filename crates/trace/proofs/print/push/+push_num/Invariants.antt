@@ -1,4 +1,0 @@
-use Rattle.trace.proofs.print.push.+push_num.Given as goal
-
-abbrev pub decreases-push_num : goal.decreases-push_num
-decreases-push_num g l = l.n
