@@ -195,7 +195,7 @@ fn push_event<A: Allocator>(out: &mut Vec<u8, A>, event: &Event<A>) -> Result<()
 }
 
 // The word of an event, and what the fields after it say.
-#[tactic(auto, using(crate::proofs::Numbers::num_width))]
+#[tactic(auto, using(crate::proofs::Widths::num_width))]
 fn event_says<A: Allocator>(event: &Event<A>) -> (Word, LineFields<'_>)
     requires { IsPrintableKind event.now.what }
     ensures { spelled result.0 ∷ map (field_text result.1) (fields_in 2 result.0) ≡ event_fields event.now }

@@ -5,10 +5,10 @@ ghost use Rattle.trace.specs.Spelling.{field_text};
 ghost use Rattle.trace.specs.Text.{ended, line};
 ghost use Rattle.trace.specs.Words.{fields_in, spelled};
 
-use hexadecimal::{push_bytes, push_fixed, push_num};
 use crate::table::{Field, fields_after};
 use crate::word::{Word, spelling_of};
 use board::DeviceKind;
+use hexadecimal::{push_bytes, push_fixed, push_num};
 use std::alloc::{AllocError, Allocator};
 
 /// What the fields of a line say; a word has only some of them.

@@ -9,9 +9,9 @@ ghost use Rattle.hexadecimal.specs.Spelling.{bytes as bytes_field, digit, fixed,
 ghost use Rattle.trace.specs.Text.{ended};
 
 use crate::no_memory::NoMemory;
-use hexadecimal::{digit_of, spell};
 use crate::print::buffer::{Buffer, Nowhere};
 use board::{Record, Reply};
+use hexadecimal::{digit_of, spell};
 use std::alloc::Allocator;
 use std::io::Write;
 
@@ -231,7 +231,7 @@ fn put_num<W: Write, B: Allocator>(buffer: &mut Buffer<B>, out: &mut W, n: u64)
 }
 
 // A value by eight digits, after the letter for it.
-#[tactic(auto, unfolding(crate::specs::Spelling::fixed))]
+#[tactic(auto, unfolding(hexadecimal::specs::Spelling::fixed))]
 fn value_field(value: u32) -> [u8; 10]
     ensures { result ≡ codes "v:" ++ fixed 8 value }
 {

@@ -94,7 +94,7 @@ fn said_of<'a, A: Allocator>(alloc: A, word: Word, values: &[FieldValue<'a>]) ->
 }
 
 // What those of a read of a register say.
-#[tactic(auto, using(crate::proofs::Numbers::num_width))]
+#[tactic(auto, using(crate::proofs::Widths::num_width))]
 fn read_of<'a, A: Allocator>(values: &[FieldValue<'a>]) -> Said<'a, A>
     requires { AreOf (shapes 2 Word.Read (map value_text values.now)) values.now }
     ensures fields { said_fields result ≡ spelled Word.Read ∷ map value_text values.now }

@@ -12,10 +12,10 @@ ghost use Rattle.trace.specs.Words.{IsWidth, spelled};
 use crate::read::choice::{width_of, window_of};
 use crate::read::number::take_number;
 use crate::read::offset::offset_of;
-use hexadecimal::{are_bytes, fixed_number, number_u8, number_u32};
 use crate::read::said::Said;
 use crate::word::Word;
 use board::{DeviceKind, EventKind};
+use hexadecimal::{are_bytes, fixed_number, number_u8, number_u32};
 use std::alloc::Allocator;
 
 /// The event of a line that is spelled so.

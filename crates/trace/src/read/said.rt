@@ -11,8 +11,8 @@ ghost use Rattle.trace.specs.Text.{event_fields};
 ghost use Rattle.hexadecimal.specs.Fields.{IsBytesField};
 ghost use Rattle.trace.specs.Words.{Says, Bytes as ByBytes};
 
-use hexadecimal::{read_bytes, spelled_len};
 use board::{Bytes, Event, EventKind};
+use hexadecimal::{read_bytes, spelled_len};
 use std::alloc::{AllocError, Allocator, Global};
 
 /// What a line after the slots says.

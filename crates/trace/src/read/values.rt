@@ -7,11 +7,10 @@ ghost use Rattle.trace.specs.Values.{SayValues, SaysValue};
 ghost use Rattle.trace.specs.Words.{AllRight, AreRight, Says, Value as ByWidth, shape_of, shapes, width_among};
 ghost use Rattle.trace.specs.declared.word.Word.{Word};
 
-use crate::read::identity::identity_of;
 use crate::read::choice::{mode_of, width_of, window_of};
 use crate::read::cut::{at_end, next_field, nth_field};
+use crate::read::identity::identity_of;
 use crate::read::offset::offset_of;
-use hexadecimal::{are_bytes, fixed_number, number, number_u8, number_u16, number_u32};
 use crate::table::{Field, fields_after};
 use crate::value::FieldValue::{
     self, Identity, Mode, Number, Offset, Spelled, Value, Width, Window,
@@ -19,6 +18,7 @@ use crate::value::FieldValue::{
 use crate::value::MOST_FIELDS;
 use crate::word::Word;
 use arrayvec::ArrayVec;
+use hexadecimal::{are_bytes, fixed_number, number, number_u8, number_u16, number_u32};
 
 /// The values of a line.
 pub(crate) type Values<'a> = ArrayVec<FieldValue<'a>, MOST_FIELDS>;
