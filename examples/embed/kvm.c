@@ -50,7 +50,7 @@ static int must(int result, const char *what)
 static void must_do(uint32_t answer, const char *what)
 {
     if (answer != KALYUBOS_DONE) {
-        fprintf(stderr, "%s: refused with %u\n", what, (unsigned)answer);
+        fprintf(stderr, "%s: %s\n", what, kalyubos_answer(answer));
         exit(1);
     }
 }
