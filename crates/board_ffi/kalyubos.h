@@ -224,6 +224,32 @@ uint32_t kalyubos_create(struct kalyubos *board, const struct kalyubos_slot *slo
                          const uint8_t *image, size_t image_len, uint32_t cache, uint32_t chains, uint64_t bytes);
 
 /*
+ * Which slot kalyubos_create gave this answer for: its place in the array; or `slots_len` where the answer is about no
+ * slot, or the heap has no room for one more copy of the image. Slots are judged in their order, so it asks again with the
+ * first few of them. It does so with a cache of no sectors: slots that are all good are then refused by BAD_CACHE, and no
+ * board is made.
+ */
+static inline size_t kalyubos_slot_at_fault(uint32_t answer, const struct kalyubos_slot *slots, size_t slots_len,
+                                            const uint8_t *image, size_t image_len)
+{
+    struct kalyubos none = { NULL };
+    size_t good = 0, refused = slots_len; /* so many first slots are all good, and so many aren't */
+    bool is_of_a_slot = answer == KALYUBOS_BAD_SIZE || answer == KALYUBOS_BAD_OUTLET ||
+                        (answer >= KALYUBOS_BAD_MEMORY_SIZE && answer <= KALYUBOS_EXTENTS_OVERLAP);
+    while (is_of_a_slot && refused - good > 1) {
+        size_t count = good + (refused - good) / 2;
+        uint32_t told = kalyubos_create(&none, slots, count, image, image_len, 0, 0, 0);
+        if (told == KALYUBOS_NO_MEMORY)
+            return slots_len;
+        if (told == answer)
+            refused = count;
+        else
+            good = count;
+    }
+    return is_of_a_slot ? good : slots_len;
+}
+
+/*
  * Makes a board of `slots_len` slots whose disks the host serves, and puts it into an empty handle. Each guest has a disk
  * of its own, of `count` sectors; `start` is not read. There is no image, no cache and no budget: no call moves a
  * disk's bytes, and none pauses. A refusal leaves the handle as it was and keeps no memory. It is BAD_SIZE as
