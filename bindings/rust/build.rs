@@ -1,19 +1,24 @@
-//! Finds libkalyubos.a: in the folder that KALYUBOS_LIB_DIR names, or else where pkg-config says.
+//! Finds libkalyubos.a: in the folder that KALYUBOS_LIB_DIR names, or else where pkg-config says. Where DOCS_RS is set, as
+//! docs.rs does, none is wanted.
 
 use std::process::{exit, Command};
 
 const NOT_FOUND: &str =
     "libkalyubos.a wasn't found. Install it by `make install`, with PKG_CONFIG_PATH set where \
-the prefix isn't a usual one, or let KALYUBOS_LIB_DIR name the folder that it lies in.";
+the prefix isn't a usual one, or let KALYUBOS_LIB_DIR name the folder that it lies in. `cargo doc` wants none where DOCS_RS is set.";
 
 fn main() {
     for name in [
+        "DOCS_RS",
         "KALYUBOS_LIB_DIR",
         "PKG_CONFIG",
         "PKG_CONFIG_PATH",
         "PKG_CONFIG_SYSROOT_DIR",
     ] {
         println!("cargo:rerun-if-env-changed={name}");
+    }
+    if std::env::var_os("DOCS_RS").is_some() {
+        return;
     }
     let Some(folder) = std::env::var("KALYUBOS_LIB_DIR")
         .ok()

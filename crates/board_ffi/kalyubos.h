@@ -93,6 +93,61 @@ enum {
     KALYUBOS_NO_IMAGE = 22          /* the board has no image: the host serves its disks; nothing changed */
 };
 
+/* What an answer says, as a sentence for a person. It is never null: a number of a later version has a sentence too. */
+static inline const char *kalyubos_answer(uint32_t number)
+{
+    switch (number) {
+    case KALYUBOS_DONE:
+        return "done";
+    case KALYUBOS_NO_BOARD:
+        return "the handle holds no board";
+    case KALYUBOS_HAS_BOARD:
+        return "the handle holds a board already";
+    case KALYUBOS_BAD_SLOT:
+        return "the board has no such slot";
+    case KALYUBOS_BAD_RANGE:
+        return "the range isn't all inside the memory or the image";
+    case KALYUBOS_NO_MEMORY:
+        return "out of memory";
+    case KALYUBOS_BAD_WINDOW:
+        return "a window is KALYUBOS_BLOCK or KALYUBOS_CONSOLE";
+    case KALYUBOS_BAD_IMAGE:
+        return "the image isn't whole sectors of 512 bytes";
+    case KALYUBOS_NO_SLOTS:
+        return "a board needs a slot";
+    case KALYUBOS_TOO_MANY_SLOTS:
+        return "a board has sixty-four slots at most";
+    case KALYUBOS_BAD_MEMORY_SIZE:
+        return "a memory's size is a multiple of 4096, from 4096 to 2^46";
+    case KALYUBOS_BAD_MEMORY_BASE:
+        return "a memory begins at a multiple of 4096, and ends at 2^64 or before";
+    case KALYUBOS_EXTENT_OUTSIDE:
+        return "a slot's sectors pass the image's end, or its disk 2^64 bytes";
+    case KALYUBOS_EXTENTS_OVERLAP:
+        return "two slots share a sector";
+    case KALYUBOS_BAD_CACHE:
+        return "a cache keeps 1 to 65536 sectors";
+    case KALYUBOS_NO_ROOM:
+        return "the console's next output doesn't fit behind what waits: take the output, and make the call again";
+    case KALYUBOS_BAD_OUTLET:
+        return "an outlet keeps 2^24 bytes at most";
+    case KALYUBOS_BAD_SIZE:
+        return "a struct's size isn't that of this version: set it to its sizeof";
+    case KALYUBOS_MORE:
+        return "the service pauses: kalyubos_go_on goes on with it";
+    case KALYUBOS_BUSY:
+        return "a service of the slot is paused, or its disk is at work: make the call again later";
+    case KALYUBOS_IO:
+        return "done, and the slot's disk waits for the host: kalyubos_operation says for what";
+    case KALYUBOS_IDLE:
+        return "nothing of the slot is in flight";
+    case KALYUBOS_NO_IMAGE:
+        return "the board has no image, since the host serves its disks";
+    default:
+        return "a number that this version of kalyubos.h doesn't know";
+    }
+}
+
 /* A slot's windows, each of 4096 bytes. */
 enum {
     KALYUBOS_BLOCK = 0,
@@ -167,6 +222,32 @@ struct kalyubos_operation {
  */
 uint32_t kalyubos_create(struct kalyubos *board, const struct kalyubos_slot *slots, size_t slots_len,
                          const uint8_t *image, size_t image_len, uint32_t cache, uint32_t chains, uint64_t bytes);
+
+/*
+ * Which slot kalyubos_create gave this answer for: its place in the array; or `slots_len` where the answer is about no
+ * slot, or the heap has no room for one more copy of the image. Slots are judged in their order, so it asks again with the
+ * first few of them. It does so with a cache of no sectors: slots that are all good are then refused by BAD_CACHE, and no
+ * board is made.
+ */
+static inline size_t kalyubos_slot_at_fault(uint32_t answer, const struct kalyubos_slot *slots, size_t slots_len,
+                                            const uint8_t *image, size_t image_len)
+{
+    struct kalyubos none = { NULL };
+    size_t good = 0, refused = slots_len; /* so many first slots are all good, and so many aren't */
+    bool is_of_a_slot = answer == KALYUBOS_BAD_SIZE || answer == KALYUBOS_BAD_OUTLET ||
+                        (answer >= KALYUBOS_BAD_MEMORY_SIZE && answer <= KALYUBOS_EXTENTS_OVERLAP);
+    while (is_of_a_slot && refused - good > 1) {
+        size_t count = good + (refused - good) / 2;
+        uint32_t told = kalyubos_create(&none, slots, count, image, image_len, 0, 0, 0);
+        if (told == KALYUBOS_NO_MEMORY)
+            return slots_len;
+        if (told == answer)
+            refused = count;
+        else
+            good = count;
+    }
+    return is_of_a_slot ? good : slots_len;
+}
 
 /*
  * Makes a board of `slots_len` slots whose disks the host serves, and puts it into an empty handle. Each guest has a disk

@@ -15,7 +15,7 @@ static struct kalyubos board;
 static void must(uint32_t answer, const char *what)
 {
     if (answer != KALYUBOS_DONE) {
-        fprintf(stderr, "%s: refused with %u\n", what, (unsigned)answer);
+        fprintf(stderr, "%s: %s\n", what, kalyubos_answer(answer));
         exit(1);
     }
 }

@@ -4,6 +4,8 @@
  * store there is an exit, which becomes one call; and its devices' lines are interrupts of the virtual CPU.
  *
  * `kvm flood` gives guest 0 the program of kvm-flood.S, which puts out more than its outlet keeps; guest 1 ends as before.
+ * `kvm pair` gives guest 0 a second CPU, with the program of kvm-second.S, which counts in memory: while a call for the guest
+ * runs both CPUs stand, by cpus.c, so the count stays.
  * Where /dev/kvm can't be opened the host says so, with status 77.
  */
 #define _GNU_SOURCE
@@ -11,18 +13,25 @@
 #include <fcntl.h>
 #include <linux/kvm.h>
 #include <pthread.h>
+#include <sched.h>
 #include <stdio.h>
 #include <stdlib.h>
 #include <string.h>
 #include <sys/ioctl.h>
 #include <sys/mman.h>
+#include <unistd.h>
 
+#include "cpus.h"
 #include "kalyubos.h"
 #include "kvm-flood.h"
 #include "kvm-guest.h"
+#include "kvm-second.h"
 
 enum { GUESTS = 2, MEMORY_LEN = 0x10000, PROGRAM = 0x1000, WINDOWS = 0xd0000, PAGE = 0x1000, OUTLET = 64, NO_KVM = 77 };
 enum { CHAINS = 1 /* that a call serves */ };
+
+/* Where the second CPU's program lies, what it counts, and how many microseconds a call takes in which it mustn't. */
+enum { SECOND = 0x6000, COUNT = 0x7000, CALL_TIME = 200 };
 
 /* The vectors of a guest's two lines. */
 enum { BLOCK_VECTOR = 0x20, CONSOLE_VECTOR = 0x21 };
@@ -33,6 +42,11 @@ struct guest {
     struct kvm_run *run;
     FILE *terminal;                /* what its console put out */
     struct kalyubos_pending lines; /* as the last call of this guest left them */
+    struct cpus cpus;
+    struct kvm_run *second; /* of the second CPU, or null */
+    uint8_t *bytes;         /* its memory */
+    uint32_t count;         /* what its second CPU had counted when a call began, */
+    bool ran_on;            /* and whether it went on in a call */
 };
 
 static struct kalyubos board;
@@ -50,7 +64,7 @@ static int must(int result, const char *what)
 static void must_do(uint32_t answer, const char *what)
 {
     if (answer != KALYUBOS_DONE) {
-        fprintf(stderr, "%s: refused with %u\n", what, (unsigned)answer);
+        fprintf(stderr, "%s: %s\n", what, kalyubos_answer(answer));
         exit(1);
     }
 }
@@ -58,40 +72,79 @@ static void must_do(uint32_t answer, const char *what)
 /* ---- the machine */
 
 /* A guest's memory is the board's, where it lies; heap.c aligns it to pages, as KVM wants it. */
-static void map_memory(const struct guest *guest, const uint8_t *program, size_t program_len)
+static void map_memory(struct guest *guest, const uint8_t *program, size_t program_len)
 {
-    uint8_t *bytes;
     size_t len;
-    must_do(kalyubos_memory(&board, guest->slot, &bytes, &len), "memory");
-    memcpy(bytes + PROGRAM, program, program_len);
+    must_do(kalyubos_memory(&board, guest->slot, &guest->bytes, &len), "memory");
+    memcpy(guest->bytes + PROGRAM, program, program_len);
     struct kvm_userspace_memory_region region = {
-        .slot = 0, .guest_phys_addr = 0, .memory_size = len, .userspace_addr = (uintptr_t)bytes,
+        .slot = 0, .guest_phys_addr = 0, .memory_size = len, .userspace_addr = (uintptr_t)guest->bytes,
     };
     must(ioctl(guest->machine, KVM_SET_USER_MEMORY_REGION, &region), "KVM_SET_USER_MEMORY_REGION");
 }
 
-static void power_on(struct guest *guest, int kvm, uint8_t slot, bool floods)
+/* Adds a CPU to a guest, which begins at an address, and answers what it shares with KVM. */
+static struct kvm_run *add_cpu(struct guest *guest, int kvm, uint64_t start)
 {
     struct kvm_sregs segments;
-    struct kvm_regs registers = { .rip = PROGRAM, .rflags = 2 };
+    struct kvm_regs registers = { .rip = start, .rflags = 2 };
+    int cpu = must(ioctl(guest->machine, KVM_CREATE_VCPU, guest->cpus.len), "KVM_CREATE_VCPU");
+    size_t len = (size_t)must(ioctl(kvm, KVM_GET_VCPU_MMAP_SIZE, 0), "KVM_GET_VCPU_MMAP_SIZE");
+    struct kvm_run *run = mmap(NULL, len, PROT_READ | PROT_WRITE, MAP_SHARED, cpu, 0);
+    must(run == MAP_FAILED ? -1 : 0, "the CPU's exits");
+    must(ioctl(cpu, KVM_GET_SREGS, &segments), "KVM_GET_SREGS");
+    segments.cs.base = segments.cs.selector = 0;
+    must(ioctl(cpu, KVM_SET_SREGS, &segments), "KVM_SET_SREGS");
+    must(ioctl(cpu, KVM_SET_REGS, &registers), "KVM_SET_REGS");
+    cpus_add(&guest->cpus, cpu, run);
+    return run;
+}
+
+static void power_on(struct guest *guest, int kvm, uint8_t slot, bool floods)
+{
     guest->slot = slot;
     guest->terminal = tmpfile();
     must(guest->terminal == NULL ? -1 : 0, "a terminal");
     guest->machine = must(ioctl(kvm, KVM_CREATE_VM, 0), "KVM_CREATE_VM");
     map_memory(guest, floods ? KVM_FLOOD : KVM_GUEST, floods ? sizeof KVM_FLOOD : sizeof KVM_GUEST);
-    guest->cpu = must(ioctl(guest->machine, KVM_CREATE_VCPU, 0), "KVM_CREATE_VCPU");
-    size_t len = (size_t)must(ioctl(kvm, KVM_GET_VCPU_MMAP_SIZE, 0), "KVM_GET_VCPU_MMAP_SIZE");
-    guest->run = mmap(NULL, len, PROT_READ | PROT_WRITE, MAP_SHARED, guest->cpu, 0);
-    must(guest->run == MAP_FAILED ? -1 : 0, "the CPU's exits");
-    must(ioctl(guest->cpu, KVM_GET_SREGS, &segments), "KVM_GET_SREGS");
-    segments.cs.base = segments.cs.selector = 0;
-    must(ioctl(guest->cpu, KVM_SET_SREGS, &segments), "KVM_SET_SREGS");
-    must(ioctl(guest->cpu, KVM_SET_REGS, &registers), "KVM_SET_REGS");
+    cpus_begin(&guest->cpus);
+    guest->run = add_cpu(guest, kvm, PROGRAM);
+    guest->cpu = guest->cpus.all[0].file;
+}
+
+/* A second CPU, which has begun to count when the first one begins. */
+static void power_on_second(struct guest *guest, int kvm)
+{
+    memcpy(guest->bytes + SECOND, KVM_SECOND, sizeof KVM_SECOND);
+    guest->second = add_cpu(guest, kvm, SECOND);
+}
+
+/* ---- the calls for a guest, in which its CPUs stand */
+
+static uint32_t counted(const struct guest *guest)
+{
+    return *(const volatile uint32_t *)(guest->bytes + COUNT);
+}
+
+static void begin_calls(struct guest *guest)
+{
+    cpus_stop(&guest->cpus);
+    pthread_mutex_lock(&lock);
+    guest->count = counted(guest);
+    if (guest->second != NULL)
+        usleep(CALL_TIME);
+}
+
+static void end_calls(struct guest *guest)
+{
+    guest->ran_on |= counted(guest) != guest->count;
+    pthread_mutex_unlock(&lock);
+    cpus_go(&guest->cpus);
 }
 
 /* ---- what a guest's exits come to */
 
-/* A service that pauses leaves the lock to the other guests before it goes on. */
+/* A service that pauses leaves the lock to the other guests before it goes on. Its own guest's CPUs stand. */
 static uint32_t go_on(struct guest *guest)
 {
     pthread_mutex_unlock(&lock);
@@ -125,26 +178,26 @@ static void store(struct guest *guest, uint8_t window, uint16_t offset, uint8_t 
         must_do(answer, "write");
 }
 
-/* A load or a store at a window. The CPU that made it stands still until its service has ended. */
-static void access_window(struct guest *guest)
+/* A load or a store of a CPU at a window. All CPUs of its guest stand until its service has ended. */
+static void access_window(struct guest *guest, struct kvm_run *run)
 {
-    uint64_t place = guest->run->mmio.phys_addr - WINDOWS;
-    uint8_t window = (uint8_t)(place / PAGE), *data = guest->run->mmio.data, width = (uint8_t)guest->run->mmio.len;
+    uint64_t place = run->mmio.phys_addr - WINDOWS;
+    uint8_t window = (uint8_t)(place / PAGE), *data = run->mmio.data, width = (uint8_t)run->mmio.len;
     uint32_t value = 0;
     if (place >= 2 * PAGE) { /* nobody is there */
-        memset(data, 0xff, sizeof guest->run->mmio.data);
+        memset(data, 0xff, sizeof run->mmio.data);
         return;
     }
-    pthread_mutex_lock(&lock);
-    if (guest->run->mmio.is_write) {
+    begin_calls(guest);
+    if (run->mmio.is_write) {
         memcpy(&value, data, width < 4 ? width : 4);
         store(guest, window, place % PAGE, width, value);
     } else {
         must_do(kalyubos_read(&board, guest->slot, window, place % PAGE, width, &value), "read");
-        memset(data, 0, sizeof guest->run->mmio.data);
+        memset(data, 0, sizeof run->mmio.data);
         memcpy(data, &value, sizeof value);
     }
-    pthread_mutex_unlock(&lock);
+    end_calls(guest);
 }
 
 /* A line that is high interrupts the CPU as soon as it can be, and until its driver has acknowledged what it tells. */
@@ -163,13 +216,15 @@ static void *run(void *user)
     struct guest *guest = user;
     for (;;) {
         set_lines(guest);
-        if (ioctl(guest->cpu, KVM_RUN, 0) < 0 && errno != EINTR)
-            must(-1, "KVM_RUN");
+        if (cpus_run(&guest->cpus, 0) < 0) {
+            must(errno == EINTR ? 0 : -1, "KVM_RUN"); /* a signal came, as from the other CPU */
+            continue;
+        }
         switch (guest->run->exit_reason) {
         case KVM_EXIT_MMIO:
-            access_window(guest);
+            access_window(guest, guest->run);
             break;
-        case KVM_EXIT_INTR: /* a signal came */
+        case KVM_EXIT_INTR:
         case KVM_EXIT_IRQ_WINDOW_OPEN:
             break;
         case KVM_EXIT_HLT:
@@ -180,6 +235,37 @@ static void *run(void *user)
             return NULL;
         }
     }
+}
+
+/* Runs a guest's second CPU until its first one has ended. The devices' lines are the first one's. */
+static void *run_second(void *user)
+{
+    struct guest *guest = user;
+    for (;;) {
+        if (cpus_run(&guest->cpus, 1) < 0) {
+            if (errno == ECANCELED)
+                return NULL;
+            must(errno == EINTR ? 0 : -1, "KVM_RUN");
+            continue;
+        }
+        if (guest->second->exit_reason != KVM_EXIT_MMIO)
+            return NULL;
+        access_window(guest, guest->second);
+    }
+}
+
+/* Runs a guest's CPUs, the second one first: it has counted before the first one begins. */
+static void *run_both(void *user)
+{
+    struct guest *guest = user;
+    pthread_t second;
+    must(-pthread_create(&second, NULL, run_second, guest), "a thread");
+    while (counted(guest) == 0)
+        sched_yield();
+    run(guest);
+    cpus_end(&guest->cpus);
+    must(-pthread_join(second, NULL), "a thread's end");
+    return NULL;
 }
 
 static void report(const struct guest *guest)
@@ -196,6 +282,10 @@ static void report(const struct guest *guest)
         printf("guest %u: step %u failed\n", guest->slot, (unsigned)(registers.rax % 0x10000));
     else
         printf("guest %u: done\n", guest->slot);
+    if (guest->second != NULL)
+        printf("its second CPU %s\n", guest->second->exit_reason == KVM_EXIT_HLT ? "halted"
+                                      : guest->ran_on                            ? "ran on in a call"
+                                                                                 : "stood in each call");
     printf("console: ");
     while (show(guest))
         continue;
@@ -208,6 +298,7 @@ static void report(const struct guest *guest)
 int main(int words_len, char **words)
 {
     bool floods = words_len == 2 && strcmp(words[1], "flood") == 0;
+    bool pair = words_len == 2 && strcmp(words[1], "pair") == 0;
     int kvm = open("/dev/kvm", O_RDWR | O_CLOEXEC);
     if (kvm < 0) {
         perror("/dev/kvm");
@@ -228,8 +319,10 @@ int main(int words_len, char **words)
     pthread_t threads[GUESTS];
     for (uint8_t slot = 0; slot < GUESTS; slot++)
         power_on(&guests[slot], kvm, slot, floods && slot == 0);
+    if (pair)
+        power_on_second(&guests[0], kvm);
     for (unsigned i = 0; i < GUESTS; i++)
-        must(-pthread_create(&threads[i], NULL, run, &guests[i]), "a thread");
+        must(-pthread_create(&threads[i], NULL, guests[i].second != NULL ? run_both : run, &guests[i]), "a thread");
     for (unsigned i = 0; i < GUESTS; i++)
         must(-pthread_join(threads[i], NULL), "a thread's end");
     for (unsigned i = 0; i < GUESTS; i++)

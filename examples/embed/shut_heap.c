@@ -46,6 +46,16 @@ uint32_t create(struct kalyubos *board, const struct kalyubos_slot *slots, size_
     return answer;
 }
 
+size_t place_of(uint32_t answer, const struct kalyubos_slot *slots, size_t count, const uint8_t *image, size_t image_len)
+{
+    uint64_t before = live;
+    is_open = true;
+    size_t place = kalyubos_slot_at_fault(answer, slots, count, image, image_len);
+    is_open = false;
+    need(live == before, "blocks are kept by a question", live);
+    return place;
+}
+
 void make(struct kalyubos *board, const struct kalyubos_slot *slots, size_t count, const uint8_t *image,
           size_t image_len, uint32_t cache, struct budget budget)
 {

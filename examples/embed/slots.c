@@ -1,5 +1,5 @@
 /*
- * How many slots a board may have, the size that each must say, and that each disk tells its own identity.
+ * How many slots a board may have, the size that each must say, which one is wrong, and that each disk tells its own identity.
  */
 #include <stdio.h>
 #include <stdlib.h>
@@ -80,6 +80,36 @@ static void check_order(void)
     end(&board);
 }
 
+/* What is wrong with a slot is told with its place, wherever it stands, and nothing else is a slot's. */
+static void check_places(void)
+{
+    static const struct { struct kalyubos_slot bad; uint32_t answer; } rows[] = {
+        { { .size = SIZE - 1 }, KALYUBOS_BAD_SIZE },
+        { { .size = SIZE, .len = MEMORY_LEN, .outlet = (1 << 24) + 1 }, KALYUBOS_BAD_OUTLET },
+        { { .size = SIZE, .len = MEMORY_LEN + 1 }, KALYUBOS_BAD_MEMORY_SIZE },
+        { { .size = SIZE, .len = MEMORY_LEN, .base = 1 }, KALYUBOS_BAD_MEMORY_BASE },
+        { { .size = SIZE, .len = MEMORY_LEN, .count = 2 }, KALYUBOS_EXTENT_OUTSIDE },
+        { { .size = SIZE, .len = MEMORY_LEN, .count = 1 }, KALYUBOS_EXTENTS_OVERLAP },
+    };
+    struct kalyubos board = { NULL };
+    struct kalyubos_slot slots[MOST];
+    for (size_t i = 0; i < sizeof rows / sizeof *rows; i++)
+        for (size_t count = 2; count <= MOST; count += 31)
+            for (size_t place = 1; place < count; place++) {
+                for (size_t j = 0; j < count; j++)
+                    slots[j] = j == place ? rows[i].bad : slot_of((int)j);
+                slots[0].count = 1; /* the image's one sector */
+                uint32_t answer = create(&board, slots, count, image, sizeof image, 1, NO_LIMIT);
+                need(answer == rows[i].answer, "a slot that is wrong", i);
+                need(place_of(answer, slots, count, image, sizeof image) == place, "its place", place);
+            }
+    slots[0] = rows[2].bad;
+    need(place_of(KALYUBOS_BAD_MEMORY_SIZE, slots, MOST, image, sizeof image) == 0, "the first place", 0);
+    need(place_of(KALYUBOS_BAD_MEMORY_SIZE, slots, 1, image, sizeof image) == 0, "the only place", 0);
+    need(place_of(KALYUBOS_BAD_CACHE, slots, MOST, image, sizeof image) == MOST, "an answer of no slot", 0);
+    need(place_of(KALYUBOS_NO_SLOTS, slots, 0, image, sizeof image) == 0, "no slot", 0);
+}
+
 /* ---- identities */
 
 static void set(struct kalyubos *board, uint8_t slot, uint16_t offset, uint32_t value)
@@ -140,7 +170,8 @@ int main(void)
     check_counts();
     check_sizes();
     check_order();
+    check_places();
     check_identities();
-    puts("slots: 64 and no more, each of its size, each disk with its own identity");
+    puts("slots: 64 and no more, each of its size, each disk with its own identity; a wrong one is told by its place");
     return 0;
 }

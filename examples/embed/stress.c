@@ -82,7 +82,7 @@ static uint64_t waiting; /* how many bytes of output the last call said to wait,
 
 static void fail(const char *what, uint32_t answer)
 {
-    fprintf(stderr, "%s: %" PRIu32 "\n", what, answer);
+    fprintf(stderr, "%s: %" PRIu32 ", %s\n", what, answer, kalyubos_answer(answer));
     exit(1);
 }
 

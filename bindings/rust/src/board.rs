@@ -9,6 +9,9 @@ use std::ptr::{self, NonNull};
 /// The version of the header that `ffi` declares.
 const HEADER: u32 = 200;
 
+/// The number of an output that finds no room.
+const NO_ROOM: u32 = 15;
+
 /// The number of a service that pauses.
 const MORE: u32 = 18;
 
@@ -33,6 +36,7 @@ pub struct Interrupts {
 
 /// What waits once a call is answered: the host moves the slot's lines and takes its output by it.
 #[derive(Clone, Copy, Debug, Default, PartialEq, Eq, Hash)]
+#[must_use = "the slot's lines move by it, and where `more` is true its service pauses until `go_on`"]
 pub struct Pending {
     /// Both interrupt words.
     pub interrupts: Interrupts,
@@ -54,19 +58,20 @@ pub struct Budget {
 impl Pending {
     // What a call that answered this number told; a service that pauses is no error.
     pub(crate) fn told(number: u32, told: ffi::Pending) -> Result<Pending, Error> {
-        let more = number == MORE;
-        if !more {
-            Error::check(number)?;
-        }
         let interrupts = Interrupts {
             block: told.block,
             console: told.console,
         };
-        Ok(Pending {
+        let pending = Pending {
             interrupts,
             output: told.output,
-            more,
-        })
+            more: number == MORE,
+        };
+        match number {
+            MORE => Ok(pending),
+            NO_ROOM => Err(Error::NoRoom(pending)),
+            number => Error::check(number).map(|()| pending),
+        }
     }
 }
 
@@ -187,8 +192,9 @@ impl Board {
     /// then waits.
     ///
     /// [`Error::NoRoom`]: the next chain of the console's transmit queue, or the byte of an emergency write, doesn't fit
-    /// behind the output that waits. The chains before it are served, and it stays on offer. Take the output and make the
-    /// same write again, as long as it is answered so and there was output to take.
+    /// behind the output that waits. The chains before it are served, and it stays on offer; the error has what then
+    /// waits, by which the lines move. Take the output and make the same write again, as long as it is answered so and
+    /// there was output to take.
     ///
     /// ```
     /// # use kalyubos::{Board, Error, Slot, Window};
@@ -196,12 +202,13 @@ impl Board {
     /// const EMERG_WR: u16 = 0x108;
     /// let mut board = Board::new(&[slot.outlet(1)], &[0; 512], 1)?;
     /// assert_eq!(board.write(0, Window::Console, EMERG_WR, 4, b'a'.into())?.output, 1);
-    /// assert_eq!(board.write(0, Window::Console, EMERG_WR, 4, b'b'.into()), Err(Error::NoRoom));
+    /// let refused = board.write(0, Window::Console, EMERG_WR, 4, b'b'.into());
+    /// assert!(matches!(refused, Err(Error::NoRoom(pending)) if pending.output == 1));
     ///
     /// let mut out = [0; 16];
     /// assert_eq!(board.take_output(0, &mut out)?, 1);
     /// assert_eq!(out[0], b'a');
-    /// board.write(0, Window::Console, EMERG_WR, 4, b'b'.into())?;
+    /// assert_eq!(board.write(0, Window::Console, EMERG_WR, 4, b'b'.into())?.output, 1);
     /// # Ok::<(), Box<dyn std::error::Error>>(())
     /// ```
     pub fn write(

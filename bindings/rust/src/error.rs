@@ -1,5 +1,7 @@
 //! Why a call was refused.
 
+use crate::board::{Board, Pending};
+use crate::slot::Slot;
 use std::error;
 use std::fmt;
 
@@ -11,8 +13,9 @@ pub enum Error {
     BadSlot,
     /// Not all of the range lies in the slot's memory, or in the image.
     BadRange,
-    /// What the console puts out next doesn't fit behind what waits; see [`Board::write`](crate::Board::write).
-    NoRoom,
+    /// What the console puts out next doesn't fit behind what waits; see [`Board::write`](crate::Board::write). What came
+    /// before it is served: this then waits for the slot.
+    NoRoom(Pending),
     /// A service of the slot is paused; see [`Board::go_on`](crate::Board::go_on). Or the write waits for the slot's disk,
     /// which the host serves; see [`HostedBoard::write`](crate::HostedBoard::write).
     Busy,
@@ -61,7 +64,6 @@ impl Error {
             0 => Ok(()),
             3 => Err(Error::BadSlot),
             4 => Err(Error::BadRange),
-            15 => Err(Error::NoRoom),
             19 => Err(Error::Busy),
             21 => Err(Error::Idle),
             number => Err(Error::Other(number)),
@@ -91,12 +93,48 @@ impl CreateError {
     }
 }
 
+impl CreateError {
+    /// Which slot a [`Board::new`](crate::Board::new) of these slots over this image was refused for, where it is about a slot and
+    /// there is memory to look for it. It asks for boards of the first few slots, none of which is made.
+    ///
+    /// ```
+    /// use kalyubos::{Board, CreateError, Slot};
+    ///
+    /// let guests = [0..8, 8..16, 16..17].map(|sectors| Slot::new(0x8000_0000, 0x1_0000, sectors));
+    /// let disk = vec![0; 16 * 512];
+    /// let refused = Board::new(&guests, &disk, 8).unwrap_err();
+    /// assert_eq!(refused, CreateError::ExtentOutside);
+    /// assert_eq!(refused.slot(&guests, &disk), Some(2));
+    /// ```
+    pub fn slot(self, slots: &[Slot], image: &[u8]) -> Option<usize> {
+        use CreateError::*;
+        if !matches!(
+            self,
+            BadMemorySize | BadMemoryBase | ExtentOutside | ExtentsOverlap | BadOutlet
+        ) {
+            return None;
+        }
+        // So many first slots are all good, and so many aren't.
+        let (mut good, mut refused) = (0, slots.len());
+        while refused - good > 1 {
+            let count = good + (refused - good) / 2;
+            // No cache has no sectors: good slots are refused for that.
+            match Board::new(&slots[..count], image, 0).err()? {
+                NoMemory => return None,
+                told if told == self => refused = count,
+                _ => good = count,
+            }
+        }
+        (good < slots.len()).then_some(good)
+    }
+}
+
 impl fmt::Display for Error {
     fn fmt(&self, f: &mut fmt::Formatter<'_>) -> fmt::Result {
         match self {
             Error::BadSlot => f.write_str("the board has no such slot"),
             Error::BadRange => f.write_str("the range is not inside"),
-            Error::NoRoom => {
+            Error::NoRoom(_) => {
                 f.write_str("the console's next output does not fit behind what waits")
             }
             Error::Busy => f.write_str("a service of the slot is paused, or its disk is at work"),

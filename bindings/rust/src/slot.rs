@@ -26,6 +26,7 @@ impl Slot {
     /// use kalyubos::Slot;
     ///
     /// let guest = Slot::new(0x8000_0000, 0x1_0000, 0..8).console(132, 43).read_only(true);
+    /// assert_eq!(guest.get_console(), (132, 43));
     /// ```
     pub fn new(base: u64, len: u64, sectors: Range<u64>) -> Slot {
         Slot {
@@ -63,6 +64,41 @@ impl Slot {
     pub fn identity(mut self, identity: Identity) -> Slot {
         self.identity = identity;
         self
+    }
+
+    /// The first address of its memory.
+    pub fn get_base(&self) -> u64 {
+        self.base
+    }
+
+    /// The size of its memory, in bytes.
+    pub fn get_len(&self) -> u64 {
+        self.len
+    }
+
+    /// The sectors of the image that its disk shows.
+    pub fn get_sectors(&self) -> Range<u64> {
+        self.sectors.clone()
+    }
+
+    /// The columns and rows of its console.
+    pub fn get_console(&self) -> (u16, u16) {
+        (self.cols, self.rows)
+    }
+
+    /// How many bytes of its console's output may wait.
+    pub fn get_outlet(&self) -> u32 {
+        self.outlet
+    }
+
+    /// Whether its disk refuses writes.
+    pub fn get_read_only(&self) -> bool {
+        self.read_only
+    }
+
+    /// What its disk answers to GET_ID.
+    pub fn get_identity(&self) -> Identity {
+        self.identity
     }
 
     /// The slot as C has it. A range that ends before it begins shows no sector.

@@ -55,9 +55,28 @@ fn each_refusal_of_create_is_told() {
     assert_eq!(of_one(good.outlet((1 << 24) + 1)), CreateError::BadOutlet);
 }
 
+#[test]
+fn a_slot_that_is_wrong_is_told_by_its_place() {
+    let image = [0; 64 * 512];
+    for place in 0..64 {
+        let mut slots: Vec<Slot> = (0..64)
+            .map(|at| Slot::new(MEMORY, LEN, at..at + 1))
+            .collect();
+        slots[place] = Slot::new(MEMORY, LEN + 1, 0..0);
+        let told = Board::new(&slots, &image, 1).unwrap_err();
+        assert_eq!(told, CreateError::BadMemorySize);
+        assert_eq!(told.slot(&slots, &image), Some(place));
+    }
+    assert_eq!(CreateError::BadCache.slot(&[], &image), None);
+    assert_eq!(CreateError::BadMemorySize.slot(&[], &image), None);
+}
+
 /// A board of two guests, of which the first has two chains of one byte on offer in its transmit queue.
-fn two_chains_on_offer(budget: Budget) -> Board {
-    let slots = [Slot::new(MEMORY, LEN, 0..1), Slot::new(MEMORY, LEN, 1..2)];
+fn two_chains_on_offer(budget: Budget, outlet: u32) -> Board {
+    let slots = [
+        Slot::new(MEMORY, LEN, 0..1).outlet(outlet),
+        Slot::new(MEMORY, LEN, 1..2),
+    ];
     let mut board = Board::with_budget(&slots, &[0; 1024], 4, budget).expect("a board");
     for (offset, value) in [
         (0x070, 3),
@@ -72,9 +91,10 @@ fn two_chains_on_offer(budget: Budget) -> Board {
         (0x044, 1),
         (0x070, 15),
     ] {
-        board
+        let pending = board
             .write(0, Window::Console, offset, 4, value)
             .expect("a register");
+        assert!(!pending.more);
     }
     for (place, address) in [(0x1000, 0x4000_u32), (0x1010, 0x4001)] {
         let mut descriptor = [0; 16];
@@ -95,10 +115,11 @@ fn two_chains_on_offer(budget: Budget) -> Board {
 
 #[test]
 fn a_service_pauses_and_goes_on() {
-    let mut board = two_chains_on_offer(Budget {
+    let budget = Budget {
         chains: NonZeroU32::new(1),
         bytes: None,
-    });
+    };
+    let mut board = two_chains_on_offer(budget, 64);
     let pending = board.write(0, Window::Console, 0x050, 4, 1).unwrap();
     assert!(pending.more);
     assert_eq!(pending.output, 1);
@@ -118,10 +139,49 @@ fn a_service_pauses_and_goes_on() {
 
 #[test]
 fn without_a_budget_nothing_pauses() {
-    let mut board = two_chains_on_offer(Budget::default());
+    let mut board = two_chains_on_offer(Budget::default(), 64);
     let pending = board.write(0, Window::Console, 0x050, 4, 1).unwrap();
     assert!(!pending.more);
     assert_eq!(pending.output, 2);
+}
+
+/// The first chain's byte fills the outlet, and the driver is told of it, though the second finds no room.
+#[test]
+fn what_waits_is_told_where_output_finds_no_room() {
+    let mut board = two_chains_on_offer(Budget::default(), 1);
+    let told = Pending {
+        interrupts: Interrupts {
+            block: 0,
+            console: 1,
+        },
+        output: 1,
+        more: false,
+    };
+    let refused = board.write(0, Window::Console, 0x050, 4, 1);
+    assert_eq!(refused, Err(Error::NoRoom(told)));
+    assert_eq!(board.interrupts(0), Ok(told.interrupts));
+    let mut out = [0; 4];
+    assert_eq!(board.take_output(0, &mut out), Ok(1));
+    assert_eq!(board.write(0, Window::Console, 0x050, 4, 1), Ok(told));
+    assert_eq!(board.take_output(0, &mut out), Ok(1));
+    assert_eq!(out[..1], *b"b");
+}
+
+#[test]
+fn a_slot_tells_what_it_was_made_with() {
+    let identity = Identity::from([9; 20]);
+    let slot = Slot::new(MEMORY, LEN, 1..3)
+        .console(132, 43)
+        .outlet(5)
+        .read_only(true)
+        .identity(identity);
+    assert_eq!((slot.get_base(), slot.get_len()), (MEMORY, LEN));
+    assert_eq!(slot.get_sectors(), 1..3);
+    assert_eq!((slot.get_console(), slot.get_outlet()), ((132, 43), 5));
+    assert_eq!(
+        (slot.get_read_only(), slot.get_identity()),
+        (true, identity)
+    );
 }
 
 #[test]
@@ -198,7 +258,8 @@ fn the_image_is_copied() {
 #[test]
 fn a_resize_raises_the_consoles_line_alone() {
     let mut board = one_guest();
-    board.write(0, Window::Console, STATUS, 4, 4).unwrap(); // DRIVER_OK
+    let told = board.write(0, Window::Console, STATUS, 4, 4).unwrap(); // DRIVER_OK
+    assert_eq!(told, Pending::default());
     assert_eq!(
         board.interrupts(0),
         Ok(Interrupts {
@@ -287,7 +348,7 @@ fn get_id(board: &mut Board, slot: u8) -> [u8; 20] {
         (0x044, 1),
         (STATUS, 15),
     ] {
-        set(offset, value);
+        assert_eq!(set(offset, value), Pending::default());
     }
     let memory = board.memory(slot).unwrap();
     let mut put = |at: usize, bytes: &[u8]| memory[at..at + bytes.len()].copy_from_slice(bytes);
@@ -306,7 +367,8 @@ fn get_id(board: &mut Board, slot: u8) -> [u8; 20] {
     );
     put(0x4000, &[8]);
     put(0x2002, &[1, 0]);
-    board.write(slot, Window::Block, 0x050, 4, 0).unwrap();
+    let served = board.write(slot, Window::Block, 0x050, 4, 0).unwrap();
+    assert_eq!(served.interrupts.block, 1);
     let mut told = [0; 20];
     board.read_memory(slot, MEMORY + 0x5000, &mut told).unwrap();
     told

@@ -68,8 +68,8 @@ impl Driver<'_> {
     fn set(&mut self, offset: u16, value: u32) -> Result<(), Error> {
         loop {
             match self.try_to_set(offset, value) {
-                Err(Error::NoRoom) if show(self.board)? => {}
-                Err(Error::NoRoom) => return Ok(()),
+                Err(Error::NoRoom(_)) if show(self.board)? => {}
+                Err(Error::NoRoom(_)) => return Ok(()),
                 answer => return answer,
             }
         }
