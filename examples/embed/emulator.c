@@ -2,19 +2,25 @@
  * A host over a CPU emulator, the Unicorn engine: two RISC-V CPUs run the program of guest.S in turns, each as a guest
  * of its own. The engine maps the board's memory of a guest, with the program in it, so a CPU's loads and stores there
  * need no call; those at its windows become one each.
+ *
+ * `emulator hosted` has no image: each disk is a file of its own, which file_disk.c reads while both guests run on.
  */
+#define _GNU_SOURCE
+#include <poll.h>
 #include <stdio.h>
 #include <stdlib.h>
 #include <string.h>
 #include <unicorn/unicorn.h>
+#include <unistd.h>
 
+#include "file_disk.h"
 #include "guest.h"
-#include "kalyubos.h"
 
 /* Where a guest finds what, in physical addresses. */
 static const uint64_t WINDOWS = 0x0a000000, MEMORY = 0x80000000, PROGRAM = 0x80010000;
 
-enum { PAGE = 0x1000, MEMORY_LEN = 0x20000, OUTLET = 64, GUESTS = 2, TURN = 20, TURNS = 1000, CHAINS = 1 /* that a call serves */ };
+enum { PAGE = 0x1000, MEMORY_LEN = 0x20000, OUTLET = 64, GUESTS = 2, TURN = 20, TURNS = 1000, DISK_LEN = 2 * 512 };
+enum { CHAINS = 1 /* that a call serves */ };
 
 struct guest {
     uint8_t slot;
@@ -22,7 +28,11 @@ struct guest {
     uint64_t at;    /* the address of its next instruction */
     uc_err ended;   /* what its CPU couldn't go on from, if anything */
     FILE *terminal; /* what its console put out */
+    struct file_disk disk; /* where the host serves it, */
+    bool in_flight;        /* and whether it has something to do */
 };
+
+static const char *const DISKS[GUESTS] = { "the first half of the image\n", "the second half\n" };
 
 static struct kalyubos board;
 
@@ -63,6 +73,38 @@ static bool show(const struct guest *guest)
     return taken != 0;
 }
 
+/* ---- a disk that the host serves */
+
+static void open_disk(struct guest *guest)
+{
+    char path[] = "/tmp/kalyubos-emulator-XXXXXX";
+    int file = mkstemp(path);
+    size_t len = strlen(DISKS[guest->slot]);
+    const char *wrong = "can't be written";
+    if (file >= 0 && ftruncate(file, DISK_LEN) == 0 && write(file, DISKS[guest->slot], len) == (ssize_t)len)
+        wrong = file_disk_open(&guest->disk, &board, guest->slot, MEMORY, path, DISK_LEN, false);
+    if (wrong != NULL) {
+        fprintf(stderr, "%s: %s\n", path, wrong);
+        exit(1);
+    }
+    close(file);
+    unlink(path);
+}
+
+/* Between two turns, and where a store waits for it: at most a moment, in which the disk may have ended. */
+static void look_at_disk(struct guest *guest)
+{
+    struct pollfd wake = { .fd = guest->disk.ready, .events = POLLIN };
+    struct kalyubos_pending pending;
+    if (!guest->in_flight || poll(&wake, 1, 1) <= 0)
+        return;
+    uint32_t answer = file_disk_go_on(&guest->disk, &pending);
+    guest->in_flight = answer == KALYUBOS_MORE || answer == KALYUBOS_IO;
+    must(guest->in_flight ? KALYUBOS_DONE : answer, "completed");
+}
+
+/* ---- stores */
+
 /*
  * A store. Where its service pauses, it goes on at once: a host with an order of turns would end the guest's here. Where the
  * console has no room for what comes of it, room is made, and the same store is made again; what is longer than the whole
@@ -71,7 +113,7 @@ static bool show(const struct guest *guest)
  */
 static void window_store(uc_engine *cpu, uint64_t offset, unsigned width, uint64_t value, void *user)
 {
-    const struct guest *guest = user;
+    struct guest *guest = user;
     struct kalyubos_pending pending;
     uint32_t answer;
     (void)cpu;
@@ -79,9 +121,15 @@ static void window_store(uc_engine *cpu, uint64_t offset, unsigned width, uint64
         answer = kalyubos_write(&board, guest->slot, offset / PAGE, offset % PAGE, width, value, &pending);
         while (answer == KALYUBOS_MORE)
             answer = kalyubos_go_on(&board, guest->slot, &pending);
-    } while (answer == KALYUBOS_NO_ROOM && show(guest));
-    if (answer != KALYUBOS_NO_ROOM)
+        if (answer == KALYUBOS_BUSY)
+            look_at_disk(guest);
+    } while (answer == KALYUBOS_BUSY || (answer == KALYUBOS_NO_ROOM && show(guest)));
+    if (answer == KALYUBOS_IO) {
+        file_disk_begin(&guest->disk);
+        guest->in_flight = true;
+    } else if (answer != KALYUBOS_NO_ROOM) {
         must(answer, "write");
+    }
 }
 
 /* ---- the machine */
@@ -98,7 +146,9 @@ static void map_memory(const struct guest *guest)
 
 static void power_on(struct guest *guest, uint8_t slot)
 {
-    *guest = (struct guest){ slot, NULL, PROGRAM, UC_ERR_OK, tmpfile() };
+    guest->slot = slot;
+    guest->at = PROGRAM;
+    guest->terminal = tmpfile();
     if (guest->terminal == NULL) {
         perror("a terminal");
         exit(1);
@@ -114,6 +164,7 @@ static bool turn(struct guest *guest)
     const uint64_t end = PROGRAM + sizeof GUEST;
     if (guest->at == end || guest->ended != UC_ERR_OK)
         return false;
+    look_at_disk(guest);
     guest->ended = uc_emu_start(guest->cpu, guest->at, end, 0, TURN);
     cpu_must(uc_reg_read(guest->cpu, UC_RISCV_REG_PC, &guest->at), "the program counter");
     return true;
@@ -144,18 +195,31 @@ static void report(const struct guest *guest)
     printf("interrupts: %u and %u, disturbed: %d\n", block, console, disturbed);
 }
 
-int main(void)
+/* A board of both guests, over an image of both disks or with a file for each. */
+static void create(struct guest *guests, bool hosted)
 {
-    static uint8_t image[4 * 512];
-    strcpy((char *)image, "the first half of the image\n");
-    strcpy((char *)image + 2 * 512, "the second half\n");
+    static uint8_t image[GUESTS * DISK_LEN];
     struct kalyubos_slot slots[GUESTS] = {
         { sizeof *slots, MEMORY, MEMORY_LEN, 0, 2, 80, 25, OUTLET, false, "first half" },
         { sizeof *slots, MEMORY, MEMORY_LEN, 2, 2, 80, 25, OUTLET, false, "second half" },
     };
-    must(kalyubos_create(&board, slots, GUESTS, image, sizeof image, 8, CHAINS, 0), "create");
+    for (uint8_t slot = 0; slot < GUESTS; slot++) {
+        guests[slot].slot = slot;
+        strcpy((char *)image + slot * DISK_LEN, DISKS[slot]);
+    }
+    if (!hosted) {
+        must(kalyubos_create(&board, slots, GUESTS, image, sizeof image, 8, CHAINS, 0), "create");
+        return;
+    }
+    must(kalyubos_create_hosted(&board, slots, GUESTS), "create_hosted");
+    for (unsigned i = 0; i < GUESTS; i++)
+        open_disk(&guests[i]);
+}
 
+int main(int words_len, char **words)
+{
     static struct guest guests[GUESTS];
+    create(guests, words_len == 2 && strcmp(words[1], "hosted") == 0);
     for (uint8_t slot = 0; slot < GUESTS; slot++)
         power_on(&guests[slot], slot);
 

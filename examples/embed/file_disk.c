@@ -181,7 +181,7 @@ static bool start_thread(struct file_disk *disk)
 {
     int orders[2], results[2];
     pthread_t thread;
-    if (pipe2(orders, O_CLOEXEC) != 0 || pipe2(results, O_CLOEXEC) != 0)
+    if (pipe2(orders, O_CLOEXEC) != 0 || pipe2(results, O_CLOEXEC | O_NONBLOCK) != 0)
         return false;
     disk->by_thread = true;
     disk->orders = orders[0];

@@ -1,6 +1,7 @@
 /*
  * What the library answers to kvm.c, for a machine where it isn't built. It is no board: it knows the registers that
- * kvm-guest.S uses, serves a queue's first chain once, and looks at no flag. Its outlets are those of the library: a byte
+ * kvm-guest.S uses, serves a queue's first chain once, and looks at no flag. Where the host serves the disks, a disk's chain is
+ * an operation until it is completed. Its outlets are those of the library: a byte
  * that finds no room is refused with KALYUBOS_NO_ROOM, and nothing changes.
  */
 #include <stdlib.h>
@@ -19,6 +20,7 @@ static struct slot {
     uint8_t *memory, disk[SECTOR], output[PAGE];
     size_t len, outlet, waiting;
     struct window windows[2];
+    bool hosted, in_flight;
 } guests[GUESTS];
 
 static uint32_t tell(const struct slot *guest, struct kalyubos_pending *pending, uint32_t answer)
@@ -45,14 +47,23 @@ static bool put_out(struct slot *guest, const uint8_t *bytes, size_t len)
     return true;
 }
 
-/* Descriptor 1 of the disk's chain gets its sector, descriptor 2 the status OK. */
-static uint32_t serve_disk(struct slot *guest, struct window *disk)
+/* Descriptor 2 of the disk's chain gets the status OK. */
+static uint32_t end_request(struct slot *guest, struct window *disk)
 {
-    memcpy(guest->memory + number(guest, disk->descriptors + 16), guest->disk, SECTOR);
     guest->memory[number(guest, disk->descriptors + 32)] = 0;
     guest->memory[disk->used + 2] = 1;
     disk->interrupt = 1;
     return KALYUBOS_DONE;
+}
+
+/* Descriptor 1 of the disk's chain gets its sector, by the host where it serves the disk. */
+static uint32_t serve_disk(struct slot *guest, struct window *disk)
+{
+    guest->in_flight = guest->hosted;
+    if (guest->hosted)
+        return KALYUBOS_IO;
+    memcpy(guest->memory + number(guest, disk->descriptors + 16), guest->disk, SECTOR);
+    return end_request(guest, disk);
 }
 
 /* Both buffers of the console's chain are put out. */
@@ -71,19 +82,29 @@ static uint32_t serve_console(struct slot *guest, struct window *console)
     return KALYUBOS_DONE;
 }
 
-uint32_t kalyubos_create(struct kalyubos *board, const struct kalyubos_slot *slots, size_t slots_len,
-                         const uint8_t *image, size_t image_len, uint32_t cache, uint32_t chains, uint64_t bytes)
+uint32_t kalyubos_create_hosted(struct kalyubos *board, const struct kalyubos_slot *slots, size_t slots_len)
 {
-    (void)image_len, (void)cache, (void)chains, (void)bytes;
     for (size_t i = 0; i < slots_len; i++) {
         guests[i] = (struct slot){ .memory = aligned_alloc(PAGE, slots[i].len), .len = slots[i].len, .outlet = slots[i].outlet };
         if (guests[i].memory == NULL)
             return KALYUBOS_NO_MEMORY;
         memset(guests[i].memory, 0, slots[i].len);
-        memcpy(guests[i].disk, image + slots[i].start * SECTOR, SECTOR);
+        guests[i].hosted = true;
     }
     board->at = guests;
     return KALYUBOS_DONE;
+}
+
+uint32_t kalyubos_create(struct kalyubos *board, const struct kalyubos_slot *slots, size_t slots_len,
+                         const uint8_t *image, size_t image_len, uint32_t cache, uint32_t chains, uint64_t bytes)
+{
+    uint32_t answer = kalyubos_create_hosted(board, slots, slots_len);
+    (void)image_len, (void)cache, (void)chains, (void)bytes;
+    for (size_t i = 0; i < slots_len && answer == KALYUBOS_DONE; i++) {
+        guests[i].hosted = false;
+        memcpy(guests[i].disk, image + slots[i].start * SECTOR, SECTOR);
+    }
+    return answer;
 }
 
 uint32_t kalyubos_destroy(struct kalyubos *board)
@@ -134,6 +155,28 @@ uint32_t kalyubos_write(struct kalyubos *board, uint8_t slot, uint8_t window, ui
     else if (offset == EMERGENCY && !put_out(guest, &(uint8_t){ value }, 1))
         answer = KALYUBOS_NO_ROOM;
     return tell(guest, pending, answer);
+}
+
+uint32_t kalyubos_operation(struct kalyubos *board, uint8_t slot, struct kalyubos_operation *operation,
+                            struct kalyubos_run *runs, size_t runs_len)
+{
+    const struct slot *guest = &guests[slot];
+    (void)board, (void)runs_len;
+    if (!guest->in_flight)
+        return KALYUBOS_IDLE;
+    runs[0] = (struct kalyubos_run){ number(guest, guest->windows[KALYUBOS_BLOCK].descriptors + 16), SECTOR };
+    *operation = (struct kalyubos_operation){ KALYUBOS_IN, 1, 0, SECTOR, false };
+    return KALYUBOS_DONE;
+}
+
+uint32_t kalyubos_completed(struct kalyubos *board, uint8_t slot, bool failed, struct kalyubos_pending *pending)
+{
+    struct slot *guest = &guests[slot];
+    (void)board, (void)failed;
+    if (!guest->in_flight)
+        return tell(guest, pending, KALYUBOS_IDLE);
+    guest->in_flight = false;
+    return tell(guest, pending, end_request(guest, &guest->windows[KALYUBOS_BLOCK]));
 }
 
 /* Nothing of it pauses. */

@@ -4,20 +4,23 @@
  * store there is an exit, which becomes one call; and its devices' lines are interrupts of the virtual CPU.
  *
  * `kvm flood` gives guest 0 the program of kvm-flood.S, which puts out more than its outlet keeps; guest 1 ends as before.
- * Where /dev/kvm can't be opened the host says so, with status 77.
+ * `kvm hosted` has no image: each disk is a file of its own, which file_disk.c reads while the guest runs on. Where /dev/kvm can't be opened the host says so, with status 77.
  */
 #define _GNU_SOURCE
 #include <errno.h>
 #include <fcntl.h>
 #include <linux/kvm.h>
+#include <poll.h>
 #include <pthread.h>
+#include <signal.h>
 #include <stdio.h>
 #include <stdlib.h>
 #include <string.h>
 #include <sys/ioctl.h>
 #include <sys/mman.h>
+#include <unistd.h>
 
-#include "kalyubos.h"
+#include "file_disk.h"
 #include "kvm-flood.h"
 #include "kvm-guest.h"
 
@@ -33,9 +36,16 @@ struct guest {
     struct kvm_run *run;
     FILE *terminal;                /* what its console put out */
     struct kalyubos_pending lines; /* as the last call of this guest left them */
+    pthread_t thread;              /* of its CPU */
+    struct file_disk disk;         /* where the host serves it, */
+    bool in_flight;                /* and whether it has something to do */
 };
 
+static const char *const DISKS[GUESTS] = { "the first half of the image\n", "the second half\n" };
+enum { DISK_LEN = 2 * 512 };
+
 static struct kalyubos board;
+static bool hosted;
 static pthread_mutex_t lock = PTHREAD_MUTEX_INITIALIZER;
 
 static int must(int result, const char *what)
@@ -89,6 +99,60 @@ static void power_on(struct guest *guest, int kvm, uint8_t slot, bool floods)
     must(ioctl(guest->cpu, KVM_SET_REGS, &registers), "KVM_SET_REGS");
 }
 
+/* ---- a disk that the host serves */
+
+static void open_disk(struct guest *guest)
+{
+    char path[] = "/tmp/kalyubos-kvm-XXXXXX";
+    int file = must(mkstemp(path), "a disk");
+    must(ftruncate(file, DISK_LEN), "a disk");
+    must((int)write(file, DISKS[guest->slot], strlen(DISKS[guest->slot])), "a disk");
+    const char *wrong = file_disk_open(&guest->disk, &board, guest->slot, 0, path, DISK_LEN, false);
+    if (wrong != NULL) {
+        fprintf(stderr, "%s: %s\n", path, wrong);
+        exit(1);
+    }
+    close(file);
+    unlink(path);
+}
+
+/*
+ * Waits so many milliseconds for the disk, -1 without end, and goes on with it. This may complete what the guest asked
+ * for, so its CPU's thread does it, outside of KVM_RUN.
+ */
+static void look_at_disk(struct guest *guest, int milliseconds)
+{
+    struct pollfd wake = { .fd = guest->disk.ready, .events = POLLIN };
+    if (!guest->in_flight || poll(&wake, 1, milliseconds) <= 0)
+        return;
+    pthread_mutex_lock(&lock);
+    uint32_t answer = file_disk_go_on(&guest->disk, &guest->lines);
+    pthread_mutex_unlock(&lock);
+    guest->in_flight = answer == KALYUBOS_MORE || answer == KALYUBOS_IO;
+    must_do(guest->in_flight ? KALYUBOS_DONE : answer, "completed");
+}
+
+static void ignore(int signal)
+{
+    (void)signal;
+}
+
+/*
+ * A signal ends KVM_RUN once the disk can go on. One that comes too early, before KVM_RUN, is lost: so it is sent again,
+ * a millisecond later, until the CPU's thread has looked.
+ */
+static void *kick(void *user)
+{
+    const struct guest *guest = user;
+    struct pollfd wake = { .fd = guest->disk.ready, .events = POLLIN };
+    for (;;) {
+        poll(&wake, 1, -1);
+        pthread_kill(guest->thread, SIGUSR1);
+        usleep(1000);
+    }
+    return NULL;
+}
+
 /* ---- what a guest's exits come to */
 
 /* A service that pauses leaves the lock to the other guests before it goes on. */
@@ -109,6 +173,17 @@ static bool show(const struct guest *guest)
     return taken != 0;
 }
 
+/* A store that waits for the disk, or for room in the console's output: whether it can be made again. */
+static bool makes_way(struct guest *guest, uint32_t answer)
+{
+    if (answer != KALYUBOS_BUSY)
+        return answer == KALYUBOS_NO_ROOM && show(guest);
+    pthread_mutex_unlock(&lock);
+    look_at_disk(guest, -1);
+    pthread_mutex_lock(&lock);
+    return true;
+}
+
 /*
  * A store. Where the console has no room for what comes of it, room is made, and the same store is made again. What is
  * longer than the whole outlet is never put out: no other guest sees that.
@@ -120,9 +195,13 @@ static void store(struct guest *guest, uint8_t window, uint16_t offset, uint8_t 
         answer = kalyubos_write(&board, guest->slot, window, offset, width, value, &guest->lines);
         while (answer == KALYUBOS_MORE)
             answer = go_on(guest);
-    } while (answer == KALYUBOS_NO_ROOM && show(guest));
-    if (answer != KALYUBOS_NO_ROOM)
+    } while (makes_way(guest, answer));
+    if (answer == KALYUBOS_IO) {
+        file_disk_begin(&guest->disk);
+        guest->in_flight = true;
+    } else if (answer != KALYUBOS_NO_ROOM) {
         must_do(answer, "write");
+    }
 }
 
 /* A load or a store at a window. The CPU that made it stands still until its service has ended. */
@@ -158,10 +237,10 @@ static void set_lines(const struct guest *guest)
 }
 
 /* Runs a guest until it halts with nothing left that could wake it, or makes an exit that this machine has no answer to. */
-static void *run(void *user)
+static void run_cpu(struct guest *guest)
 {
-    struct guest *guest = user;
     for (;;) {
+        look_at_disk(guest, 0);
         set_lines(guest);
         if (ioctl(guest->cpu, KVM_RUN, 0) < 0 && errno != EINTR)
             must(-1, "KVM_RUN");
@@ -169,17 +248,34 @@ static void *run(void *user)
         case KVM_EXIT_MMIO:
             access_window(guest);
             break;
-        case KVM_EXIT_INTR: /* a signal came */
+        case KVM_EXIT_INTR: /* a signal came, as from its disk */
         case KVM_EXIT_IRQ_WINDOW_OPEN:
             break;
         case KVM_EXIT_HLT:
-            if (!guest->run->if_flag || (guest->lines.block == 0 && guest->lines.console == 0))
-                return NULL;
+            if (!guest->run->if_flag || (guest->lines.block == 0 && guest->lines.console == 0 && !guest->in_flight))
+                return;
+            if (guest->lines.block == 0 && guest->lines.console == 0)
+                look_at_disk(guest, -1);
             break;
         default:
-            return NULL;
+            return;
         }
     }
+}
+
+static void *run(void *user)
+{
+    struct guest *guest = user;
+    pthread_t kicks;
+    guest->thread = pthread_self();
+    if (hosted)
+        must(-pthread_create(&kicks, NULL, kick, guest), "a thread");
+    run_cpu(guest);
+    if (hosted) {
+        pthread_cancel(kicks);
+        pthread_join(kicks, NULL);
+    }
+    return NULL;
 }
 
 static void report(const struct guest *guest)
@@ -205,27 +301,42 @@ static void report(const struct guest *guest)
     printf("interrupts: %u and %u, disturbed: %d\n", guest->lines.block, guest->lines.console, disturbed);
 }
 
-int main(int words_len, char **words)
+/* A board of both guests, over an image of both disks or with a file for each. */
+static void create(struct guest *guests)
 {
-    bool floods = words_len == 2 && strcmp(words[1], "flood") == 0;
-    int kvm = open("/dev/kvm", O_RDWR | O_CLOEXEC);
-    if (kvm < 0) {
-        perror("/dev/kvm");
-        return NO_KVM;
-    }
-    static uint8_t image[4 * 512];
-    strcpy((char *)image, "the first half of the image\n");
-    strcpy((char *)image + 2 * 512, "the second half\n");
+    static uint8_t image[GUESTS * DISK_LEN];
     struct kalyubos_slot slots[GUESTS] = {
         { .size = sizeof *slots, .len = MEMORY_LEN, .start = 0, .count = 2, .cols = 80, .rows = 25, .outlet = OUTLET,
           .identity = "first half" },
         { .size = sizeof *slots, .len = MEMORY_LEN, .start = 2, .count = 2, .cols = 80, .rows = 25, .outlet = OUTLET,
           .identity = "second half" },
     };
-    must_do(kalyubos_create(&board, slots, GUESTS, image, sizeof image, 8, CHAINS, 0), "create");
+    for (uint8_t slot = 0; slot < GUESTS; slot++) {
+        guests[slot].slot = slot;
+        strcpy((char *)image + slot * DISK_LEN, DISKS[slot]);
+    }
+    if (!hosted) {
+        must_do(kalyubos_create(&board, slots, GUESTS, image, sizeof image, 8, CHAINS, 0), "create");
+        return;
+    }
+    must_do(kalyubos_create_hosted(&board, slots, GUESTS), "create_hosted");
+    for (unsigned i = 0; i < GUESTS; i++)
+        open_disk(&guests[i]);
+}
 
+int main(int words_len, char **words)
+{
+    bool floods = words_len == 2 && strcmp(words[1], "flood") == 0;
+    hosted = words_len == 2 && strcmp(words[1], "hosted") == 0;
+    signal(SIGUSR1, ignore);
+    int kvm = open("/dev/kvm", O_RDWR | O_CLOEXEC);
+    if (kvm < 0) {
+        perror("/dev/kvm");
+        return NO_KVM;
+    }
     static struct guest guests[GUESTS];
     pthread_t threads[GUESTS];
+    create(guests);
     for (uint8_t slot = 0; slot < GUESTS; slot++)
         power_on(&guests[slot], kvm, slot, floods && slot == 0);
     for (unsigned i = 0; i < GUESTS; i++)

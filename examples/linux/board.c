@@ -1,10 +1,13 @@
 /* The library's calls behind board.h. */
 #include "board.h"
 
+#include <poll.h>
 #include <stdio.h>
 #include <stdlib.h>
 #include <string.h>
+#include <unistd.h>
 
+#include "../embed/file_disk.h"
 #include "disk.h"
 #include "record.h"
 #include "watch.h"
@@ -17,6 +20,11 @@ static uint8_t *memories[GUESTS];
 static struct kalyubos_pending waits[GUESTS]; /* after the slot's last call */
 static struct watch_call served[GUESTS];      /* the last call that a service came of */
 static bool paused[GUESTS];                   /* and whether that is paused */
+
+/* Of disks that the host serves: all are slots of one board, whose calls so stand in the middle of each other's flights. */
+static struct file_disk disks[GUESTS];
+static struct board_flights flights[GUESTS];
+static bool flies[GUESTS]; /* whether an operation is under way */
 
 static void must(uint32_t answer, const char *what)
 {
@@ -48,6 +56,34 @@ static void name_disk(struct kalyubos_slot *slot, const char *path)
     memcpy(slot->identity, name, strnlen(name, sizeof slot->identity));
 }
 
+static void open_disk(uint8_t slot)
+{
+    const char *path = settings.names[slot];
+    const char *wrong = file_disk_open(&disks[slot], &board, slot, MEMORY_BASE, path, settings.sectors[slot] * 512,
+                                       settings.threads);
+    if (wrong != NULL) {
+        fprintf(stderr, "linux-machine: %s: %s\n", path, wrong);
+        exit(2);
+    }
+}
+
+/* A board whose disks the host serves. */
+static void create_hosted(const struct kalyubos_slot *slots)
+{
+    must(kalyubos_create_hosted(&board, slots, settings.guests), "create_hosted");
+    for (size_t i = 0; i < settings.guests; i++)
+        open_disk(i);
+}
+
+/* A board of one image. */
+static void create(const struct kalyubos_slot *slots, uint64_t sectors)
+{
+    must(record_create(&board, slots, settings.guests, settings.image, sectors * 512, settings.cache, settings.chains,
+                       settings.bytes),
+         "create");
+    disk_serve(&board);
+}
+
 void board_open(const struct board_settings *wanted)
 {
     struct kalyubos_slot slots[GUESTS];
@@ -61,16 +97,20 @@ void board_open(const struct board_settings *wanted)
     }
     if (settings.record != NULL && !record_to(settings.record))
         must(KALYUBOS_NO_ROOM, settings.record);
-    must(record_create(&board, slots, settings.guests, settings.image, start * 512, settings.cache,
-                       settings.chains, settings.bytes),
-         "create");
-    disk_serve(&board);
+    if (settings.hosted)
+        create_hosted(slots);
+    else
+        create(slots, start);
     for (size_t i = 0; i < settings.guests; i++)
         memories[i] = memory_of(i);
 }
 
 void board_close(void)
 {
+    for (size_t i = 0; i < settings.guests; i++)
+        while (flies[i])
+            if (board_complete(i) == KALYUBOS_MORE)
+                board_wait();
     for (size_t i = 0; i < settings.guests && settings.copies; i++)
         free(memories[i]);
     must(kalyubos_destroy(&board), "destroy");
@@ -111,9 +151,17 @@ static void after(uint8_t slot)
         must(kalyubos_read_memory(&board, slot, MEMORY_BASE, memories[slot], MEMORY_LEN), "read_memory");
 }
 
+/* Counts a call of a guest for those whose operation is under way. */
+static void count_call(uint8_t slot)
+{
+    for (size_t i = 0; i < settings.guests; i++)
+        flights[i].calls += flies[i] && i != slot;
+}
+
 uint32_t board_read(uint8_t slot, uint8_t window, uint16_t offset, uint8_t width)
 {
     uint32_t value;
+    count_call(slot);
     must(record_read(&board, slot, window, offset, width, &value), "read");
     watch_after(&board, &(struct watch_call){ WATCH_READ, slot, window, offset, width, 0 }, record_line());
     return value;
@@ -121,9 +169,17 @@ uint32_t board_read(uint8_t slot, uint8_t window, uint16_t offset, uint8_t width
 
 static void begin(const struct watch_call *call)
 {
+    count_call(call->slot);
     before(call->slot);
     watch_before(call);
     served[call->slot] = *call;
+}
+
+/* An operation of the slot's disk begins. */
+static void take_off(uint8_t slot)
+{
+    flies[slot] = true;
+    flights[slot].operations++;
 }
 
 /*
@@ -134,13 +190,15 @@ static uint32_t settle(uint8_t slot, uint32_t answer)
 {
     const struct watch_call *call = &served[slot];
     paused[slot] = answer == KALYUBOS_MORE;
-    if (paused[slot])
+    if (paused[slot] || answer == KALYUBOS_BUSY)
         return answer;
     watch_after(&board, call, record_line());
     after(slot);
     if (call->window == KALYUBOS_BLOCK && call->offset == QUEUE_NOTIFY)
         disk_sync();
-    if (answer != KALYUBOS_NO_ROOM)
+    if (answer == KALYUBOS_IO)
+        take_off(slot);
+    else if (answer != KALYUBOS_NO_ROOM)
         must(answer, "a service");
     return answer;
 }
@@ -148,7 +206,38 @@ static uint32_t settle(uint8_t slot, uint32_t answer)
 uint32_t board_write(uint8_t slot, uint8_t window, uint16_t offset, uint8_t width, uint32_t value)
 {
     begin(&(struct watch_call){ WATCH_WRITE, slot, window, offset, width, value });
-    return settle(slot, record_write(&board, slot, window, offset, width, value, &waits[slot]));
+    uint32_t answer = record_write(&board, slot, window, offset, width, value, &waits[slot]);
+    if (answer == KALYUBOS_IO)
+        file_disk_begin(&disks[slot]);
+    return settle(slot, answer);
+}
+
+uint32_t board_complete(uint8_t slot)
+{
+    if (!flies[slot])
+        return KALYUBOS_DONE;
+    begin(&(struct watch_call){ .kind = WATCH_COMPLETION, .slot = slot, .window = KALYUBOS_BLOCK });
+    uint32_t answer = file_disk_go_on(&disks[slot], &waits[slot]);
+    if (answer == KALYUBOS_MORE) {
+        after(slot);
+        return answer;
+    }
+    flies[slot] = false;
+    return settle(slot, answer);
+}
+
+void board_wait(void)
+{
+    enum { MILLISECONDS = 10 };
+    struct pollfd ready[GUESTS];
+    for (size_t i = 0; i < settings.guests; i++)
+        ready[i] = (struct pollfd){ .fd = flies[i] ? disks[i].ready : -1, .events = POLLIN };
+    poll(ready, settings.guests, MILLISECONDS);
+}
+
+struct board_flights board_flights(uint8_t slot)
+{
+    return flights[slot];
 }
 
 uint32_t board_go_on(uint8_t slot)
@@ -188,7 +277,13 @@ bool board_line(uint8_t slot, uint8_t window)
     return (window == KALYUBOS_BLOCK ? waits[slot].block : waits[slot].console) != 0;
 }
 
-void board_image(size_t start, uint8_t *into, size_t len)
+void board_disk(uint8_t slot, uint8_t *into, size_t len)
 {
-    must(kalyubos_read_image(&board, start, into, len), "read_image");
+    uint64_t start = 0;
+    for (size_t i = 0; i < slot; i++)
+        start += settings.sectors[i] * 512;
+    if (!settings.hosted)
+        must(kalyubos_read_image(&board, start, into, len), "read_image");
+    else if (pread(disks[slot].file, into, len, 0) != (ssize_t)len)
+        must(KALYUBOS_BAD_RANGE, settings.names[slot]);
 }

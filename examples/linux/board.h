@@ -16,14 +16,16 @@ static const uint64_t MEMORY_BASE = 0x80000000;
 struct board_settings {
     size_t guests;
     const uint64_t *sectors; /* of each guest's disk; the disks stand in the image one after the other */
-    char *const *names; /* of its file, which is the disk's serial */
+    char *const *names; /* of its file; the file's own is the disk's serial */
     const uint8_t *image;
     uint32_t cache;  /* how many sectors the board keeps */
     uint32_t outlet; /* how many bytes of a console's output may wait */
     uint32_t chains; /* the budget of a call, or 0 for no limit */
     uint64_t bytes;
     const char *record; /* the file that the guests' calls are written to as a trace, or NULL */
-    bool copies;     /* each call copies a guest's whole memory into the board and back, and none is lent */
+    bool copies;        /* each call copies a guest's whole memory into the board and back, and none is lent */
+    bool hosted;        /* there is no image: each disk is the file of its name, which the host serves, */
+    bool threads;       /* without io_uring */
 };
 
 void board_open(const struct board_settings *settings);
@@ -40,7 +42,8 @@ uint32_t board_read(uint8_t slot, uint8_t window, uint16_t offset, uint8_t width
 
 /*
  * What became of a write: KALYUBOS_DONE; NO_ROOM where the console's output has none: take some, and make the write again;
- * MORE where its service pauses: from then until board_go_on answers another the guest must not run or be typed to.
+ * MORE where its service pauses: from then until board_go_on answers another the guest must not run or be typed to. Of a
+ * disk that the host serves: IO where an operation began; BUSY where the write is to be made again, after board_complete.
  */
 uint32_t board_write(uint8_t slot, uint8_t window, uint16_t offset, uint8_t width, uint32_t value);
 
@@ -49,6 +52,20 @@ uint32_t board_go_on(uint8_t slot);
 
 /* Whether a service of the slot is paused. */
 bool board_is_paused(uint8_t slot);
+
+/*
+ * Completes the operation of the slot's disk once its file has ended: DONE, or IO where the next began. Before it answers
+ * MORE, and the guest sees nothing; board_wait waits, for a while, until that has changed for some slot. Where nothing is in
+ * flight it is DONE.
+ */
+uint32_t board_complete(uint8_t slot);
+void board_wait(void);
+
+/* Of a slot's disk that the host serves: its operations so far, and how many calls other guests made during them. */
+struct board_flights {
+    size_t operations, calls;
+};
+struct board_flights board_flights(uint8_t slot);
 
 /* How many of the bytes the console took. The service that brings them to the guest may pause. */
 size_t board_type(uint8_t slot, const uint8_t *bytes, size_t len);
@@ -60,7 +77,7 @@ size_t board_output(uint8_t slot, uint8_t *into, size_t len);
 /* Whether a window's interrupt line is high. */
 bool board_line(uint8_t slot, uint8_t window);
 
-/* Copies the image's bytes. */
-void board_image(size_t start, uint8_t *into, size_t len);
+/* Copies the bytes of the slot's disk. */
+void board_disk(uint8_t slot, uint8_t *into, size_t len);
 
 #endif

@@ -34,7 +34,7 @@ static void move_timer(struct machine *machine)
 /* A machine that is paused leaves its CPU where it is. */
 static void note_pause(struct machine *machine)
 {
-    machine->paused = board_is_paused(machine->slot);
+    machine->paused = machine->busy || board_is_paused(machine->slot);
     if (!machine->paused)
         return;
     machine->pauses++;
@@ -99,6 +99,41 @@ static uint32_t store(const struct machine *machine)
     return board_write(machine->slot, store->window, store->offset, store->width, store->value);
 }
 
+/* ---- a disk that the host serves */
+
+/* It has something to do, and is done after so many instructions, or once its file is. */
+static void take_off(struct machine *machine)
+{
+    struct cpu *cpu = &machine->cpu;
+    machine->flies = true;
+    machine->due = machine->latency == NEVER ? NEVER : cpu->cycles + machine->latency;
+    cpu->stop_at = machine->due < cpu->stop_at ? machine->due : cpu->stop_at;
+}
+
+static void settle(struct machine *machine, uint32_t answer);
+
+/* The disk is done, or the guest waits: at its time it goes no further before its file is. */
+static void land(struct machine *machine)
+{
+    uint32_t answer = board_complete(machine->slot);
+    machine->paused = answer == KALYUBOS_MORE && (machine->busy || machine->latency != NEVER);
+    if (answer == KALYUBOS_MORE)
+        return;
+    bool again = machine->busy;
+    machine->flies = machine->busy = false;
+    machine->due = NEVER;
+    settle(machine, answer);
+    if (again)
+        settle(machine, store(machine));
+}
+
+static bool is_due(const struct machine *machine)
+{
+    return machine->flies && (machine->busy || machine->latency == NEVER || machine->cpu.cycles >= machine->due);
+}
+
+/* ---- stores */
+
 /* What stands behind a store, and behind each piece of its service. Where the output has no room it is made again. */
 static void settle(struct machine *machine, uint32_t answer)
 {
@@ -106,6 +141,9 @@ static void settle(struct machine *machine, uint32_t answer)
         machine->refused++;
         answer = store(machine);
     }
+    machine->busy = answer == KALYUBOS_BUSY;
+    if (answer == KALYUBOS_IO)
+        take_off(machine);
     note_pause(machine);
     if (!machine->late)
         machine_talk(machine);
@@ -124,7 +162,9 @@ static void window_store(struct machine *machine, unsigned window, uint16_t offs
 
 void machine_go_on(struct machine *machine)
 {
-    if (machine->paused)
+    if (is_due(machine))
+        land(machine);
+    else if (machine->paused)
         settle(machine, board_go_on(machine->slot));
 }
 
@@ -212,7 +252,7 @@ static void place(struct machine *machine, uint64_t offset, struct machine_file 
 void machine_start(struct machine *machine, uint8_t slot, struct machine_file kernel, struct machine_file tree)
 {
     machine->slot = slot;
-    machine->timer = NEVER;
+    machine->timer = machine->due = NEVER;
     machine->cpu.memory = board_memory(slot);
     machine->cpu.memory_base = MEMORY_BASE;
     machine->cpu.memory_len = MEMORY_LEN;
@@ -223,20 +263,39 @@ void machine_start(struct machine *machine, uint8_t slot, struct machine_file ke
     machine->cpu.x[A1] = MEMORY_BASE + TREE;
 }
 
+/* The first of the moments ahead: the timer's, the disk's and the end. */
+static uint64_t next_moment(const struct machine *machine, uint64_t end)
+{
+    const uint64_t moments[] = { machine->timer, machine->due };
+    for (size_t i = 0; i < 2; i++)
+        if (machine->cpu.cycles < moments[i] && moments[i] < end)
+            end = moments[i];
+    return end;
+}
+
 void machine_run(struct machine *machine, uint64_t cycles)
 {
     struct cpu *cpu = &machine->cpu;
     uint64_t end = cpu->cycles + cycles;
     do {
+        while (is_due(machine) && machine->due != NEVER && !machine->paused)
+            land(machine);
         move_timer(machine);
-        cpu->stop_at = cpu->cycles < machine->timer && machine->timer < end ? machine->timer : end;
-        cpu_run(cpu);
+        cpu->stop_at = next_moment(machine, end);
+        if (!machine->paused)
+            cpu_run(cpu);
     } while (!machine->off && !machine->paused && !cpu->waits && cpu->cycles < end);
+}
+
+bool machine_stands(const struct machine *machine)
+{
+    return machine->paused || (machine->cpu.waits && machine->flies && machine->due == NEVER);
 }
 
 void machine_pass(struct machine *machine)
 {
-    if (machine->timer != NEVER && machine->cpu.cycles < machine->timer)
-        machine->cpu.cycles = machine->timer;
+    uint64_t then = next_moment(machine, NEVER);
+    if (then != NEVER && !machine_stands(machine))
+        machine->cpu.cycles = then;
     move_timer(machine);
 }

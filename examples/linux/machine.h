@@ -24,9 +24,13 @@ struct machine_store {
 struct machine {
     uint8_t slot;
     bool off;
-    bool paused;          /* the service of its last store, or of what was typed, goes on in its next turn */
+    bool paused;          /* the service of its last store, or of what was typed, goes on in its next turn; or it waits */
+    bool busy;            /* for its disk, and its last store is to be made again then */
     bool late;            /* output is taken where there is no room for more, and while the guest waits */
     uint64_t timer;       /* the cycle of the timer's interrupt, or all ones */
+    uint64_t latency;     /* how many cycles a disk takes that the host serves; all ones: it is done when its file is */
+    uint64_t due;         /* the cycle at which it is done, or all ones */
+    bool flies;           /* whether it has something to do */
     uint64_t hidden;      /* feature bits of the devices that the driver isn't shown */
     uint32_t selected[2]; /* the word of the features that each window was asked for */
     struct machine_counts counts[2];
@@ -49,14 +53,17 @@ struct machine_file {
 /* Loads the kernel and the tree into the slot's memory. */
 void machine_start(struct machine *machine, uint8_t slot, struct machine_file kernel, struct machine_file tree);
 
-/* Goes on with the service that is paused, where one is. */
+/* Goes on with the service that is paused, where one is, and completes what its disk has done. */
 void machine_go_on(struct machine *machine);
 
 /* Runs for some cycles, until it is off, waits for an interrupt, or is paused. */
 void machine_run(struct machine *machine, uint64_t cycles);
 
-/* Lets the time of a machine that waits pass until its timer; without one nothing passes. */
+/* Lets the time of a machine that waits pass until its timer, or until its disk is done; without one nothing passes. */
 void machine_pass(struct machine *machine);
+
+/* Whether it goes on only once its disk is done, or its service. */
+bool machine_stands(const struct machine *machine);
 
 /* Types to the console what its terminal has, and takes what it put out; nothing while it is paused. */
 void machine_talk(struct machine *machine);

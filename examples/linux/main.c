@@ -19,6 +19,10 @@
  *   --keep GUEST      writes that guest's disk back to its file at the end
  *   --image FILE      serves all disks in place from FILE, where they stand one after the other; of the guests' own files
  *                     only the names and the lengths count
+ *   --hosted WAY      serves each disk from its guest's file in place, by a board whose disks are the host's: WAY is `ring`,
+ *                     by io_uring where that is to be had, or `threads`
+ *   --latency COUNT   such a disk is done after so many of its guest's instructions, 10000 where it isn't said, so that runs
+ *                     stay the same; a guest whose file takes longer waits for it. `real`: it is done when its file is
  *
  * What a guest's drivers do wrong is told in guest-0.mistakes, and at the end on the screen.
  */
@@ -37,7 +41,7 @@
 #include "report.h"
 #include "words.h"
 
-enum { GUESTS = 16, SECTOR = 512, TURN = 1000000, ACTS = 5000, NOISE_SECTORS = 64 };
+enum { GUESTS = 16, PATH = 4096, SECTOR = 512, TURN = 1000000, ACTS = 5000, NOISE_SECTORS = 64 };
 
 struct guest {
     bool is_noise;
@@ -75,6 +79,7 @@ static void power_on(size_t index, struct machine_file kernel, struct machine_fi
     struct winsize size = size_of_terminal();
     machine->late = words.late;
     machine->hidden = words.hidden;
+    machine->latency = words.latency;
     machine->early = create_file(words.to, index, "early");
     machine->mistakes = create_file(words.to, index, "mistakes");
     machine->terminal.number = index;
@@ -87,23 +92,33 @@ static void power_on(size_t index, struct machine_file kernel, struct machine_fi
     board_watch(index, machine->mistakes);
 }
 
+/* The disk of noise is zeros; where the host serves it, they are a file in the folder. */
+static struct machine_file disk_of_noise(size_t guest)
+{
+    static char paths[GUESTS][PATH];
+    uint8_t *zeros = calloc(NOISE_SECTORS, SECTOR);
+    if (zeros == NULL)
+        fail("the disk of noise");
+    snprintf(paths[guest], PATH, "%s/guest-%zu.noise", words.to, guest);
+    if (words.hosted) {
+        replace_file(paths[guest], zeros, NOISE_SECTORS * SECTOR);
+        words.guests[guest] = paths[guest];
+    }
+    return (struct machine_file){ zeros, NOISE_SECTORS * SECTOR };
+}
+
 /* The disks' bytes, one disk after the other, and how many they are. */
 static uint8_t *image_of_guests(size_t *all)
 {
     uint8_t *image = NULL;
     size_t len = 0;
     for (size_t i = 0; i < words.count; i++) {
-        struct machine_file disk = { NULL, NOISE_SECTORS * SECTOR };
         guests[i].is_noise = strcmp(words.guests[i], "noise") == 0;
-        if (!guests[i].is_noise)
-            disk = read_file(words.guests[i]);
+        struct machine_file disk = guests[i].is_noise ? disk_of_noise(i) : read_file(words.guests[i]);
         image = realloc(image, len + disk.len);
         if (image == NULL)
             fail("the image");
-        if (guests[i].is_noise)
-            memset(image + len, 0, disk.len);
-        else
-            memcpy(image + len, disk.bytes, disk.len);
+        memcpy(image + len, disk.bytes, disk.len);
         free((void *)disk.bytes);
         guests[i].sectors = disk.len / SECTOR;
         len += disk.len;
@@ -122,7 +137,8 @@ static void open_guests(void)
     for (size_t i = 0; i < words.count; i++)
         sectors[i] = guests[i].sectors;
     board_open(&(struct board_settings){ words.count, sectors, words.guests, served, words.cache, words.outlet,
-                                         words.chains, words.bytes, words.record, words.copies });
+                                         words.chains, words.bytes, words.record, words.copies, words.hosted,
+                                         words.threads });
     free(image);
     for (size_t i = 0; i < words.count; i++)
         if (guests[i].is_noise)
@@ -144,7 +160,7 @@ static bool is_on(const struct guest *guest)
 static void take_turn(struct machine *machine)
 {
     machine_go_on(machine);
-    if (machine->paused)
+    if (machine_stands(machine))
         return;
     machine_run(machine, TURN);
     if (machine->cpu.waits || machine->off)
@@ -153,14 +169,19 @@ static void take_turn(struct machine *machine)
         machine_pass(machine);
 }
 
-/* Gives each guest that is on a turn. */
+/* Gives each guest that is on a turn; waits where all wait for their disks. */
 static void turn(void)
 {
+    bool stand = true;
     for (size_t i = 0; i < words.count; i++)
         if (guests[i].is_noise)
             noise_run(&guests[i].noise, ACTS);
         else if (is_on(&guests[i]))
             take_turn(&guests[i].machine);
+    for (size_t i = 0; i < words.count; i++)
+        stand = stand && (!is_on(&guests[i]) || machine_stands(&guests[i].machine));
+    if (stand && words.hosted)
+        board_wait();
 }
 
 /* Whether a guest is on that is waited for: with a person, guest 0. */
@@ -212,11 +233,9 @@ static void listen(struct machine *machine)
 static bool report_guests(void)
 {
     bool good = true;
-    size_t start = 0;
     for (size_t i = 0; i < words.count; i++) {
         const char *kept = words.kept == (int)i && !guests[i].is_noise ? words.guests[i] : NULL;
-        report_disk(i, start, guests[i].sectors * SECTOR, words.to, kept);
-        start += guests[i].sectors * SECTOR;
+        report_disk(i, guests[i].sectors * SECTOR, words.to, kept);
         if (guests[i].is_noise)
             printf("guest %zu: noise, %llu writes\n", i, (unsigned long long)guests[i].noise.writes);
         else

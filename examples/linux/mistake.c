@@ -24,6 +24,8 @@ static void tell_call(FILE *told, const struct watch_call *call)
     unsigned digits = 2 * call->width, value = digits < 8 ? call->value & ((1u << 4 * digits) - 1) : call->value;
     if (call->kind == WATCH_INPUT)
         fprintf(told, "in %x: the console of guest %u is typed to", call->slot, call->slot);
+    else if (call->kind == WATCH_COMPLETION)
+        fprintf(told, "io %x: the disk of guest %u is done", call->slot, call->slot);
     else if (call->kind == WATCH_READ)
         fprintf(told, "r %x %c %03x %x: guest %u reads %s of its %s window", call->slot, *window, call->offset,
                 call->width, call->slot, name, window);

@@ -16,13 +16,13 @@ static uint64_t sum_of(const uint8_t *bytes, size_t len)
     return sum;
 }
 
-void report_disk(size_t guest, size_t start, size_t len, const char *folder, const char *kept)
+void report_disk(size_t guest, size_t len, const char *folder, const char *kept)
 {
     uint8_t *bytes = malloc(len);
     FILE *file = create_file(folder, guest, "disk");
     if (bytes == NULL)
         fail("the disk's bytes");
-    board_image(start, bytes, len);
+    board_disk(guest, bytes, len);
     if (fwrite(bytes, 1, len, file) != len || fclose(file) != 0)
         fail("the disk's file");
     if (kept != NULL)
@@ -34,6 +34,15 @@ static void report_window(FILE *report, const char *name, const struct machine_c
 {
     fprintf(report, "%s: %llu reads, %llu writes, %llu interrupts\n", name, (unsigned long long)counts->reads,
             (unsigned long long)counts->writes, (unsigned long long)counts->rises);
+}
+
+/* Says what else went on while the host served the guest's disk. */
+static void show_flights(uint8_t slot)
+{
+    struct board_flights flights = board_flights(slot);
+    if (flights.operations > 0)
+        printf("guest %u: its disk was asked %zu times, and other guests made %zu calls meanwhile\n", slot,
+               flights.operations, flights.calls);
 }
 
 /* Shows what was told of a guest's drivers. */
@@ -63,6 +72,7 @@ bool report_machine(const struct machine *machine, const char *folder)
         printf("guest %u: %llu writes were made again\n", machine->slot, (unsigned long long)machine->refused);
     if (machine->pauses > 0)
         printf("guest %u: its services paused %llu times\n", machine->slot, (unsigned long long)machine->pauses);
+    show_flights(machine->slot);
     show_mistakes(machine);
     fclose(machine->mistakes);
     return machine->off;

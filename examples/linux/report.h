@@ -9,7 +9,7 @@
 /* Ends the guest's files; tells on the screen what is out of the ordinary. Whether the guest went off. */
 bool report_machine(const struct machine *machine, const char *folder);
 
-/* Writes a guest's part of the image to the folder, and to `kept` where that isn't NULL. */
-void report_disk(size_t guest, size_t start, size_t len, const char *folder, const char *kept);
+/* Writes a guest's disk to the folder, and to `kept` where that isn't NULL. */
+void report_disk(size_t guest, size_t len, const char *folder, const char *kept);
 
 #endif

@@ -152,13 +152,13 @@ void watch_after(struct kalyubos *board, const struct watch_call *call, size_t l
         return;
     struct window *window = &guest->windows[call->window];
     guest->line = line;
-    if (call->kind != WATCH_INPUT)
+    if (call->kind == WATCH_READ || call->kind == WATCH_WRITE)
         look_at_access(guest, call);
     if (call->kind == WATCH_READ)
         return;
     uint32_t status = register_of(board, call, STATUS);
     bool ready = register_of(board, call, QUEUE_READY) == 1;
-    if (call->kind == WATCH_INPUT || call->offset == QUEUE_NOTIFY) {
+    if (call->kind != WATCH_WRITE || call->offset == QUEUE_NOTIFY) {
         look_at_service(guest, call, (status & ~window->status & NEEDS_RESET) != 0);
     } else if (call->width == 4) {
         look_at_consent(guest, call, status, ready);

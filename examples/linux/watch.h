@@ -11,9 +11,9 @@
 #include "kalyubos.h"
 #include "queue.h"
 
-/* A guest's access to a register, or what was typed to its console, which has no register. */
+/* A guest's access to a register; what was typed to its console, or a completion of its disk, which have no register. */
 struct watch_call {
-    enum { WATCH_READ, WATCH_WRITE, WATCH_INPUT } kind;
+    enum { WATCH_READ, WATCH_WRITE, WATCH_INPUT, WATCH_COMPLETION } kind;
     uint8_t slot, window;
     uint16_t offset;
     uint8_t width;

@@ -45,15 +45,25 @@ static uint64_t feature(const char *word)
 static const struct option OPTIONS[] = {
     { "bytes", required_argument, NULL, 'y' },   { "cache", required_argument, NULL, 'c' },
     { "chains", required_argument, NULL, 'a' },  { "copies", no_argument, NULL, 'p' },
-    { "cycles", required_argument, NULL, 'n' },  { "image", required_argument, NULL, 'm' },
-    { "interactive", no_argument, NULL, 'i' },   { "keep", required_argument, NULL, 'b' },
-    { "kernel", required_argument, NULL, 'k' },  { "late", no_argument, NULL, 'l' },
+    { "cycles", required_argument, NULL, 'n' },  { "hosted", required_argument, NULL, 'h' },
+    { "image", required_argument, NULL, 'm' },   { "interactive", no_argument, NULL, 'i' },
+    { "keep", required_argument, NULL, 'b' },    { "kernel", required_argument, NULL, 'k' },
+    { "late", no_argument, NULL, 'l' },          { "latency", required_argument, NULL, 'u' },
     { "outlet", required_argument, NULL, 'o' },  { "quiet", no_argument, NULL, 'q' },
     { "record", required_argument, NULL, 'r' },  { "script", required_argument, NULL, 's' },
     { "show", required_argument, NULL, 'g' },    { "to", required_argument, NULL, 'd' },
     { "tree", required_argument, NULL, 't' },    { "without", required_argument, NULL, 'w' },
     { NULL, 0, NULL, 0 },
 };
+
+/* How the host serves the disks: `ring` or `threads`. */
+static void host(struct words *words, const char *way)
+{
+    words->hosted = true;
+    words->threads = strcmp(way, "threads") == 0;
+    if (!words->threads && strcmp(way, "ring") != 0)
+        fail(way);
+}
 
 static void take(struct words *words, int option)
 {
@@ -63,6 +73,7 @@ static void take(struct words *words, int option)
     case 'c': words->cache = number(optarg); break;
     case 'd': words->to = optarg; break;
     case 'g': words->shown = number(optarg); break;
+    case 'h': host(words, optarg); break;
     case 'i': words->interactive = true; break;
     case 'k': words->kernel = optarg; break;
     case 'l': words->late = true; break;
@@ -74,6 +85,7 @@ static void take(struct words *words, int option)
     case 'r': words->record = optarg; break;
     case 's': words->script = optarg; break;
     case 't': words->tree = optarg; break;
+    case 'u': words->latency = strcmp(optarg, "real") == 0 ? UINT64_MAX : number(optarg); break;
     case 'w': words->hidden |= feature(optarg); break;
     case 'y': words->bytes = number(optarg); break;
     default: exit(2);
@@ -83,7 +95,8 @@ static void take(struct words *words, int option)
 struct words words_of(int argc, char **argv)
 {
     struct words words = {
-        .to = ".", .script = "", .cache = 1024, .outlet = 0x8000, .bytes = 0x10000, .cycles = 4000000000, .shown = -1, .kept = -1,
+        .to = ".", .script = "", .cache = 1024, .outlet = 0x8000, .bytes = 0x10000, .cycles = 4000000000, .latency = 10000,
+        .shown = -1, .kept = -1,
     };
     int option;
     while ((option = getopt_long(argc, argv, "", OPTIONS, NULL)) != -1)
@@ -94,5 +107,7 @@ struct words words_of(int argc, char **argv)
         fail("--kernel, --tree and one to sixteen guests are wanted");
     if (words.image != NULL && words.kept >= 0)
         fail("--image beside --keep");
+    if (words.hosted && (words.image != NULL || words.kept >= 0 || words.record != NULL))
+        fail("--hosted beside --image, --keep or --record");
     return words;
 }

@@ -12,6 +12,9 @@ struct words {
     const char *script; /* the lines that are typed, one at each prompt */
     const char *record;
     const char *image; /* the file of all disks, which is served in place, or NULL */
+    bool hosted;       /* each disk is the guest's file, which the host serves, */
+    bool threads;      /* without io_uring */
+    uint64_t latency;  /* how many instructions such a disk takes, or all ones: as many as pass */
     uint32_t cache, outlet;
     uint32_t chains; /* the budget of a call, or 0 for no limit */
     uint64_t bytes;
@@ -20,7 +23,7 @@ struct words {
     bool late, copies, interactive, quiet;
     int shown; /* the one guest on the screen, or -1 for all */
     int kept;  /* the guest whose disk goes back to its file, or -1 */
-    char *const *guests;
+    char **guests;
     size_t count;
 };
 
