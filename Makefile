@@ -1,6 +1,6 @@
 # The commands of the README, the library, its installing and its packages, the measurements, tries from outside, the hosts of the
 # library, and the suite. The first sentence above a target is its line in make help.
-.PHONY: run prove show vshow look-test look-picture show-check test help library install uninstall dist deb dist-check bench fuzz broken trouble embed linux linux-test linux-picture stress doors peer mutants matrix
+.PHONY: run prove show vshow look-test look-picture show-check test help library install uninstall dist deb dist-check bench fuzz broken trouble stops embed linux linux-test linux-picture stress doors peer mutants matrix
 
 TRACE ?= examples/two-guests.trace
 IMAGE ?=
@@ -103,6 +103,11 @@ trouble:
 	@fuzz/streams
 	@fuzz/files
 	@fuzz/trouble $(N) --from $(FROM)
+
+# Makes the files that a stop may leave, of N traces replayed in place and of N boots of Linux from the seed FROM on, and looks
+# for what the guests were told. The boots want what make linux builds.
+stops:
+	@fuzz/stops $(N) --from $(FROM)
 
 # Builds the library and its hosts, in C and in Rust, over a CPU emulator and over KVM, as far as the machine has what
 # they want, runs them, and compares what they print.

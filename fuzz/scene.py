@@ -5,7 +5,6 @@ from guests import IDENTITY_TEXT, MEMORIES, SECTOR, Guest, Slot, live
 
 BASES = [0x80000000, 0x80000000, 0, 0x40000000, (1 << 64) - 0x10000]
 CACHES = [1, 2, 3, 8, 65536]
-DISKS = 2 * [0, 1, 2, 4, 8] + [130]
 WILDNESS = [0, 0, 0.1, 0.4, 0.8]
 STRANGERS = ["r {} b 000 4", "w {} b 070 4 00000000", "w {} c 050 4 00000000", "mr {} 80000000 4", "mw {} 80000000 ff"]
 
@@ -14,6 +13,7 @@ class Scene:
     """Two to four guests on one board, each with a run of the image's sectors for its disk."""
 
     GUESTS = 2, 5
+    DISKS = 2 * [0, 1, 2, 4, 8] + [130]
 
     def __init__(self, seed, offered):
         self.seed, dice = seed, random.Random(seed)
@@ -22,7 +22,7 @@ class Scene:
         self.cache = dice.choice(CACHES)
         self.guests, start = [], dice.randrange(3)
         for _ in range(dice.randrange(*self.GUESTS)):
-            length, count = dice.choice(MEMORIES), dice.choice(DISKS)
+            length, count = dice.choice(MEMORIES), dice.choice(self.DISKS)
             base = min(dice.choice(BASES), (1 << 64) - length)
             identity = IDENTITY_TEXT if self.version == 1 else names.randbytes(20)
             slot = Slot(base, length, start, count, dice.random() < 0.2, dice.randrange(200), dice.randrange(100), identity)
