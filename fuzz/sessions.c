@@ -1,22 +1,26 @@
 /*
- * Replays a trace over the C library: all guests on one board whose outlets are small, and each guest's own events on a
- * board with that guest alone, over its part of the image. All guests do so once for each of BUDGETS, and between the
- * pieces of a service others' events are served; alone there is no budget. Each guest must be told the same.
+ * Replays a trace over the C library, and compares what each guest is told on a board of all guests, whose outlets are small,
+ * with what it is told on a board of its own:
+ *  - over an image, once for each of BUDGETS, where others' events are served between the pieces of a service; alone there
+ *    is no budget;
+ *  - with disks that the host serves, where operations are completed at random moments, and some fail (flights.c). The
+ *    boards of one guest are called by a thread each, all at once and without a lock.
  *
  *     sessions TRACE IMAGE SEED    prints what was counted, or ends with 1 and the first event that was answered otherwise
- *     sessions                     prints the features that a board offers: of both windows, and the high word of both
+ *     sessions                     prints the features that a board offers, as records: of both windows, and the high word
  *
  * What the host does beside the events follows from SEED and a guest's own answers: it takes output now and then, and
  * where there was no room it takes some and mostly makes the same write again. The heap is open to create and destroy
  * alone, and empty at the end.
  */
 #include <inttypes.h>
+#include <pthread.h>
 #include <stdio.h>
 #include <stdlib.h>
 #include <string.h>
 
+#include "flights.h"
 #include "shut_heap.h"
-#include "trace.h"
 
 enum { SECTOR = 512, TAKEN_AT_ONCE = 1 << 16 };
 static const uint32_t OUTLETS[] = { 1 << 16, 300, 4095, 1, 1000, 0 };
@@ -59,68 +63,16 @@ static void read_trace(struct file text)
         need(read_event(&trace, &events[events_len]), "no event", events_len);
 }
 
-/* ---- what a guest is told: all of it one after another, and where each event's part begins */
-
-struct told {
-    uint8_t *bytes;
-    size_t len, room;
-    size_t *starts;
-    size_t count;
-};
-
-static void tell(struct told *told, const void *bytes, size_t len)
-{
-    if (told->len + len > told->room) {
-        told->room = 2 * (told->len + len);
-        told->bytes = realloc(told->bytes, told->room);
-        need(told->bytes != NULL, "no memory", told->room);
-    }
-    if (len != 0)
-        memcpy(told->bytes + told->len, bytes, len);
-    told->len += len;
-}
-
-static void tell_number(struct told *told, uint64_t number)
-{
-    tell(told, &number, sizeof number);
-}
-
 /* ---- a guest on a board, and its host */
-
-struct seat {
-    struct kalyubos *board;
-    uint8_t slot;
-    const struct guest *guest;
-    bool is_paused;
-    uint64_t state;
-    struct told told;
-};
-
-static uint64_t refused, taken_in_all, pauses;
-
-static uint64_t chance(struct seat *seat, uint64_t below)
-{
-    seat->state ^= seat->state << 13;
-    seat->state ^= seat->state >> 7;
-    seat->state ^= seat->state << 17;
-    return (seat->state >> 11) % below;
-}
 
 static void take(struct seat *seat, size_t room)
 {
-    static uint8_t out[TAKEN_AT_ONCE];
+    static _Thread_local uint8_t out[TAKEN_AT_ONCE];
     size_t taken = 0;
     tell_number(&seat->told, kalyubos_take_output(seat->board, seat->slot, out, room, &taken));
     tell_number(&seat->told, taken);
     tell(&seat->told, out, taken);
-    taken_in_all += taken;
-}
-
-static void tell_pending(struct told *told, const struct kalyubos_pending *pending)
-{
-    tell_number(told, pending->block);
-    tell_number(told, pending->console);
-    tell_number(told, pending->output);
+    seat->counts.taken += taken;
 }
 
 static void serve_another(void);
@@ -130,16 +82,16 @@ static void check_busy(struct seat *seat)
 {
     uint32_t value;
     uint8_t byte;
-    need(kalyubos_read(seat->board, seat->slot, 0, 0, 4, &value) == KALYUBOS_BUSY, "a read isn't busy", pauses);
+    need(kalyubos_read(seat->board, seat->slot, 0, 0, 4, &value) == KALYUBOS_BUSY, "a read isn't busy", seat->slot);
     need(kalyubos_read_memory(seat->board, seat->slot, seat->guest->base, &byte, 1) == KALYUBOS_BUSY,
-         "a read of memory isn't busy", pauses);
+         "a read of memory isn't busy", seat->slot);
 }
 
 /* Goes on with a service until it ends, and lets an event of another guest be served before each piece. */
 static uint32_t serve_on(struct seat *seat, uint32_t answer, struct kalyubos_pending *pending)
 {
     while (answer == KALYUBOS_MORE) {
-        pauses++;
+        seat->counts.pauses++;
         seat->is_paused = true;
         check_busy(seat);
         serve_another();
@@ -147,6 +99,24 @@ static uint32_t serve_on(struct seat *seat, uint32_t answer, struct kalyubos_pen
         seat->is_paused = false;
     }
     return answer;
+}
+
+/* What follows from a write's answer beside an event; whether the same write comes again. */
+static bool goes_again(struct seat *seat, uint32_t answer)
+{
+    if (seat->disk != NULL)
+        take_answer(seat, answer);
+    if (answer == KALYUBOS_BUSY) {
+        need(seat->disk != NULL && seat->disk->is_asked, "a write is busy", seat->slot);
+        seat->counts.waits++;
+        complete(seat);
+        return true;
+    }
+    if (answer != KALYUBOS_NO_ROOM)
+        return false;
+    seat->counts.refused++;
+    take(seat, chance(seat, chance(seat, 2) ? 100 : TAKEN_AT_ONCE));
+    return chance(seat, 8) != 0;
 }
 
 static void write_register(struct seat *seat, const struct event *event)
@@ -159,15 +129,12 @@ static void write_register(struct seat *seat, const struct event *event)
         answer = serve_on(seat, answer, &pending);
         tell_number(&seat->told, answer);
         tell_pending(&seat->told, &pending);
-        refused += answer == KALYUBOS_NO_ROOM;
-        if (answer == KALYUBOS_NO_ROOM)
-            take(seat, chance(seat, chance(seat, 2) ? 100 : TAKEN_AT_ONCE));
-    } while (answer == KALYUBOS_NO_ROOM && chance(seat, 8) != 0);
+    } while (goes_again(seat, answer));
 }
 
 static void read_memory(struct seat *seat, uint64_t address, size_t len)
 {
-    static uint8_t bytes[1 << 20];
+    static _Thread_local uint8_t bytes[1 << 20];
     size_t room = len < sizeof bytes ? len : sizeof bytes;
     uint32_t answer = kalyubos_read_memory(seat->board, seat->slot, address, bytes, room);
     tell_number(&seat->told, answer);
@@ -192,6 +159,8 @@ static void act(struct seat *seat, const struct event *event)
     struct kalyubos_pending pending = { 0 };
     uint32_t value = 0, answer;
     size_t took = 0;
+    if (seat->disk != NULL)
+        serve_by_chance(seat);
     switch (event->kind) {
     case READ:
         tell_number(told, kalyubos_read(seat->board, seat->slot, (uint8_t)event->window, (uint16_t)event->offset,
@@ -225,16 +194,24 @@ static void begin_part(struct seat *seat)
     seat->told.starts[seat->told.count++] = seat->told.len;
 }
 
-/* What is left of the guest's at the end: memory, sectors, and all that waits of its output. */
-static void tell_rest(struct seat *seat, uint64_t first_sector)
+static void tell_sectors(struct seat *seat, uint64_t first)
 {
     size_t len = (size_t)seat->guest->count * SECTOR;
     uint8_t *sectors = malloc(len + 1);
-    begin_part(seat);
-    need(sectors != NULL && kalyubos_read_image(seat->board, first_sector * SECTOR, sectors, len) == KALYUBOS_DONE,
-         "the guest's sectors", first_sector);
+    need(sectors != NULL && kalyubos_read_image(seat->board, first * SECTOR, sectors, len) == KALYUBOS_DONE,
+         "the guest's sectors", first);
     tell(&seat->told, sectors, len);
     free(sectors);
+}
+
+/* What is left of the guest's at the end: memory, sectors, and all that waits of its output. */
+static void tell_rest(struct seat *seat, uint64_t first_sector)
+{
+    begin_part(seat);
+    if (seat->disk != NULL)
+        tell_disk(seat);
+    else
+        tell_sectors(seat, first_sector);
     read_memory(seat, seat->guest->base, (size_t)seat->guest->len);
     take(seat, TAKEN_AT_ONCE);
     look(seat);
@@ -246,7 +223,9 @@ static uint64_t seed;
 
 static struct seat seat_of(struct kalyubos *board, uint8_t slot, size_t guest)
 {
-    struct seat seat = { board, slot, &trace.guests[guest], false, 0x9e3779b97f4a7c15 * (16 * seed + guest + 1), { 0 } };
+    struct seat seat = {
+        .board = board, .slot = slot, .guest = &trace.guests[guest], .state = 0x9e3779b97f4a7c15 * (16 * seed + guest + 1),
+    };
     seat.told.starts = calloc(events_len + 1, sizeof *seat.told.starts);
     need(seat.told.starts != NULL, "no memory", events_len);
     return seat;
@@ -298,6 +277,30 @@ static void serve_another(void)
     }
 }
 
+/* Serves all events on the board of all guests, and ends it. */
+static void act_together(void)
+{
+    memset(begun, 0, events_len * sizeof *begun);
+    for (begun_len = 0; begun_len < events_len;)
+        serve_another();
+    for (size_t i = 0; i < trace.guests_len; i++)
+        tell_rest(&seats[i], trace.guests[i].start);
+    end(&shared);
+}
+
+/* Serves the events of a guest alone. */
+static void act_alone(struct seat *seat)
+{
+    size_t guest = (size_t)(seat->guest - trace.guests);
+    for (size_t i = 0; i < events_len; i++) {
+        if (events[i].guest != guest)
+            continue;
+        begin_part(seat);
+        act(seat, &events[i]);
+    }
+    tell_rest(seat, 0);
+}
+
 static void run_together(struct file image, struct budget budget)
 {
     struct kalyubos_slot slots[MOST_GUESTS];
@@ -305,13 +308,8 @@ static void run_together(struct file image, struct budget budget)
         slots[i] = slot_of(i, trace.guests[i].start);
         seats[i] = seat_of(&shared, (uint8_t)i, i);
     }
-    memset(begun, 0, events_len * sizeof *begun);
     make(&shared, slots, trace.guests_len, image.at, image.len, trace.cache, budget);
-    for (begun_len = 0; begun_len < events_len;)
-        serve_another();
-    for (size_t i = 0; i < trace.guests_len; i++)
-        tell_rest(&seats[i], trace.guests[i].start);
-    end(&shared);
+    act_together();
 }
 
 static struct seat run_alone(size_t guest, struct file image)
@@ -321,16 +319,55 @@ static struct seat run_alone(size_t guest, struct file image)
     struct seat seat = seat_of(&board, 0, guest);
     const uint8_t *part = image.at + trace.guests[guest].start * SECTOR;
     make(&board, &slot, 1, part, trace.guests[guest].count * SECTOR, trace.cache, NO_LIMIT);
-    for (size_t i = 0; i < events_len; i++) {
-        if (events[i].guest != guest)
-            continue;
-        begin_part(&seat);
-        act(&seat, &events[i]);
-    }
-    tell_rest(&seat, 0);
+    act_alone(&seat);
     end(&board);
     return seat;
 }
+
+/* ---- the same with disks that the host serves */
+
+static struct seat hosted_seat_of(struct kalyubos *board, uint8_t slot, size_t guest, struct file image)
+{
+    struct seat seat = seat_of(board, slot, guest);
+    open_disk(&seat, image.at + trace.guests[guest].start * SECTOR, (seed + guest) % 2 == 0);
+    return seat;
+}
+
+static void run_hosted_together(struct file image)
+{
+    struct kalyubos_slot slots[MOST_GUESTS];
+    for (size_t i = 0; i < trace.guests_len; i++)
+        slots[i] = slot_of(i, 0);
+    make_hosted(&shared, slots, trace.guests_len);
+    for (size_t i = 0; i < trace.guests_len; i++)
+        seats[i] = hosted_seat_of(&shared, (uint8_t)i, i, image);
+    act_together();
+}
+
+static void *act_on_a_thread(void *seat)
+{
+    act_alone(seat);
+    return NULL;
+}
+
+/* Each guest on a board and on a thread of its own, all at once. */
+static void run_hosted_alone(struct file image)
+{
+    static struct kalyubos boards[MOST_GUESTS];
+    pthread_t threads[MOST_GUESTS];
+    for (size_t i = 0; i < trace.guests_len; i++) {
+        struct kalyubos_slot slot = slot_of(i, 0);
+        make_hosted(&boards[i], &slot, 1);
+        seats[i] = hosted_seat_of(&boards[i], 0, i, image);
+    }
+    for (size_t i = 0; i < trace.guests_len; i++)
+        need(pthread_create(&threads[i], NULL, act_on_a_thread, &seats[i]) == 0, "no thread", i);
+    for (size_t i = 0; i < trace.guests_len; i++)
+        need(pthread_join(threads[i], NULL) == 0, "no end of a thread", i);
+    end_all(boards, trace.guests_len);
+}
+
+/* ---- what the guests were told */
 
 /* Ends the program where the two were told something else, with the number of the guest's first such event. */
 static void compare(size_t guest, const struct told *together, const struct told *alone)
@@ -346,10 +383,25 @@ static void compare(size_t guest, const struct told *together, const struct told
     exit(1);
 }
 
+static struct counts total;
+
+static void add_counts(const struct counts *counts)
+{
+    total.pauses += counts->pauses;
+    total.refused += counts->refused;
+    total.taken += counts->taken;
+    total.operations += counts->operations;
+    total.failures += counts->failures;
+    total.waits += counts->waits;
+}
+
 static void release(struct seat *seat)
 {
+    add_counts(&seat->counts);
     free(seat->told.bytes);
     free(seat->told.starts);
+    if (seat->disk != NULL)
+        close_disk(seat);
 }
 
 static void print_features(void)
@@ -364,14 +416,46 @@ static void print_features(void)
         uint32_t word = 0;
         kalyubos_write(&board, 0, windows[i], 0x014, 4, i == 2, &pending);
         kalyubos_read(&board, 0, windows[i], 0x010, 4, &word);
-        printf("v:%08" PRIx32 "\n", word);
+        printf("0 v:%08" PRIx32 " - 0 0\n", word);
     }
     end(&board);
 }
 
+static void check_budgets(struct file image)
+{
+    static struct seat all[BUDGETS_LEN][MOST_GUESTS];
+    for (size_t i = 0; i < BUDGETS_LEN; i++) {
+        seats = all[i];
+        run_together(image, BUDGETS[i]);
+    }
+    for (size_t i = 0; i < trace.guests_len; i++) {
+        struct seat alone = run_alone(i, image);
+        for (size_t j = 0; j < BUDGETS_LEN; j++) {
+            compare(i, &all[j][i].told, &alone.told);
+            release(&all[j][i]);
+        }
+        alone.counts = (struct counts){ 0 };
+        release(&alone);
+    }
+}
+
+static void check_hosted(struct file image)
+{
+    static struct seat together[MOST_GUESTS], alone[MOST_GUESTS];
+    seats = together;
+    run_hosted_together(image);
+    seats = alone;
+    run_hosted_alone(image);
+    for (size_t i = 0; i < trace.guests_len; i++) {
+        compare(i, &together[i].told, &alone[i].told);
+        release(&together[i]);
+        alone[i].counts = (struct counts){ 0 };
+        release(&alone[i]);
+    }
+}
+
 int main(int argc, char **argv)
 {
-    struct seat all[BUDGETS_LEN][MOST_GUESTS];
     if (argc != 4) {
         print_features();
         return 0;
@@ -381,21 +465,12 @@ int main(int argc, char **argv)
     read_trace(text);
     begun = calloc(events_len + 1, sizeof *begun);
     need(begun != NULL, "no memory", events_len);
-    for (size_t i = 0; i < BUDGETS_LEN; i++) {
-        seats = all[i];
-        run_together(image, BUDGETS[i]);
-    }
-    uint64_t refused_together = refused, taken_together = taken_in_all;
-    for (size_t i = 0; i < trace.guests_len; i++) {
-        struct seat alone = run_alone(i, image);
-        for (size_t j = 0; j < BUDGETS_LEN; j++) {
-            compare(i, &all[j][i].told, &alone.told);
-            release(&all[j][i]);
-        }
-        release(&alone);
-    }
-    printf("%zu events, %" PRIu64 " pauses, %" PRIu64 " writes without room, %" PRIu64 " bytes taken\n",
-           BUDGETS_LEN * events_len, pauses, refused_together, taken_together);
+    check_budgets(image);
+    check_hosted(image);
+    printf("%zu events, %" PRIu64 " pauses, %" PRIu64 " writes without room, %" PRIu64 " bytes taken, %" PRIu64
+           " operations, %" PRIu64 " of them failed, %" PRIu64 " writes that waited for a disk\n",
+           (BUDGETS_LEN + 1) * events_len, total.pauses, total.refused, total.taken, total.operations, total.failures,
+           total.waits);
     free(begun);
     for (size_t i = 0; i < events_len; i++)
         free(events[i].bytes);

@@ -62,10 +62,23 @@ void make(struct kalyubos *board, const struct kalyubos_slot *slots, size_t coun
     need(create(board, slots, count, image, image_len, cache, budget) == KALYUBOS_DONE, "create", count);
 }
 
-void end(struct kalyubos *board)
+void make_hosted(struct kalyubos *board, const struct kalyubos_slot *slots, size_t count)
 {
     is_open = true;
-    need(kalyubos_destroy(board) == KALYUBOS_DONE, "destroy", 0);
+    need(kalyubos_create_hosted(board, slots, count) == KALYUBOS_DONE, "create_hosted", count);
+    is_open = false;
+}
+
+void end(struct kalyubos *board)
+{
+    end_all(board, 1);
+}
+
+void end_all(struct kalyubos *boards, size_t count)
+{
+    is_open = true;
+    for (size_t i = 0; i < count; i++)
+        need(kalyubos_destroy(&boards[i]) == KALYUBOS_DONE, "destroy", i);
     is_open = false;
     need(live == 0, "blocks are left", live);
 }

@@ -26,7 +26,11 @@ size_t place_of(uint32_t answer, const struct kalyubos_slot *slots, size_t count
 void make(struct kalyubos *board, const struct kalyubos_slot *slots, size_t count, const uint8_t *image,
           size_t image_len, uint32_t cache, struct budget budget);
 
-/* Ends the only board; a block that is left ends the program. */
+/* Makes one whose disks the host serves, or ends the program. */
+void make_hosted(struct kalyubos *board, const struct kalyubos_slot *slots, size_t count);
+
+/* Ends the only board, or all that there are; a block that is left ends the program. */
 void end(struct kalyubos *board);
+void end_all(struct kalyubos *boards, size_t count);
 
 #endif

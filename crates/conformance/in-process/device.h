@@ -30,6 +30,8 @@ struct setup {
     uint8_t *image;
     size_t image_len;
     uint32_t cache;
+    const uint64_t *fails; /* the numbers of the image's calls that fail, for a device with calls of an image */
+    size_t fails_len;
 };
 
 enum { BLOCK_WINDOW = 0, CONSOLE_WINDOW = 1 };

@@ -32,7 +32,7 @@ static bool begin(const struct device *one, const struct trace *trace, uint8_t *
 {
     for (size_t i = 0; i < IMAGE; i++)
         image[i] = (uint8_t)(0x10 + i / 512);
-    struct setup setup = {trace->guests, trace->guests_len, image, IMAGE, trace->cache};
+    struct setup setup = {trace->guests, trace->guests_len, image, IMAGE, trace->cache, NULL, 0};
     return !one->make(&setup);
 }
 

@@ -1,6 +1,7 @@
 /*
  * The C library of this repository as the suite's device: crates/board_ffi/kalyubos.h. With OURS defined it is called
- * `kalyubos` and not `device`, so that another device can stand beside it.
+ * `kalyubos` and not `device`, so that another device can stand beside it. With HOSTED defined, and linked to disks.c, it is a
+ * board whose disks the host serves.
  */
 #include "kalyubos.h"
 
@@ -9,6 +10,9 @@
 #include <string.h>
 
 #include "device.h"
+#ifdef HOSTED
+#include "disks.h"
+#endif
 
 /* How many bytes of output a guest may have waiting: a chain that puts out more never goes out. */
 enum { MOST_WAITING = 1 << 24 };
@@ -45,6 +49,36 @@ static const char *name_of(uint32_t answer)
     }
 }
 
+/* The board, and how what a call left to do is done. */
+#ifdef HOSTED
+static uint32_t create(const struct kalyubos_slot *slots, const struct setup *setup)
+{
+    uint32_t answer = kalyubos_create_hosted(&board, slots, setup->guests_len);
+    open_disks(&board, setup);
+    return answer;
+}
+
+static void take_image(void)
+{
+}
+#else
+static uint32_t create(const struct kalyubos_slot *slots, const struct setup *setup)
+{
+    return kalyubos_create(&board, slots, setup->guests_len, image, image_len, setup->cache, 0, 0);
+}
+
+static void take_image(void)
+{
+    must(kalyubos_read_image(&board, 0, image, image_len));
+}
+
+static uint32_t serve_disk(unsigned guest, uint32_t answer, const struct kalyubos_pending *pending)
+{
+    (void)guest, (void)pending;
+    return answer;
+}
+#endif
+
 static const char *make(const struct setup *setup)
 {
     struct kalyubos_slot slots[MOST_SLOTS] = {0};
@@ -60,12 +94,12 @@ static const char *make(const struct setup *setup)
     }
     image = setup->image;
     image_len = setup->image_len;
-    return name_of(kalyubos_create(&board, slots, setup->guests_len, image, image_len, setup->cache, 0, 0));
+    return name_of(create(slots, setup));
 }
 
 static void end(void)
 {
-    must(kalyubos_read_image(&board, 0, image, image_len));
+    take_image();
     must(kalyubos_destroy(&board));
 }
 
@@ -97,6 +131,7 @@ static void write(unsigned guest, unsigned window, unsigned offset, unsigned wid
     do {
         answer = kalyubos_write(&board, (uint8_t)guest, (uint8_t)window, (uint16_t)offset, (uint8_t)width, value,
                                 &pending);
+        answer = serve_disk(guest, answer, &pending);
     } while (take_output(guest) && answer == KALYUBOS_NO_ROOM);
     must(answer);
 }
