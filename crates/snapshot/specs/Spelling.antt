@@ -94,6 +94,10 @@ opening version = to_le_bytes w64 magic ++ to_le_bytes w32 version
 abbrev pub input : List ℕ → List ℕ
 input pending = to_le_bytes w32 (length pending) ++ pending
 
+-- all that stands before the pending input, of which there is so much
+unfoldable pub head : SavedSlot → ℕ → List ℕ
+head s count = opening 1 ++ (slot s ++ to_le_bytes w32 count)
+
 unfoldable pub snapshot : SavedSlot → List ℕ → List ℕ
 snapshot s pending = opening 1 ++ (slot s ++ input pending)
 

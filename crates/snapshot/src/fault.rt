@@ -36,6 +36,11 @@ pub enum Why {
     Trailing,
 }
 
+/// The snapshot is longer than the buffer that is to hold it. Nothing is written.
+#[derive(Clone, Copy, Debug, Error, PartialEq, Eq)]
+#[error("the buffer is shorter than the snapshot")]
+pub struct ShortBuffer;
+
 // What is wrong with the field that stands at the front of the bytes that are left.
 #[derive(Clone, Copy, Debug, PartialEq, Eq)]
 pub(crate) struct Stop {

@@ -3,13 +3,14 @@
 
 mod fault;
 mod fields;
+mod head;
 mod parts;
 mod reading;
 mod saved;
 mod windows;
 mod writing;
 
-pub use fault::{SnapshotFault, Why};
+pub use fault::{ShortBuffer, SnapshotFault, Why};
 pub use reading::read;
 pub use saved::SavedSlot;
-pub use writing::write;
+pub use writing::{write, write_into, written_len};

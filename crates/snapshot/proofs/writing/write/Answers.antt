@@ -1,17 +1,21 @@
-use Rattle.std.proofs.Common.{◌≡◌, ◌∙◌, ◌+◌, ◌++◌, ◌≤◌, ℕ, List, Result, Ok, Err, ap, arith, length, length-append}
-use Rattle.std.specs.Prelude.{IfOk, OnOk}
-use Rattle.snapshot.specs.declared.saved.SavedSlot.{SavedSlot}
+use Rattle.std.proofs.Common.{◌≡◌, ◌∙◌, ◌++◌, ap, arith, length-append, refl, sym}
 use Rattle.snapshot.specs.Reading.{snapshot_at}
-use Rattle.snapshot.specs.Spelling.{SlotFits, snapshot}
+use Rattle.snapshot.specs.Spelling.{snapshot}
+use Rattle.snapshot.proofs.Joining.{all_appended, snapshot_of_head}
 use Rattle.snapshot.proofs.OfSlot.{snapshot_again}
 use Rattle.snapshot.proofs.writing.write.Goals as goal
 
-again : {V E : Type 0} (items : V → List ℕ) (result : Result V E) (saved : SavedSlot) (front back : List ℕ) → length front + length back ≤ 4096
-    → IfOk result (λ v. items v ≡ snapshot saved (front ++ back)) → OnOk result (SlotFits saved)
-    → IfOk result (λ v. snapshot_at (items v) ≡ Ok (saved, front ++ back))
-again items (Ok v) saved front back few text fits =
-    ap snapshot_at text ∙ snapshot_again saved (front ++ back) fits (omega (arith, length-append front back))
-again items (Err why) saved front back few text fits = tt
+-- what was written
+text : (g : _) (c : goal.In_ok-extend_from_slice-3 g) → c.extend_from_slice-3.new.self.items ≡ snapshot c.args.saved (c.args.front.now ++ c.args.back.now)
+text g c =
+    all_appended c.head_of-head.result.items c.args.front.now c.args.back.now c.in_ok-out.out.items c.extend_from_slice.new.self.items c.extend_from_slice-2.new.self.items c.extend_from_slice-3.new.self.items
+    c.in_ok-out.ensures.items (rw (← c.as_slice.ensures.value) c.in_ok-extend_from_slice.ensures.items) c.in_ok-extend_from_slice-2.ensures.items c.in_ok-extend_from_slice-3.ensures.items
+    ∙ sym (snapshot_of_head c.args.saved c.args.front.now c.args.back.now c.head_of-head.result.items _ c.head_of-head.ensures.text refl)
+
+pub returns-clause-text : goal.returns-clause-text
+returns-clause-text g c = text g c
 
 pub returns-clause-again : goal.returns-clause-again
-returns-clause-again g c = again (λ v. v.items) c.spelled.result c.args.saved c.args.front.now c.args.back.now c.requires c.spelled.ensures.text c.spelled.ensures.fits
+returns-clause-again g c =
+    ap snapshot_at (text g c)
+    ∙ snapshot_again c.args.saved (c.args.front.now ++ c.args.back.now) c.head_of-head.ensures.fits (omega (arith, length-append c.args.front.now c.args.back.now, c.requires))
