@@ -92,8 +92,7 @@ class Boot:
         write(disk, bytes(size << 20))
         words = ["-q", "-t", "ext4", "-b", str(self.block), "-J", f"size={journal}", "-O", "^metadata_csum",
                  "-U", NAME.format(guest), "-E", f"hash_seed={NAME.format(0)}", "-d", root, disk]
-        # as old as the guest's clock, or e2fsck takes its times of deletion for numbers of inodes
-        subprocess.run(["mke2fs", *words], env=dict(os.environ, E2FSPROGS_FAKE_TIME="1"), check=True)
+        subprocess.run(["mke2fs", *words], env=dict(os.environ, E2FSPROGS_FAKE_TIME="1767225600"), check=True)
         return read(disk) + bytes(RAW)
 
     def log(self, guests, lies=""):
