@@ -26,6 +26,9 @@ SIZES = {1024: (8, 1), 4096: (16, 4)}
 RAW = 64 * 4096
 NAME = "6b616c79-7562-6f73-0000-00000000000{}"
 
+# Where files are looked at: in memory, where there is a place for it, since e2fsck syncs what it changes.
+LOOKED_AT = "/dev/shm" if os.access("/dev/shm", os.W_OK) else None
+
 # In seconds. A boot takes two, but a machine may be busy.
 TIME_LIMIT = 600
 
@@ -55,9 +58,9 @@ def build():
 def booted(seed, shim, files):
     """One boot: what was counted, and the finding, where there is one."""
     dice, counts = random.Random(f"boot {seed}"), collections.Counter()
-    with tempfile.TemporaryDirectory() as room:
+    with tempfile.TemporaryDirectory() as room, tempfile.TemporaryDirectory(dir=LOOKED_AT) as looked_at:
         try:
-            boot = Boot(seed, shim, room)
+            boot = Boot(seed, shim, room, looked_at)
             log = boot.log([0, 1])
             alone = [boot.log([guest]) for guest in range(GUESTS)]
             for guest in range(GUESTS):
@@ -74,8 +77,8 @@ def booted(seed, shim, files):
 class Boot:
     """The disks of one seed, in a folder."""
 
-    def __init__(self, seed, shim, room):
-        self.shim, self.room = shim, room
+    def __init__(self, seed, shim, room, looked_at):
+        self.shim, self.room, self.looked_at = shim, room, looked_at
         self.block = 4096 if seed % 4 == 3 else 1024
         self.disks = [self.new_disk(guest, GUESTS * seed + guest + 1) for guest in range(GUESTS)]
 
@@ -92,8 +95,7 @@ class Boot:
         write(disk, bytes(size << 20))
         words = ["-q", "-t", "ext4", "-b", str(self.block), "-J", f"size={journal}", "-O", "^metadata_csum",
                  "-U", NAME.format(guest), "-E", f"hash_seed={NAME.format(0)}", "-d", root, disk]
-        # as old as the guest's clock, or e2fsck takes its times of deletion for numbers of inodes
-        subprocess.run(["mke2fs", *words], env=dict(os.environ, E2FSPROGS_FAKE_TIME="1"), check=True)
+        subprocess.run(["mke2fs", *words], env=dict(os.environ, E2FSPROGS_FAKE_TIME="1767225600"), check=True)
         return read(disk) + bytes(RAW)
 
     def log(self, guests, lies=""):
@@ -165,7 +167,7 @@ def told_by(entries, guest):
 
 def check_files(boot, guest, disk, told):
     """That e2fsck has only the journal to replay, and that each file that was told is there."""
-    name, wanted = boot.name("left"), boot.name("wanted")
+    name, wanted, folder = (os.path.join(boot.looked_at, word) for word in ("disk", "wanted", "dumped"))
     write(name, disk)
     run = subprocess.run(["e2fsck", "-fy", name], capture_output=True, text=True, check=False)
     odd = [line for line in run.stdout.split("\n") if not FINE.fullmatch(line)]
@@ -174,7 +176,6 @@ def check_files(boot, guest, disk, told):
     run = subprocess.run(["e2fsck", "-fn", name], capture_output=True, text=True, check=False)
     if run.returncode:
         raise Finding(f"guest {guest}: once the journal is replayed e2fsck ends with {run.returncode}: {run.stdout[-300:]!r}")
-    folder = boot.name("dumped")
     shutil.rmtree(folder, ignore_errors=True)
     os.makedirs(folder)
     write(wanted, "".join(f"dump /files/{file} {folder}/{file}\n" for file in told).encode())

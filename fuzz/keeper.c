@@ -6,6 +6,7 @@
 #include <stdbool.h>
 
 enum {
+    TODAY = 1767225600, /* seconds: without a clock e2fsck takes times of deletion for numbers of inodes */
     ROUNDS = 24,
     LONGEST = 20000,
     PAGE = 4096,
@@ -125,10 +126,12 @@ static void do_other(void)
 int main(void)
 {
     char name[16] = "";
+    struct timespec now = { TODAY, 0 };
     int file = open("/name", O_RDONLY, 0);
     read(file, name, sizeof name - 1);
     close(file);
     state = atoi(name);
+    my_syscall2(__NR_clock_settime, CLOCK_REALTIME, &now);
     printf("guest %d\n", (int)state);
     for (unsigned int round = 0; round < ROUNDS; round++) {
         for (unsigned int i = dice(4); i > 0; i--)
