@@ -128,12 +128,13 @@ linux-test:
 linux-picture:
 	@examples/linux/picture
 
-# Calls the library ten million times at random from C, under a heap that refuses, and beside vreplay; and from four
-# threads.
+# Calls the library ten million times at random from C, under a heap that refuses, and beside vreplay; with disks that the host
+# completes at random; and from several threads.
 stress:
 	@examples/embed/stress-run
 
-# Runs the worked scenarios by each door that is built: the program, the program in place, the C library.
+# Runs the worked scenarios by each door that is built: the program, the program in place, the C library, and that with disks that
+# a host serves.
 doors:
 	@crates/conformance/in-process/doors
 

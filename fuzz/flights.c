@@ -150,17 +150,17 @@ void serve_by_chance(struct seat *seat)
 {
     struct disk *disk = seat->disk;
     ask_again(seat, chance(seat, 4) == 0 ? chance(seat, KALYUBOS_RUNS + 1) : KALYUBOS_RUNS);
-    switch (chance(seat, 8)) {
-    case 0: case 1:
+    switch (chance(seat, 16)) {
+    case 0: case 1: case 2: case 3: case 4: case 5: case 6:
         complete(seat);
         break;
-    case 2:
+    case 7: case 8:
         if (disk->is_asked && disk->asked.kind == KALYUBOS_IN && disk->asked.runs != 0) {
             uint32_t run = (uint32_t)chance(seat, disk->asked.runs);
             transfer(seat, run, run + 1);
         }
         break;
-    case 3: case 4:
+    case 9:
         if (disk->is_asked && disk->is_hostile)
             scribble(seat);
         break;

@@ -6,7 +6,8 @@
  * For each seed eight guests use their disks, first on one board, in an order by chance, then each on a board and a
  * thread of its own, all at once and without a lock. A driver has up to eight requests on offer. Its host does an
  * operation when it likes, and says of some that they failed. The driver compares what is asked with its request, and
- * each used entry, status and read with a disk that it keeps in mind. Now and then it resets its device in the middle.
+ * each used entry, status and read with a disk that it keeps in mind. Now and then it resets its device in the middle, or
+ * writes over the request that is in flight: its head, descriptors, header and segment.
  */
 #include <inttypes.h>
 #include <pthread.h>
@@ -88,16 +89,21 @@ static void compare_with_request(struct guest *guest)
     need(it->runs == 0 || (guest->runs[0].at == at && guest->runs[0].len == len), "another run", at);
 }
 
+static void ask(struct guest *guest)
+{
+    need(kalyubos_operation(guest->board, guest->slot, &guest->operation, guest->runs, KALYUBOS_RUNS) == KALYUBOS_DONE,
+         "nothing is in flight", guest->slot);
+    compare_with_request(guest);
+}
+
 static void take_answer(struct guest *guest, uint32_t answer)
 {
     need(answer == KALYUBOS_IO || answer == KALYUBOS_DONE, "an answer", answer);
     if (answer == KALYUBOS_DONE)
         return;
-    need(kalyubos_operation(guest->board, guest->slot, &guest->operation, guest->runs, KALYUBOS_RUNS) == KALYUBOS_DONE,
-         "nothing is in flight", guest->slot);
     guest->is_asked = true;
     guest->is_moved = false;
-    compare_with_request(guest);
+    ask(guest);
 }
 
 static void move(struct guest *guest)
@@ -115,11 +121,12 @@ static void move(struct guest *guest)
         memcpy(bytes, at, run->len);
 }
 
-/* Ends what is in flight. One that failed may have been done, or not at all. */
+/* Ends what is in flight, which is told as before. What failed may have been done, or not at all. */
 static void complete(struct guest *guest)
 {
     struct kalyubos_pending pending;
     bool failed = chance(guest, 6) == 0;
+    ask(guest);
     if (!guest->is_moved && (!failed || chance(guest, 2)))
         move(guest);
     guest->verdicts[guest->asked++ % PLACES] = failed;
@@ -255,6 +262,25 @@ static void set(struct guest *guest, uint16_t offset, uint32_t value)
     take_answer(guest, answer);
 }
 
+/* Leaves these bytes alone, or writes over them. */
+static void scramble(struct guest *guest, uint32_t at, uint32_t len)
+{
+    bool is_left = chance(guest, 2);
+    for (uint32_t i = at; i < at + len && !is_left; i++)
+        guest->memory[i] = (uint8_t)chance(guest, chance(guest, 2) ? 4 : 256);
+}
+
+/* Writes over parts of the request in flight, but for its data and status. It was judged when it began, and is done as it was then. */
+static void rewrite(struct guest *guest)
+{
+    uint32_t number = guest->asked, place = number % PLACES;
+    scramble(guest, TABLE + 16 * 4 * place, 3 * 16);
+    scramble(guest, AVAIL + 4 + 2 * (number % RING), 2);
+    scramble(guest, HEADERS + 32 * place, 16);
+    if (guest->operation.kind == KALYUBOS_ZEROES)
+        scramble(guest, (uint32_t)(data_of(guest, guest->asked) - guest->memory), 16);
+}
+
 static void turn(struct guest *guest)
 {
     switch (chance(guest, 8)) {
@@ -268,7 +294,9 @@ static void turn(struct guest *guest)
             complete(guest);
         break;
     case 6:
-        if (guest->is_asked && !guest->is_moved)
+        if (guest->is_asked && chance(guest, 2))
+            rewrite(guest);
+        else if (guest->is_asked && !guest->is_moved)
             move(guest);
         take_back(guest);
         break;
