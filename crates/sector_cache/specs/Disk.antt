@@ -50,3 +50,13 @@ pub record IsTorn (sector : ℕ) (old new : Disk) : Type 0 where
   pub left : List ℕ
   pub whole : length left ≡ 512
   pub torn : new ≡ failed (written sector left old)
+
+-- ---- a stop, as a loss of power
+
+-- With a clear mark, these bytes, which a stop left, are exactly those that were told.
+abbrev pub LeavesTold : Disk → List ℕ → Type 0
+LeavesTold disk left = disk.mark ≡ false → IfSome disk.told (λ bytes. left ≡ bytes)
+
+-- a clear mark stays clear, while no call fails
+abbrev pub KeepsClear : Disk → Disk → Type 0
+KeepsClear old new = new.failures ≡ old.failures → old.mark ≡ false → new.mark ≡ false

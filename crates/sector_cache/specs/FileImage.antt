@@ -57,3 +57,7 @@ IsFirst call sector None new = IsSomeAnd new (λ first. (first.call ≡ call) ×
 pub record IsNoted (call : FileCall) (sector : Option ℕ) (old new : Trouble) : Type 0 where
   pub rest : new ≡ record old { first = new.first }
   pub first : IsFirst call sector old.first new.first
+
+-- With a clear mark the file is synced: nothing that was written waits.
+abbrev pub IsSettled : {F : Type 0} → (F → Type 0) → FileImage F → Type 0
+IsSettled IsSynced image = image.mark ≡ false → IsSynced image.file

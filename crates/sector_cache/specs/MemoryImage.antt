@@ -1,4 +1,5 @@
 -- What an image in memory is seen as.
+use Rattle.std.specs.Prelude.{◌≡◌, ℕ, List}
 use Rattle.sector_cache.specs.Disk.{Disk, new_disk}
 use Rattle.sector_cache.specs.declared.memory.MemoryImage.{MemoryImage}
 
@@ -6,3 +7,7 @@ use Rattle.sector_cache.specs.declared.memory.MemoryImage.{MemoryImage}
 abbrev pub disk_of : {A : Type 0} → MemoryImage A → Disk
 disk_of image =
     record (new_disk image.bytes.items) { mark = image.mark }
+
+-- a stop leaves its bytes as they stand
+abbrev pub may_leave_of : {A : Type 0} → MemoryImage A → List ℕ → Type 0
+may_leave_of image left = left ≡ image.bytes.items

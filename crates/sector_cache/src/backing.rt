@@ -15,7 +15,7 @@ use std::os::unix::fs::{FileExt, FileTypeExt};
 /// A file that is read and written at places that the caller names.
 ///
 /// Nobody knows what a file of the system holds, so nothing is said of its bytes. Where a file tells what it holds, as one
-/// of a test does, each call says what became of that.
+/// of a test does, each call says what became of that. Its medium keeps its word: what a sync said is there after a stop.
 pub trait BackingFile: Drop {
     // the bytes that the file holds, where they are known
     ghost held: { Self → Option (List ℕ) };
@@ -23,21 +23,30 @@ pub trait BackingFile: Drop {
     // what was written has been synced, as far as that is known
     ghost IsSynced: { Self → Type 0 };
 
+    // what a stop at this moment, as a loss of power, may leave of the bytes
+    ghost may_leave: { Self → List ℕ → Type 0 };
+
+    // the medium keeps what a sync said
+    ghost keeps: { (file : Self) (left : List ℕ) → IsSynced file → may_leave file left → IfSome (held file) (λ bytes. left ≡ bytes) };
+
     /// Takes the file for one holder, as far as the system knows of locks, until it is closed. Refuses
     /// what can't hold an image.
     fn hold(&mut self) -> Result<(), FileImageFault>
         ensures refused { IfErr result (λ fault. fault ≢ FileImageFault.BadSize) }
+        ensures synced { IsSynced self.old → IsSynced self.new }
         ensures stays { held self.new ≡ held self.old };
 
     /// How many bytes the file has.
     fn length(&mut self) -> io::Result<u64>
         ensures length { IfOk result (λ n. IfSome (held self.old) (λ bytes. n ≡ length bytes)) }
+        ensures synced { IsSynced self.old → IsSynced self.new }
         ensures stays { held self.new ≡ held self.old };
 
     /// Reads what stands from byte `at` on into a front of `into`, and answers how much.
     fn read_from(&mut self, at: u64, into: &mut [u8]) -> io::Result<usize>
         ensures bound { ReadsAtMost result into.new }
         ensures read { Gets at into.new result (held self.old) }
+        ensures synced { IsSynced self.old → IsSynced self.new }
         ensures stays { held self.new ≡ held self.old };
 
     /// Writes a front of `from` from byte `at` on, and answers how much.
@@ -45,9 +54,10 @@ pub trait BackingFile: Drop {
         ensures bound { WritesAtMost result from.now }
         ensures put { Puts at from.now result (held self.old) (held self.new) };
 
-    /// Hands what was written to the medium.
+    /// Hands what was written to the medium. Where that fails, what was synced before still is.
     fn sync(&mut self) -> io::Result<()>
         ensures synced { OnOk result (IsSynced self.new) }
+        ensures still { IsSynced self.old → IsSynced self.new }
         ensures stays { held self.new ≡ held self.old };
 }
 
@@ -55,6 +65,10 @@ impl BackingFile for File {
     ghost held = { λ _. None };
 
     ghost IsSynced = { λ _. ⊤ };
+
+    ghost may_leave = { λ _ _. ⊤ };
+
+    ghost keeps = { λ file left synced may. tt };
 
     // A file system without locks, and a lock that can't be had for another cause, are no refusal.
     fn hold(&mut self) -> Result<(), FileImageFault> {
@@ -96,6 +110,7 @@ pub(crate) fn read_sector<F: BackingFile>(
 ) -> io::Result<()>
     requires { 512 * sector < 2 ^ 64 }
     ensures read { OnOk result (HasSector (F.held file.old) sector into.new) }
+    ensures synced { F.IsSynced file.old → F.IsSynced file.new }
     ensures stays { F.held file.new ≡ F.held file.old }
 {
     let at = sector * SECTOR_LEN as u64;

@@ -31,7 +31,7 @@ pub struct FileImage<F = File> {
 }
 
 impl<F: BackingFile> FileImage<F> {
-    ghost use Rattle.sector_cache.specs.FileImage.{IsFirst, disk_of, file_of, new_untold, trouble_of, untroubled};
+    ghost use Rattle.sector_cache.specs.FileImage.{IsFirst, IsSettled, disk_of, file_of, new_untold, trouble_of, untroubled};
 
     /// The image that a file holds, which is open for reading and writing. It is held for this image until it
     /// is closed. Where it is refused it is closed at once.
@@ -43,6 +43,7 @@ impl<F: BackingFile> FileImage<F> {
         ensures bad_size { IsErrOf result FileImageFault.BadSize →
             IfSome (F.held file) (λ bytes. length bytes % 512 ≢ 0) }
         ensures trouble { IfOk result (λ image. trouble_of image ≡ untroubled) }
+        ensures settled { IfOk result (λ image. F.IsSynced file → IsSettled F.IsSynced image) }
     {
         file.hold()?;
         let Ok(bytes) = file.length() else {
@@ -124,6 +125,7 @@ impl<F: BackingFile> FileImage<F> {
         ensures kept { self.new ≡ record self.old { file = self.new.file; is_lost = self.new.is_lost } }
         ensures loses { self.new.is_lost ≡ is_err result }
         ensures synced { OnOk result (F.IsSynced self.new.file) }
+        ensures still { F.IsSynced self.old.file → F.IsSynced self.new.file }
         ensures stays { F.held self.new.file ≡ F.held self.old.file }
     {
         if self.is_lost {
@@ -137,9 +139,11 @@ impl<F: BackingFile> FileImage<F> {
 
 impl<F: BackingFile> Image for FileImage<F> {
     ghost use Rattle.std.proofs.Common.{arith};
-    ghost use Rattle.sector_cache.specs.FileImage.{IsNoted, IsSpent, IsTried, disk_of, file_of, lost, trouble_of, with_last};
+    ghost use Rattle.sector_cache.specs.FileImage.{IsNoted, IsSettled, IsSpent, IsTried, disk_of, file_of, lost, trouble_of, with_last};
 
     ghost disk = { disk_of };
+
+    ghost may_leave = { λ image. F.may_leave (file_of image) };
 
     fn sectors(&self) -> u64 {
         self.sectors
@@ -159,6 +163,7 @@ impl<F: BackingFile> Image for FileImage<F> {
         ensures held { OnOk result (IsTried self.old →
             HasSector (F.held (file_of self.old)) sector into.new) }
         ensures stays { F.held (file_of self.new) ≡ F.held (file_of self.old) }
+        ensures settled { IsSettled F.IsSynced self.old → IsSettled F.IsSynced self.new }
         ensures quiet { OnOk result (trouble_of self.new ≡ trouble_of self.old) }
         ensures noted { OnErr result (IsNoted FileCall.Read (Some sector)
             (trouble_of self.old) (trouble_of self.new)) }
@@ -180,6 +185,7 @@ impl<F: BackingFile> Image for FileImage<F> {
             (F.held (file_of self.old)) (F.held (file_of self.new)) }
         ensures short { IsTried self.old → LeavesShort sector result
             (F.held (file_of self.old)) (F.held (file_of self.new)) }
+        ensures settled { IsSettled F.IsSynced self.new }
         ensures quiet { OnOk result (trouble_of self.new ≡ with_last sector (trouble_of self.old)) }
         ensures noted { OnErr result (IsNoted FileCall.Write (Some sector)
             (with_last sector (trouble_of self.old)) (trouble_of self.new)) }
@@ -200,6 +206,7 @@ impl<F: BackingFile> Image for FileImage<F> {
         ensures untouched { IsSpent self.old → file_of self.new ≡ file_of self.old }
         ensures synced { OnOk result (IsTried self.old → F.IsSynced (file_of self.new)) }
         ensures stays { F.held (file_of self.new) ≡ F.held (file_of self.old) }
+        ensures settled { IsTried self.old → IsSettled F.IsSynced self.old → IsSettled F.IsSynced self.new }
 
         // once a sync has failed each flush fails, and leaves the file alone
         ensures lost { IsTrue (trouble_of self.old).is_lost → IsTried self.old → IsErr result }
@@ -219,4 +226,6 @@ impl<F: BackingFile> Image for FileImage<F> {
     ghost whole = { λ image. tt };
 
     ghost fits = { λ image. Prim.omega (arith, image.fits) };
+
+    ghost durable = { λ image left may clear. tt };
 }

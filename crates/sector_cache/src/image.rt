@@ -1,7 +1,7 @@
 //! What a disk image is: the calls that the cache makes, and what each of them leaves.
 
-ghost use Rattle.std.specs.Prelude.{◌≡◌, ◌^◌, ◌<◌, Bool, false, is_some, IfSome, OnOk, OnErr};
-ghost use Rattle.sector_cache.specs.Disk.{Disk, IsWhole, IsAsTold, IsTorn, Tells, failed, written, flushed};
+ghost use Rattle.std.specs.Prelude.{◌≡◌, ◌^◌, ◌<◌, ℕ, Bool, List, false, is_some, IfSome, OnOk, OnErr};
+ghost use Rattle.sector_cache.specs.Disk.{Disk, IsWhole, IsAsTold, IsTorn, LeavesTold, Tells, failed, written, flushed};
 
 use thiserror::Error;
 
@@ -20,6 +20,9 @@ pub trait Image {
 
     // whether it lends its sectors where they lie
     ghost lends: { Self → Bool } = { λ _. false };
+
+    // what a stop at this moment, as a loss of power, may leave of its bytes
+    ghost may_leave: { Self → List ℕ → Type 0 };
 
     fn sectors(&self) -> u64
         ensures { result ≡ (disk self.now).sector_count };
@@ -53,4 +56,7 @@ pub trait Image {
 
     // a `u64` numbers them
     ghost fits: { (image : Self) → (disk image).sector_count < 2 ^ 64 };
+
+    // with a clear mark, a stop leaves exactly what is told
+    ghost durable: { (image : Self) (left : List ℕ) → may_leave image left → LeavesTold (disk image) left };
 }

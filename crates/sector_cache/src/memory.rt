@@ -49,9 +49,11 @@ impl<A: Allocator> MemoryImage<A> {
 
 impl<A: Allocator> Image for MemoryImage<A> {
     ghost use Rattle.std.proofs.Common.{arith};
-    ghost use Rattle.sector_cache.specs.MemoryImage.{disk_of};
+    ghost use Rattle.sector_cache.specs.MemoryImage.{disk_of, may_leave_of};
 
     ghost disk = { disk_of };
+
+    ghost may_leave = { may_leave_of };
 
     ghost lends = { λ _. true };
 
@@ -97,4 +99,6 @@ impl<A: Allocator> Image for MemoryImage<A> {
     ghost whole = { λ image. Prim.omega (arith, image.whole) };
 
     ghost fits = { λ image. Prim.omega (arith, image.bytes.ok) };
+
+    ghost durable = { λ image left is clear. is };
 }

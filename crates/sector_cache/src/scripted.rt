@@ -99,9 +99,11 @@ impl<A: Allocator> ScriptedImage<A> {
 
 impl<A: Allocator> Image for ScriptedImage<A> {
     ghost use Rattle.std.proofs.Common.{arith};
-    ghost use Rattle.sector_cache.specs.ScriptedImage.{disk_of, script_of};
+    ghost use Rattle.sector_cache.specs.ScriptedImage.{disk_of, may_leave_of, script_of};
 
     ghost disk = { disk_of };
+
+    ghost may_leave = { may_leave_of };
 
     fn sectors(&self) -> u64 {
         self.memory.sectors()
@@ -159,4 +161,6 @@ impl<A: Allocator> Image for ScriptedImage<A> {
     ghost whole = { λ image. Prim.omega (arith, image.memory.whole) };
 
     ghost fits = { λ image. Prim.omega (arith, image.memory.bytes.ok) };
+
+    ghost durable = { λ image left is clear. is };
 }

@@ -1,6 +1,6 @@
 //! An image that tells nothing of its bytes, as one over a file: its calls meet all that is owed.
 
-ghost use Rattle.std.specs.Prelude.{◌≡◌, ◌+◌, None};
+ghost use Rattle.std.specs.Prelude.{◌≡◌, ◌+◌, None, ⊤};
 ghost use Rattle.std.specs.Bool.{OnTrue, OnFalse};
 ghost use Rattle.std.proofs.Common.{arith};
 
@@ -43,6 +43,8 @@ impl Image for BlindImage {
     ghost disk = { λ image.
         record { told = None; sector_count = 4; failures = image.failures; mark = image.mark } };
 
+    ghost may_leave = { λ _ _. ⊤ };
+
     fn sectors(&self) -> u64 {
         4
     }
@@ -77,4 +79,6 @@ impl Image for BlindImage {
     ghost whole = { λ image. tt };
 
     ghost fits = { λ image. Prim.omega arith };
+
+    ghost durable = { λ image left may clear. tt };
 }

@@ -87,6 +87,11 @@ impl BackingFile for MemoryFile {
 
     ghost IsSynced = { λ file. file.unsynced ≡ false };
 
+    // its bytes as they stand, where all are synced
+    ghost may_leave = { λ file left. file.unsynced ≡ false → left ≡ file.bytes.items };
+
+    ghost keeps = { λ file left synced may. may synced };
+
     fn hold(&mut self) -> Result<(), FileImageFault> {
         Ok(())
     }

@@ -3,7 +3,7 @@
 ghost use Rattle.std.specs.Prelude.{◌≡◌, ◌+◌, ◌*◌, ◌<◌, ◌++◌, take, drop};
 ghost use Rattle.std.specs.Bool.{OnTrue, OnFalse};
 ghost use Rattle.std.proofs.Common.{arith};
-ghost use Rattle.sector_cache.specs.MemoryImage.{disk_of};
+ghost use Rattle.sector_cache.specs.MemoryImage.{disk_of, may_leave_of};
 
 use sector_cache::{Image, ImageError, MemoryImage};
 use std::cell::Cell;
@@ -50,6 +50,8 @@ fn copy_half(into: &mut [u8; 512], from: &[u8; 512])
 impl Image for SwitchedImage {
     ghost disk = { λ image. record (disk_of image.memory) { failures = image.failures } };
 
+    ghost may_leave = { λ image. may_leave_of image.memory };
+
     fn sectors(&self) -> u64 {
         self.memory.sectors()
     }
@@ -86,4 +88,6 @@ impl Image for SwitchedImage {
     ghost whole = { λ image. Prim.omega (arith, image.memory.whole) };
 
     ghost fits = { λ image. Prim.omega (arith, image.memory.bytes.ok) };
+
+    ghost durable = { λ image left is clear. is };
 }

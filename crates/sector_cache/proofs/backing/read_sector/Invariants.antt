@@ -5,4 +5,5 @@ use Rattle.sector_cache.proofs.backing.read_sector.Given as goal
 abbrev pub invariant-loop-turn : goal.invariant-loop-turn
 invariant-loop-turn g l =
     (g.F.BackingFile.held l.file ≡ g.F.BackingFile.held l.initial.file)
-    × ((l.done ≤ 512) × ((length l.into ≡ 512) × HasFront (g.F.BackingFile.held l.initial.file) l.at l.done l.into))
+    × ((g.F.BackingFile.IsSynced l.initial.file → g.F.BackingFile.IsSynced l.file)
+    × ((l.done ≤ 512) × ((length l.into ≡ 512) × HasFront (g.F.BackingFile.held l.initial.file) l.at l.done l.into)))
