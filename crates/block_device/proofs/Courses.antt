@@ -1,5 +1,5 @@
 -- A service in its course: the chains so far, and what else stays along them.
-use Rattle.std.proofs.Common.{◌≡◌, ℕ, ◌+◌, ◌≤◌, Bool, true, false, if◌then◌else◌, nat_lt, Option, Some, None, List, refl, ap, ◌∙◌, arith}
+use Rattle.std.proofs.Common.{◌≡◌, ℕ, ◌+◌, ◌≤◌, Bool, true, false, if◌then◌else◌, nat_lt, Option, Some, None, List, length, refl, sym, ap, ◌∙◌, arith}
 use Rattle.std.proofs.Math.Bool.{or-true, or-false}
 use Rattle.std.specs.Prelude.{◌||◌}
 use Rattle.std.proofs.lemmas.Bool.Decides.{nat_tests}
@@ -8,35 +8,22 @@ use Rattle.chain.specs.declared.segment.Buffer.{Buffer}
 use Rattle.chain.specs.declared.fault.Fault.{Fault}
 use Rattle.chain.specs.declared.budget.Budget.{Budget}
 use Rattle.chain.specs.Budget.{IsSpent, less_chain}
+use Rattle.chain.specs.Bytes.{readable_of, writable_of}
 use Rattle.chain.specs.Service.{Entry, Does}
 use Rattle.guest_memory.proofs.Ranges.{same_trans}
 use Rattle.chain.proofs.Budgets.{IsInPiece, piece_begins, piece_goes_on, piece_pauses, piece_runs_into, piece_runs_out}
-use Rattle.sector_cache.specs.Disk.{Disk}
+use Rattle.sector_cache.specs.Disk.{Disk, KeepsClear}
 use Rattle.mmio_window.specs.declared.queue.Queue.{Queue}
 use Rattle.mmio_window.specs.Queue.{LiesIn, made_as, queue_kind}
 use Rattle.block_device.specs.declared.device.BlockDevice.{BlockDevice}
-use Rattle.block_device.specs.declared.extent.Extent.{Extent}
-use Rattle.block_device.specs.Device.{block_device}
-use Rattle.block_device.specs.Extent.{IsWithin, extent_disk, ToldOutside, KeepsOutside, CallsWithin, StaysInExtent}
+use Rattle.block_device.specs.Device.{GivesBy, block_device}
+use Rattle.block_device.specs.Extent.{extent_disk, CallsWithin, StaysInExtent}
 use Rattle.block_device.specs.declared.queue.Stop.TheVariants.{Pause, End}
+use Rattle.block_device.specs.Outcome.{Ends}
 use Rattle.block_device.specs.Serving.{Stops, site_of}
-use Rattle.block_device.proofs.Extents.{KeepsOutside-same}
-
-told_trans : (extent : Extent) (a b c : Option (List ℕ)) → ToldOutside extent a b → ToldOutside extent b c → ToldOutside extent a c
-told_trans extent None None None p q = tt
-told_trans extent None None (Some c) p q = absurd q
-told_trans extent None (Some b) c p q = absurd p
-told_trans extent (Some a) None c p q = absurd p
-told_trans extent (Some a) (Some b) None p q = absurd q
-told_trans extent (Some a) (Some b) (Some c) p q = record { before = q.before ∙ p.before; behind = q.behind ∙ p.behind; size = q.size ∙ p.size }
-
--- what stays in two steps stays in both
-pub outside_trans : (extent : Extent) (a b c : Disk) → KeepsOutside extent a b → KeepsOutside extent b c → KeepsOutside extent a c
-outside_trans extent a b c p q = record { sectors = q.sectors ∙ p.sectors; told = told_trans extent a.told b.told c.told p.told q.told }
-
--- the extent still lies in the disk
-pub lies_still : (extent : Extent) (a b : Disk) → KeepsOutside extent a b → IsWithin a.sector_count extent → IsWithin b.sector_count extent
-lies_still extent a b keeps lies = omega (arith, keeps.sectors, lies)
+use Rattle.block_device.proofs.Durable.{gives_clear}
+use Rattle.block_device.proofs.Extents.{KeepsOutside-same, outside_trans}
+use Rattle.block_device.proofs.Requests.{gives_rises}
 
 -- chains were served within the budget since the piece began, and this is left of it
 pub record IsInCourse (device : BlockDevice) (budget left : Budget) (start now : Memory) (first queue : Queue) (disk disk' : Disk) (failed : Bool) : Type 0 where
@@ -53,7 +40,7 @@ not_less n = grind (arith, nat_tests)
 pub course_start : (device : BlockDevice) (budget : Budget) (m : Memory) (queue : Queue) (disk : Disk) → LiesIn m queue → IsInCourse device budget budget m m queue queue disk disk false
 course_start device budget m queue disk lies = record {
   piece = piece_begins queue_kind (block_device device) budget (site_of device m queue disk);
-  stays = record { rises = omega arith; outside = KeepsOutside-same device.extent disk disk refl refl };
+  stays = record { rises = omega arith; clear = λ same clear. clear; outside = KeepsOutside-same device.extent disk disk refl refl };
   range = record { base = refl; size = refl };
   lies = lies;
   made = refl;
@@ -71,6 +58,14 @@ counts_on failed false a b c e h n = or-false failed ∙ e ∙ ap (nat_lt a) (le
 rises_on : (more : Bool) (a b c : ℕ) → a ≤ b → c ≡ b + (if more then 1 else 0) → a ≤ c
 rises_on true a b c h n = omega (arith, n)
 rises_on false a b c h n = omega (arith, n)
+
+-- and a clear mark stays clear while no call fails
+clear_on : (device : BlockDevice) (readable : List ℕ) (w : ℕ) (disk d d' : Disk) (written : List (Option ℕ)) → disk.failures ≤ d.failures → KeepsClear disk d
+    → GivesBy (Ends device.identity) device (extent_disk device.extent d) readable w (record { state = extent_disk device.extent d'; written = written }) → KeepsClear disk d'
+clear_on device readable w disk d d' written rises clears gives = λ e clear.
+    let more : d.failures ≤ d'.failures = gives_rises device (extent_disk device.extent d) readable w _ gives in
+    let before : d.failures ≡ disk.failures = omega (arith, rises, more, e) in
+    gives_clear device (extent_disk device.extent d) readable w _ gives (e ∙ sym before) (clears before clear)
 
 -- one more chain is taken, answered and given back
 pub course_more : (device : BlockDevice) (budget left left' : Budget) (start m answered m' : Memory) (first queue taken queue' : Queue) (disk d d' : Disk) (failed more both : Bool) (buffers : List Buffer) (entry : Entry) (len : ℕ) (any : Bool)
@@ -90,6 +85,7 @@ course_more device budget left left' start m answered m' first queue taken queue
           (used ∙ ap (λ q. queue_kind.used answered q entry len any) same) (past ∙ ap (λ q. queue_kind.past q entry) same);
       stays = record {
         rises = rises_on more disk.failures d.failures d'.failures h.stays.rises calls.counted;
+        clear = clear_on device (readable_of m buffers) (length (writable_of buffers)) disk d d' does.written h.stays.rises h.stays.clear does.gives;
         outside = outside_trans device.extent disk d d' h.stays.outside calls.outside;
       };
       range = same_trans start m m' h.range (same_trans m answered m' range range');

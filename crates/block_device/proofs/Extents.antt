@@ -139,3 +139,19 @@ AreAsTold-extent extent disk sector count found within h =
 -- the sectors' bytes in front, and one sector more
 pub take-sector : (payload : List ℕ) (done : ℕ) → take (512 * done) payload ++ take 512 (drop (512 * done) payload) ≡ take (512 * (done + 1)) payload
 take-sector payload done = sym (take-add (512 * done) 512 payload) ∙ ap (λ n. take n payload) (omega arith)
+
+told_trans : (extent : Extent) (a b c : Option (List ℕ)) → ToldOutside extent a b → ToldOutside extent b c → ToldOutside extent a c
+told_trans extent None None None p q = tt
+told_trans extent None None (Some c) p q = absurd q
+told_trans extent None (Some b) c p q = absurd p
+told_trans extent (Some a) None c p q = absurd p
+told_trans extent (Some a) (Some b) None p q = absurd q
+told_trans extent (Some a) (Some b) (Some c) p q = record { before = q.before ∙ p.before; behind = q.behind ∙ p.behind; size = q.size ∙ p.size }
+
+-- what stays in two steps stays in both
+pub outside_trans : (extent : Extent) (a b c : Disk) → KeepsOutside extent a b → KeepsOutside extent b c → KeepsOutside extent a c
+outside_trans extent a b c p q = record { sectors = q.sectors ∙ p.sectors; told = told_trans extent a.told b.told c.told p.told q.told }
+
+-- the extent still lies in the disk
+pub lies_still : (extent : Extent) (a b : Disk) → KeepsOutside extent a b → IsWithin a.sector_count extent → IsWithin b.sector_count extent
+lies_still extent a b keeps lies = omega (arith, keeps.sectors, lies)

@@ -1,5 +1,6 @@
 pub mod Answering
 pub mod Courses
+pub mod Durable
 pub mod Endings
 pub mod Exact
 pub mod Extents

@@ -21,9 +21,8 @@ use Rattle.block_device.specs.Request.{payload_of}
 use Rattle.block_device.specs.Outcome.{filled, with_sectors}
 use Rattle.block_device.specs.Progress.{IsDone}
 use Rattle.block_device.specs.Zeroes.{IsStopped, all_sectors, has_sectors_within, sectors_of, segment_at, segments_in, zeroed_sectors}
-use Rattle.block_device.proofs.Courses.{lies_still, outside_trans}
 use Rattle.block_device.proofs.Endings.{nothing_found}
-use Rattle.block_device.proofs.Extents.{extent_disk-filled, KeepsOutside-filled, KeepsOutside-same, marked-chunk, same_disk}
+use Rattle.block_device.proofs.Extents.{extent_disk-filled, KeepsOutside-filled, KeepsOutside-same, lies_still, marked-chunk, outside_trans, same_disk}
 
 abbrev zeros : List ℕ
 zeros = replicate 512 0

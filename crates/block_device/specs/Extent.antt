@@ -2,7 +2,7 @@
 use Rattle.std.specs.Prelude.{◌≡◌, ℕ, ◌+◌, ◌*◌, ◌≤◌, Bool, if◌then◌else◌, List, length, take, drop, Option, Some, None}
 use Rattle.std.specs.Option.{option_map}
 use Rattle.sector_cache.specs.Sector.{extent_of}
-use Rattle.sector_cache.specs.Disk.{Disk}
+use Rattle.sector_cache.specs.Disk.{Disk, KeepsClear}
 use Rattle.block_device.specs.declared.extent.Extent.{Extent}
 
 -- how many bytes a sector has (5.2.4)
@@ -39,9 +39,11 @@ pub record KeepsOutside (extent : Extent) (old new : Disk) : Type 0 where
   pub sectors : new.sector_count ≡ old.sector_count
   pub told : ToldOutside extent old.told new.told
 
--- Calls of the image are made for one extent: the failures never fall, and the image stays outside of it.
+-- Calls of the image are made for one extent: the failures never fall, where they stay a clear mark stays clear, and the
+-- image stays outside of it.
 pub record StaysInExtent (extent : Extent) (old new : Disk) : Type 0 where
   pub rises : old.failures ≤ new.failures
+  pub clear : KeepsClear old new
   pub outside : KeepsOutside extent old new
 
 -- the same for one request, of which at most one call fails

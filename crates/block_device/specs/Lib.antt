@@ -1,6 +1,7 @@
 pub mod Asking
 pub mod Config
 pub mod Device
+pub mod Durable
 pub mod Extent
 pub mod Hosting
 pub mod Operation

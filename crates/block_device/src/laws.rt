@@ -1,13 +1,15 @@
 //! Laws of the definitions. The bodies are empty: each contract is a theorem.
 
-ghost use Rattle.std.specs.Prelude.{◌≡◌, ◌≢◌, ◌⊎◌, ℕ, ◌+◌, ◌≤◌, Bool, List, None, Some, length};
+ghost use Rattle.std.specs.Prelude.{◌≡◌, ◌≢◌, ◌⊎◌, ℕ, ◌+◌, ◌≤◌, Bool, true, false, List, ◌∷◌, None, Some, length};
+ghost use Rattle.std.specs.List.{slice_get};
 ghost use Rattle.chain.specs.Pieces.{GoesInPieces, IsOneService, Pause};
-ghost use Rattle.chain.specs.Service.{Ending, Given, IsService, Refused, Site, open_site};
-ghost use Rattle.sector_cache.specs.Disk.{Disk, IsWhole};
+ghost use Rattle.chain.specs.Service.{Ending, Given, IsService, Refused, Served, ServesAll, Site, open_site};
+ghost use Rattle.sector_cache.specs.Disk.{Disk, IsWhole, KeepsClear};
 ghost use Rattle.mmio_window.specs.declared.queue.Queue.{Queue};
 ghost use Rattle.mmio_window.specs.Queue.{queue_kind};
 ghost use Rattle.block_device.specs.declared.device.BlockDevice.{BlockDevice};
 ghost use Rattle.block_device.specs.Device.{GivesBy, HasAnswer, block_device, exact_device};
+ghost use Rattle.block_device.specs.Durable.{Completion, IsCommitted, IsUnwritten, KeepsWordIn, Medium, must_last};
 ghost use Rattle.block_device.specs.Extent.{SameSectors};
 ghost use Rattle.block_device.specs.Hosting.{FlightOutlasts, HonestHostServes};
 ghost use Rattle.block_device.specs.Outcome.{Completes, Ends};
@@ -67,6 +69,25 @@ pub fn a_flight_outlasts()
 /// that disk: by the very device of a disk behind the cache.
 pub fn an_honest_host_serves()
     ensures { HonestHostServes }
+{}
+
+/// While no call of the image fails, a clear mark stays clear. An OUT, FLUSH or WRITE_ZEROES that was answered OK leaves it
+/// clear, whatever failed before, and so it stays until a call fails.
+pub fn an_answered_write_is_flushed()
+    ensures clear { (device : BlockDevice) (start at : Site Queue Disk) (chains : List (Served Disk))
+        → ServesAll queue_kind (block_device device) start chains at → KeepsClear start.state at.state }
+    ensures flushed { (device : BlockDevice) (start at : Site Queue Disk) (answered : Served Disk) (later : List (Served Disk))
+        → ServesAll queue_kind (block_device device) start (answered ∷ later) at
+        → IsCommitted device start.memory answered → at.state.failures ≡ answered.given.state.failures
+        → at.state.mark ≡ false }
+{}
+
+/// A byte that the host of a disk said is on the medium, by a FLUSH or a stable write that was done, is there after a stop
+/// as the host reads it, until an operation writes it again. It rests on a host that keeps its word.
+pub fn a_hosted_flush_lasts()
+    ensures { (done : Completion) (later : List Completion) (old new : Medium) (place : ℕ)
+        → KeepsWordIn old (done ∷ later) new → must_last done place ≡ true → IsUnwritten place later
+        → slice_get new.left place ≡ slice_get new.held place }
 {}
 
 /// The pieces of a service, joined, are one service, however the image fares in the pauses: what the driver finds in

@@ -7,6 +7,7 @@ pub mod Outside
 pub mod Seats
 pub mod Alone
 pub mod Failures
+pub mod Durable
 pub mod Noted
 pub mod Runs
 pub mod Access

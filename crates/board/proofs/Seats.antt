@@ -1,6 +1,6 @@
 -- One slot's event, seen as a step of the whole board. Here the extents' being apart is used: what a
 -- slot's event does to the image stays within that slot's own.
-use Rattle.std.proofs.Common.{◌≡◌, ◌≢◌, ◌⊎◌, inl, inr, ℕ, zero, suc, ◌<◌, Bool, true, false, ◌||◌, List, [], ◌∷◌, length, map, Option, Some, None, get_or, refl, sym, ◌∙◌, ap, subst, append-nil, arith}
+use Rattle.std.proofs.Common.{◌≡◌, ◌≢◌, ◌⊎◌, inl, inr, ℕ, zero, suc, ◌<◌, ◌≤◌, Bool, true, false, ◌||◌, List, [], ◌∷◌, length, map, Option, Some, None, get_or, refl, sym, ◌∙◌, ap, subst, append-nil, arith}
 use Rattle.std.proofs.Math.Bool.{or-true, or-false}
 use Rattle.std.specs.Prelude.{nat_lt, slice_set, MatchOption, All, AllPairs}
 use Rattle.std.specs.List.{slice_get, list_any}
@@ -11,7 +11,7 @@ use Rattle.std.proofs.lemmas.Bool.{cases_eq, cases_order}
 use Rattle.std.proofs.lemmas.Bool.Decides.{nat_tests}
 use Rattle.std.proofs.lemmas.List.{map-set, set-get_or, get_or-map, length-map, get_or-set_same, get_or-set_other, same_lists}
 use Rattle.std.proofs.lemmas.Option.{get_or_from_slice_get, slice_get-map, slice_get_within}
-use Rattle.sector_cache.specs.Disk.{Disk}
+use Rattle.sector_cache.specs.Disk.{Disk, KeepsClear}
 use Rattle.sector_cache.specs.Sector.{extent_of}
 use Rattle.board.specs.declared.event.Event.{Event}
 use Rattle.board.specs.declared.reply.Reply.{Reply}
@@ -144,7 +144,13 @@ stays_in_extents disk slots old new h slot after here stays =
       extents = extents;
       sectors = stays.image.outside.sectors;
       rises = stays.image.rises;
+      clear = stays.image.clear;
     }
+
+clear_still : (a b c : Disk) → a.failures ≤ b.failures → b.failures ≤ c.failures → KeepsClear a b → KeepsClear b c → KeepsClear a c
+clear_still a b c up more p q = λ same clear.
+    let first : b.failures ≡ a.failures = omega (arith, up, more, same) in
+    q (same ∙ sym first) (p first clear)
 
 -- and what stays in two steps stays in both
 pub stays_still : {I : Type 0} (disk : I → Disk) (a b c : BoardState I) → StaysInExtents disk a b → StaysInExtents disk b c → StaysInExtents disk a c
@@ -154,10 +160,11 @@ stays_still disk a b c p q = record {
   extents = q.extents ∙ p.extents;
   sectors = q.sectors ∙ p.sectors;
   rises = omega (arith, p.rises, q.rises);
+  clear = clear_still (disk a.image) (disk b.image) (disk c.image) p.rises q.rises p.clear q.clear;
 }
 
 pub stays_same : {I : Type 0} (disk : I → Disk) (board : BoardState I) → StaysInExtents disk board board
-stays_same disk board = record { told = λ tells. tells; outside = λ tells. refl; extents = refl; sectors = refl; rises = omega arith }
+stays_same disk board = record { told = λ tells. tells; outside = λ tells. refl; extents = refl; sectors = refl; rises = omega arith; clear = λ same clear. clear }
 
 -- A slot of the board took a turn, and left the image's bytes outside its own extent as they were: so the board
 -- took it.

@@ -4,6 +4,7 @@ pub use Rattle.sector_cache.specs.Disk
 pub mod Hosting
 pub mod HostedLine
 pub mod Honest
+pub mod Durable
 pub mod Image
 pub mod Extent
 pub mod Slot

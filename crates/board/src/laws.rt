@@ -1,6 +1,6 @@
 //! What holds of every line of events, by itself: no board is made or run here.
 
-ghost use Rattle.std.specs.Prelude.{◌≡◌, ℕ, ◌+◌, ◌<◌, ◌≤◌, List, [], ◌∷◌, ◌++◌, Some, length};
+ghost use Rattle.std.specs.Prelude.{◌≡◌, ℕ, ◌+◌, ◌<◌, ◌≤◌, List, [], ◌∷◌, ◌++◌, Some, false, length};
 ghost use Rattle.std.specs.List.{slice_get};
 ghost use Rattle.chain.specs.Service.{Served, ServesAll, Site};
 ghost use Rattle.sector_cache.specs.Disk.{Disk};
@@ -13,15 +13,18 @@ ghost use Rattle.board.specs.declared.event.Event.{Event};
 ghost use Rattle.board.specs.declared.event.EventKind.{EventKind};
 ghost use Rattle.board.specs.declared.reply.Reply.{Reply};
 ghost use Rattle.board.specs.declared.reply.Record.{Record};
+ghost use Rattle.board.specs.Durable.{IsLeftAsSeen};
+ghost use Rattle.board.specs.Image.{Tells};
 ghost use Rattle.board.specs.Line.{Move, IsLine, IsNoted, IsQuiet, IsAlone, IsRun, RanOnBoth, SeesTheSame, events_of, own_events};
 ghost use Rattle.board.specs.Machine.{IsNext, RunsOnItsOwn};
 ghost use Rattle.board.specs.Outcome.{Outcome};
 ghost use Rattle.board.specs.Saved.{HasBytesOf, IsAs};
 ghost use Rattle.board.specs.Slot.{BoardSlot, SlotState, KeepsBesideDisk, KeepsBesideTransmit, state_of};
 ghost use Rattle.board.specs.Task.{emergency_write};
-ghost use Rattle.board.specs.World.{World, KeepsBoard, Step, identities_of};
+ghost use Rattle.board.specs.World.{BoardState, World, KeepsBoard, Step, identities_of, world_of};
 ghost use Rattle.board.specs.Within.{Seat, IsNextWithin};
 
+use sector_cache::Image;
 use std::alloc::Allocator;
 
 /// In every line of events a guest whose own events met no refusal sees what it would see alone.
@@ -133,4 +136,16 @@ pub fn a_restored_guest_goes_on<A: Allocator>()
         IsLine old moves new → IsQuiet g old moves → IsLine old' moves' new' → IsQuiet g old' moves' →
         slice_get old.slots g ≡ Some state → slice_get old'.slots g ≡ slice_get new.slots g →
         RanOnBoth g state moves moves' new' }
+{}
+
+/// A stop between two events, as a loss of power, loses nothing, from a moment on at which the image's mark was clear and
+/// until a call of it fails: what it leaves is each guest's disk as that guest sees it. So every OUT, FLUSH and
+/// WRITE_ZEROES that was answered OK stands. After failures the mark is clear from the next of them on.
+pub fn a_stop_between_events_loses_nothing<I: Image, A: Allocator>()
+    ensures clear { (old new : World) (moves : List (Move A)) → IsLine old moves new →
+        new.health.failures ≡ old.health.failures → old.health.mark ≡ false → new.health.mark ≡ false }
+    ensures left { (old : World) (moves : List (Move A)) (board : BoardState I) (left : List ℕ) →
+        Tells (I.disk board.image) → IsLine old moves (world_of I.disk board) →
+        (world_of I.disk board).health.failures ≡ old.health.failures → old.health.mark ≡ false →
+        I.may_leave board.image left → IsLeftAsSeen board.slots (world_of I.disk board) left }
 {}
