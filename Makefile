@@ -115,8 +115,8 @@ embed:
 	@examples/embed/run
 
 # Boots Linux on the board: two guests, their consoles side by side. GUEST=0 shows one of them, INTERACTIVE=1 gives a
-# person the console of guest 0, RECORD=FILE writes what the guests did as a trace, DISK=FILE keeps guest 0's disk, and
-# IMAGE=FILE has both disks in place.
+# person the console of guest 0, RECORD=FILE writes what the guests did as a trace, DISK=FILE keeps guest 0's disk,
+# IMAGE=FILE has both disks in place, and DISKS=hosted has the host serve each from a file.
 linux:
 	@examples/linux/run
 
