@@ -48,20 +48,23 @@ class Medium:
             self.syncs[entry.call] = sorted(self.back)
 
     def end(self, entry):
-        """A call has come back. One that failed was a hole that the file system can't make: nothing is written."""
-        if entry.call in self.unsafe:
-            if entry.count < 0:
-                del self.unsafe[entry.call]
-            else:
-                self.back.add(entry.call)
-        elif entry.call in self.syncs:
-            for call in self.syncs.pop(entry.call):
-                if call in self.back:
+        """A call has come back, as far as it came. A file system that can't make a hole has done nothing; of any other write
+        that failed all is open, for good, and so it is of those before a sync that failed."""
+        write = self.unsafe.get(entry.call)
+        if write and entry.count < 0 and write.kind == ZEROS:
+            del self.unsafe[entry.call]
+        elif write and entry.count >= 0:
+            count = entry.count if write.kind == WRITE else write.count
+            self.unsafe[entry.call] = write._replace(count=count, data=write.data[:count])
+            self.back.add(entry.call)
+        for call in self.syncs.pop(entry.call, []):
+            if call in self.back:
+                self.back.discard(call)
+                if entry.count == 0:
                     put(self.safe, self.unsafe.pop(call))
-                    self.back.discard(call)
 
     def left(self, dice):
-        """Files that a stop may leave now: of few unsafe writes each subset, and some torn; of many, some."""
+        """Files that a stop may leave now: of few unsafe writes each subset in each order, and some torn; of many, some."""
         writes = list(self.unsafe.values())
         if len(writes) > FEW:
             yield bytes(self.safe)
@@ -69,9 +72,8 @@ class Medium:
             for _ in range(SOME):
                 yield self.one_left(dice)
             return
-        for count in range(len(writes) + 1):
-            for chosen in itertools.combinations(writes, count):
-                yield self.with_writes(chosen)
+        orders = itertools.chain.from_iterable(itertools.permutations(writes, count) for count in range(len(writes) + 1))
+        yield from dict.fromkeys(map(self.with_writes, orders))
         for write in writes:
             yield self.with_writes(self.torn(write, dice))
 
