@@ -1,6 +1,7 @@
 """Which words name a call, and which don't; and what a person is told of a text. Tables for fuzz/calls, worked out from
 docs/formats.md.
 """
+import os
 
 # Words that name a call, in every order: with TRACE, IMAGE, and FILE where the image is saved. "" is a call in place.
 IN_PLACE = ""
@@ -88,6 +89,36 @@ REFUSED = [
     ["--save=f", "--in-place", "t", "i"],
     ["t", "i", "x", "--in-place"],
 ]
+
+# Words that ask for the help or the version, alone and among others.
+ASK = [["--help"], ["-h"], ["--version"], ["-V"], ["-V", "t", "i", "--help"], ["t", "--help", "i", "-V"], ["--other", "-h"]]
+
+
+def wish(words):
+    """What the first of the words that asks for something asks for, or nothing. What follows -- is a file."""
+    asks = {"-h": "help", "--help": "help", "-V": "version", "--version": "version", "--": None}
+    return next((asks[word] for word in words if word in asks), None)
+
+
+def has_help(text, name, takes):
+    """Whether a text is a program's help: its name, how a call looks, a line for each thing that it takes, an example, and
+    each status."""
+    lines = text.splitlines()
+    rows = [*takes, "--", "-h, --help", "-V, --version"]
+    status = lines.index(next((line for line in lines if line.startswith("Status: 0 ")), lines[-1]))
+    return lines[0].startswith(name + " ") and any(line.startswith(f"Usage: {name}") for line in lines) and \
+        all(any(line.startswith(f"  {row}  ") for line in lines) for row in rows) and \
+        any(line.startswith(f"Example: {name} ") for line in lines) and \
+        [line[8:9] for line in lines[status:]] == list("0123") and all(len(line) < 120 for line in lines)
+
+
+def version():
+    """The version that the library's header has."""
+    header = os.path.join(os.path.dirname(os.path.dirname(os.path.abspath(__file__))), "crates", "board_ffi", "kalyubos.h")
+    with open(header, encoding="utf-8") as file:
+        number = next(int(line.split()[-1]) for line in file if line.startswith("#define KALYUBOS_VERSION "))
+    return f"{number // 10000}.{number // 100 % 100}.{number % 100}"
+
 
 EVERY_LINE = "each line ends with a line feed, and the first two are there"
 FIRST_LINE = 'the first line is "vreplay 1" or "vreplay 2"'

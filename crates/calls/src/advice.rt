@@ -4,6 +4,7 @@ ghost use Rattle.std.specs.Prelude.{◌≡◌, Err};
 
 use crate::fault::Fault;
 use crate::lines::{Spelling, example_of, spelling_of};
+use crate::manual::{Manual, VERSION, Wish, wish_of};
 use crate::whose::{slot_at_fault, slot_of};
 use board::BoardFault;
 use replay::ReplayFault;
@@ -21,6 +22,10 @@ use trace::{
 pub enum Advice<'a> {
     /// Words that name no call, and how one looks.
     Words(&'static str, &'a [String]),
+    /// What a program says of itself, to words that ask for it.
+    Help(&'static str),
+    /// The version, with the program's name.
+    Version(&'static str),
     /// A word that isn't text.
     NoText,
     /// A file that can't be opened.
@@ -130,11 +135,13 @@ impl<'a> Advice<'a> {
         }
     }
 
-    /// On words for which there is no call.
-    pub fn on_words(fault: Fault, call: &'static str, words: &'a [String]) -> Advice<'a> {
-        match fault {
-            Fault::Usage => Advice::Words(call, words),
-            Fault::Replay(_) => Advice::Memory("the words"),
+    /// On words for which there is no call, a request for help or for the version among them.
+    pub fn on_words(fault: Fault, manual: Manual, words: &'a [String]) -> Advice<'a> {
+        match (fault, wish_of(words)) {
+            (Fault::Replay(_), _) => Advice::Memory("the words"),
+            (Fault::Usage, Some(Wish::Help)) => Advice::Help(manual.help),
+            (Fault::Usage, Some(Wish::Version)) => Advice::Version(manual.name),
+            (Fault::Usage, None) => Advice::Words(manual.call, words),
         }
     }
 
@@ -151,6 +158,8 @@ impl Display for Advice<'_> {
     fn fmt<W: fmt::Write>(&self, f: &mut Formatter<W>) -> fmt::Result {
         match self {
             Advice::Words(call, words) => write_words(f, call, words),
+            Advice::Help(text) => write!(f, "{text}"),
+            Advice::Version(name) => write!(f, "{name} {VERSION}"),
             Advice::NoText => write!(f, "a word is text in UTF-8; found one that isn't"),
             Advice::Unopened(name, error) => write!(f, "{name:?} can't be opened: {error}"),
             Advice::Unread(name) => write!(f, "{name:?} can't be read"),

@@ -2,8 +2,8 @@
 //!
 //! `opening` opens and reads the files that a call names, `image` makes the image, `replaying` replays and keeps it.
 //! `fault` and `last_line` tell why a call did not come to its end. `advice` and `lines` tell a person more of it on
-//! standard error, with the slot that `whose` finds. `streams` holds the numbers of the standard streams, and `words` begins
-//! a call and takes the words after the program's name.
+//! standard error, with the slot that `whose` finds, and `manual` what a program says of itself. `streams` holds the numbers of the
+//! standard streams, and `words` begins a call and takes the words after the program's name.
 #![tactic(auto)]
 
 mod advice;
@@ -11,6 +11,7 @@ mod fault;
 mod image;
 mod last_line;
 mod lines;
+mod manual;
 mod opening;
 mod replaying;
 mod streams;
@@ -21,6 +22,7 @@ pub use advice::{Advice, refuse, tell, tell_failures, told};
 pub use fault::Fault;
 pub use image::{NoImage, read_image, zero_image};
 pub use last_line::end;
+pub use manual::Manual;
 pub use opening::{image_in, open, text_in};
 pub use replaying::replayed;
 pub use words::{Started, refuse_words, start};

@@ -5,7 +5,7 @@ ghost use Rattle.vreplay.specs.Words.{NamesNoCall, texts_of};
 
 use crate::files::replay_files;
 use crate::words::read_words;
-use calls::{Advice, Fault, end, refuse, replayed, told, zero_image};
+use calls::{Advice, Fault, Manual, end, refuse, replayed, told, zero_image};
 use replay::{ReplayFault, gather};
 use sector_cache::{BackingFile, Image};
 use std::alloc::Allocator;
@@ -13,8 +13,35 @@ use std::io;
 use std::io::Write;
 use std::rt::Files;
 
-/// How a call looks.
-const CALL: &str = "vreplay alone, or vreplay TRACE IMAGE, with --save FILE or --in-place";
+/// What the program says of itself.
+const MANUAL: Manual = Manual {
+    name: "vreplay",
+    call: "vreplay alone, or vreplay TRACE IMAGE, with --save FILE or --in-place",
+    help: HELP,
+};
+
+const HELP: &str =
+    "vreplay replays a trace of guests' events over a board, and prints a record for each event.
+
+Usage: vreplay
+       vreplay TRACE IMAGE [--save FILE | --in-place]
+
+Without words it reads the trace from standard input, over an image of eight sectors of zeros.
+
+  TRACE          the trace's file, a text
+  IMAGE          the image's file, whole sectors of 512 bytes; without --in-place it is only read
+  --save FILE    writes the image's bytes to FILE after a replay that came to its end
+  --in-place     reads and writes IMAGE where it lies
+  --             what follows is a file's name, whatever it begins with
+  -h, --help     prints this, to standard error
+  -V, --version  prints the version, to standard error
+
+Example: vreplay two-guests.trace disk.img --save after.img
+
+Status: 0  the trace was replayed
+        1  the trace or its board is refused
+        2  the words name no call; so also after --help and --version
+        3  a file, a stream or memory failed";
 
 /// Does what the words after the program's name ask for, and answers the status. The memory for all but the words comes
 /// from this allocator.
@@ -52,7 +79,7 @@ where
     }
     let call = match read_words(rt.alloc(), words) {
         Ok(call) => call,
-        Err(fault) => return refuse(rt, fault, Advice::on_words(fault, CALL, words)),
+        Err(fault) => return refuse(rt, fault, Advice::on_words(fault, MANUAL, words)),
     };
     replay_files(rt, alloc, &call, out)?;
     Ok(())
