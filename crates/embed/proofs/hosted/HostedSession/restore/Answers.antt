@@ -17,3 +17,6 @@ returns-clause-call g c =
     rw (← c.self.view_is)
     (quiet c.self.inside.board c.restore.new.self c.self.inside.outputs.items c.args.slot (Own (Restore c.args.from.now)) (hosted_restore_reply c.restore.result)
     c.restore.ensures.takes c.restore.ensures.others)
+
+pub returns-clause-fault : goal.returns-clause-fault
+returns-clause-fault g c why is = rw (← c.self.view_is) (c.restore.ensures.fault why is)
