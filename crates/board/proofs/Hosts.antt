@@ -110,7 +110,7 @@ same_extent : (slot new : BoardSlot) → device_at new ≡ device_at slot → ne
 same_extent slot new device = ap (λ (d : BlockDevice). d.extent) device
 
 -- the slot's disk has as many sectors after an event as before
-own_after : (slot new : BoardSlot) → device_at new ≡ device_at slot → state_of (unseen slot.extent.count) new ≡ hosted_slot new
+pub own_after : (slot new : BoardSlot) → device_at new ≡ device_at slot → state_of (unseen slot.extent.count) new ≡ hosted_slot new
 own_after slot new device = ap (λ (e : Extent). state_of (unseen e.count) new) (sym (same_extent slot new device))
 
 pub beside_slot : {A : Type 0} (slot new : BoardSlot) (flight : Option InFlight) (what : EventKind A) (reply : Reply A) (out out' : List ℕ) → slot.extent.start ≡ 0 → device_at new ≡ device_at slot → IsFree flight what

@@ -32,4 +32,5 @@ pub mod HostedSpecs
 pub mod HostedWindows
 pub mod HostedSeats
 pub mod HostedAccess
+pub mod HostedSaving
 pub mod Honest

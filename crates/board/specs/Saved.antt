@@ -1,5 +1,5 @@
 -- The snapshot of a slot, and what a slot becomes that takes one up.
-use Rattle.std.specs.Prelude.{◌≡◌, ℕ, IsOkAnd, None, Some, Ok, Err, List, length}
+use Rattle.std.specs.Prelude.{◌≡◌, ◌≤◌, ◌++◌, ℕ, IsOkAnd, None, Some, Ok, Err, List, drop, length}
 use Rattle.guest_memory.specs.Memory.{Memory, SameRange}
 use Rattle.mmio_window.specs.declared.device_kind.DeviceKind.{DeviceKind}
 use Rattle.mmio_window.specs.declared.device_kind.DeviceKind.TheVariants.{Block, Console}
@@ -29,6 +29,10 @@ saved_slot slot = record {
   rows = slot.rows;
 }
 
+-- the bytes of a slot's snapshot
+abbrev pub snapshot_of : BoardSlot → List ℕ
+snapshot_of slot = snapshot (saved_slot slot) slot.pending
+
 -- over every memory of this range what is saved of the window gives it back
 abbrev pub RestoresIt : DeviceKind → Memory → WindowState → Type 0
 RestoresIt kind old w = (m : Memory) → SameRange old m → window_restored kind m (saved_window w) ≡ Some w
@@ -46,6 +50,13 @@ pub record IsSnapshotOf (bytes : List ℕ) (slot : BoardSlot) : Type 0 where
   pub offers : OffersFeatures slot
   pub block : RestoresIt Block slot.memory slot.block
   pub console : RestoresIt Console slot.memory slot.console
+
+-- A buffer that held these bytes holds the slot's snapshot at its front, which has so many. The others stay.
+pub record IsSavedTo (slot : BoardSlot) (old new : List ℕ) (len : ℕ) : Type 0 where
+  pub snapshot : IsSnapshotOf (snapshot_of slot) slot
+  pub len_is : len ≡ length (snapshot_of slot)
+  pub room : len ≤ length old
+  pub text : new ≡ snapshot_of slot ++ drop len old
 
 -- ---- what takes it up
 

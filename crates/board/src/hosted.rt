@@ -2,6 +2,7 @@
 //! what it wants and the host says what came of it.
 //!
 //! `slot` has one guest, of whose requests one is in flight at most; `access` is what an embedder reaches between events,
+//! `saved` a slot's snapshot,
 //! `reply` what a call is answered, and `laws` has what holds of all calls, whatever their order. Nothing is shared between slots: there is no image.
 
 ghost use Rattle.std.specs.Prelude.{◌≡◌, ◌≢◌, ◌↔◌, ◌<◌, ◌≤◌, ℕ, List, Option, Some, None, length, map, IfOk, IfSome, IfNone, IsSome, IsSomeAnd, IfErr, IsErrAnd, OnOk};
@@ -17,6 +18,7 @@ ghost use Rattle.board.specs.HostedLine.{KeepsOtherGuests, TakesCall};
 mod access;
 mod laws;
 mod reply;
+mod saved;
 mod slot;
 
 use crate::check;

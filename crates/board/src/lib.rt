@@ -46,7 +46,7 @@ pub use laws::{
 pub use mmio_window::{DeviceKind, Stage};
 pub use pause::{Pause, Service, Turn};
 pub use reply::{Record, Reply, RunStop};
-pub use saved::RestoreFault;
+pub use saved::{RestoreFault, RestoreRefusal, SaveRefusal};
 pub use sector_cache::{CacheFault, Image, ImageError, ImageFault, MemoryImage, Refused};
-pub use snapshot::SnapshotFault;
+pub use snapshot::{ShortBuffer, SnapshotFault};
 pub use spec::SlotSpec;

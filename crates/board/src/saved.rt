@@ -1,4 +1,4 @@
-//! Why a slot doesn't take up a snapshot.
+//! Why a slot isn't saved, or doesn't take up a snapshot.
 
 use snapshot::SnapshotFault;
 use thiserror::Error;
@@ -18,4 +18,32 @@ pub enum RestoreFault {
     /// The console's window can't be so.
     #[error("the console's window can't be so")]
     BadConsole,
+}
+
+/// Why a slot takes up no snapshot. Nothing has changed.
+#[derive(Clone, Copy, Debug, Error, PartialEq, Eq)]
+pub enum RestoreRefusal {
+    /// The board has no such slot.
+    #[error("the board has no such slot")]
+    BadSlot,
+    /// A service of the slot is paused, or an operation of its disk is in flight.
+    #[error("a service of the slot is paused, or its disk is at work")]
+    Busy,
+    /// The slot doesn't take up these bytes.
+    #[error("{0}")]
+    Fault(RestoreFault),
+}
+
+/// Why a slot isn't saved. Nothing is written.
+#[derive(Clone, Copy, Debug, Error, PartialEq, Eq)]
+pub enum SaveRefusal {
+    /// The board has no such slot.
+    #[error("the board has no such slot")]
+    BadSlot,
+    /// A service of the slot is paused, or an operation of its disk is in flight.
+    #[error("a service of the slot is paused, or its disk is at work")]
+    Busy,
+    /// The snapshot doesn't fit into the buffer.
+    #[error("the buffer is shorter than the snapshot")]
+    ShortBuffer,
 }

@@ -2,8 +2,8 @@
 use Rattle.std.proofs.Common.{◌≡◌, Result, Ok, Err, ◌↔◌, refl}
 use Rattle.std.specs.Prelude.{IsErrOf, OnErr}
 use Rattle.board.specs.declared.reply.Reply.TheVariants as reply
-use Rattle.paced.specs.declared.refusal.RestoreRefusal.{RestoreRefusal}
-use Rattle.paced.specs.declared.refusal.RestoreRefusal.TheVariants as refusal
+use Rattle.board.specs.declared.saved.RestoreRefusal.{RestoreRefusal}
+use Rattle.board.specs.declared.saved.RestoreRefusal.TheVariants as refusal
 use Rattle.paced.specs.declared.response.Response.TheVariants.{Answered, More, Busy, Idle}
 use Rattle.paced.specs.Restoring.{restore_response}
 

@@ -1,7 +1,7 @@
 //! A session whose guests' disks the host serves: a board of them, by calls rather than events, with what each guest's
 //! console put out until it is taken.
 //!
-//! A module for each kind of call: `registers`, `disk`, `memory` and `console`. `progress` is what a write or a
+//! A module for each kind of call: `registers`, `disk`, `memory`, `console` and `saved`. `progress` is what a write or a
 //! completion came to, and `laws` has what holds of all calls, whatever their order.
 
 ghost use Rattle.std.specs.Prelude.{◌≡◌, ◌⊎◌, ◌↔◌, map, IfOk, OnOk, IfErr, IsErrAnd, IsErrOf};
@@ -21,6 +21,7 @@ mod laws;
 mod memory;
 mod progress;
 mod registers;
+mod saved;
 
 use crate::fault::{SessionFault, why_not};
 use crate::guest::{GuestSpec, are_outlets, outputs, slots};

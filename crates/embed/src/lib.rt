@@ -33,7 +33,7 @@ pub use laws::{
     a_guest_with_room_runs_alone, a_guest_with_room_runs_alone_where_services_pause,
     a_write_in_place_is_an_event, each_guest_is_alone, the_outlet_decides,
 };
-pub use paced::{Progress, RestoreRefusal};
+pub use paced::{Progress, RestoreRefusal, SaveRefusal};
 pub use refusal::Refusal;
 pub use session::Session;
 pub use typed::Typed;

@@ -2,8 +2,8 @@
 use Rattle.std.specs.Prelude.{Option, None, Some, Result, Ok, Err}
 use Rattle.board.specs.declared.reply.Reply.TheVariants as reply
 use Rattle.board.specs.declared.saved.RestoreFault.{RestoreFault}
-use Rattle.paced.specs.declared.refusal.RestoreRefusal.{RestoreRefusal}
-use Rattle.paced.specs.declared.refusal.RestoreRefusal.TheVariants.{BadSlot, Busy, Fault}
+use Rattle.board.specs.declared.saved.RestoreRefusal.{RestoreRefusal}
+use Rattle.board.specs.declared.saved.RestoreRefusal.TheVariants.{BadSlot, Busy, Fault}
 use Rattle.paced.specs.declared.response.Response.{Response}
 use Rattle.paced.specs.declared.response.Response.TheVariants as response
 

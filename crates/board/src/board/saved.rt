@@ -1,8 +1,8 @@
 //! A slot's devices, saved from one board and restored to another.
 
-ghost use Rattle.std.specs.Prelude.{◌≡◌, ◌↔◌, ◌<◌, [], IsOk, IsSome, IfSome, IfNone, IsSomeAnd, IfOk, OnOk, OnErr, IfErr, length, slice_set};
+ghost use Rattle.std.specs.Prelude.{◌≡◌, ◌↔◌, ◌<◌, [], IsErr, IsOk, IsSome, IfSome, IfNone, IsSomeAnd, IfOk, OnOk, OnErr, IfErr, length, slice_set};
 ghost use Rattle.std.specs.List.{slice_get};
-ghost use Rattle.board.specs.Saved.{IsAs, IsCauseOf, IsLike, IsRestored, IsSnapshotOf};
+ghost use Rattle.board.specs.Saved.{IsAs, IsCauseOf, IsLike, IsRestored, IsSavedTo, IsSnapshotOf, snapshot_of};
 ghost use Rattle.board.specs.declared.event.EventKind.{EventKind};
 ghost use Rattle.board.specs.Image.{Tells};
 ghost use Rattle.board.specs.Restoring.{restore_reply};
@@ -12,6 +12,7 @@ ghost use Rattle.board.specs.World.{Answers, KeepsOthers, disturbed_of, extents_
 use crate::board::Board;
 use crate::saved::RestoreFault;
 use sector_cache::Image;
+use snapshot::ShortBuffer;
 use std::alloc::{AllocError, Allocator};
 
 impl<I: Image, A: Allocator + Copy> Board<I, A> {
@@ -28,6 +29,31 @@ impl<I: Image, A: Allocator + Copy> Board<I, A> {
 }
 
 impl<I: Image, A: Allocator> Board<I, A> {
+    /// How many bytes the snapshot of a slot has. There is no answer for a slot that isn't there.
+    pub fn saved_len(&self, slot: u8) -> Option<usize>
+        ensures there { IsSome result ↔ (slot < length self.now.slots) }
+        ensures value { IfSome result (λ len.
+            IsSomeAnd (slice_get self.now.slots slot) (λ found. len ≡ length (snapshot_of found))) }
+    {
+        let found = self.slot(slot)?;
+        Some(found.saved_len())
+    }
+
+    /// Writes the snapshot of a slot to the front of a buffer, and answers how many bytes it has; the others stay. It
+    /// takes no memory. There is no answer for a slot that isn't there. A buffer that is too short stays as it was.
+    pub fn save_into(&self, slot: u8, into: &mut [u8]) -> Option<Result<usize, ShortBuffer>>
+        ensures there { IsSome result ↔ (slot < length self.now.slots) }
+        ensures saved { IfSome result (λ saved. IfOk saved (λ len.
+            IsSomeAnd (slice_get self.now.slots slot) (λ found. IsSavedTo found into.old into.new len))) }
+        ensures short { IfSome result (λ saved. IsSomeAnd (slice_get self.now.slots slot) (λ found.
+            IsErr saved ↔ (length into.old < length (snapshot_of found)))) }
+        ensures kept { IfSome result (λ saved. OnErr saved (into.new ≡ into.old)) }
+        ensures missing { IfNone result (into.new ≡ into.old) }
+    {
+        let found = self.slot(slot)?;
+        Some(found.save_into(into))
+    }
+
     /// The slot takes up the snapshot of one of the same description: the event of that restore, for who has the
     /// bytes in a slice. There is no answer for a slot that isn't there. What is refused changes nothing.
     pub fn restore(&mut self, slot: u8, from: &[u8]) -> Option<Result<(), RestoreFault>>

@@ -1,7 +1,8 @@
 //! One slot whose disk the host serves.
 //!
 //! At most one of its requests is in flight. Meanwhile its guest runs on: two writes of the block window wait for the
-//! completion, and everything else is done at once. `access` is what an embedder reaches between its events.
+//! completion, and everything else is done at once. `access` is what an embedder reaches between its events, and `saved` its
+//! snapshot.
 
 ghost use Rattle.std.specs.Prelude.{◌≡◌, ◌≤◌, ◌<◌, ◌*◌, ◌^◌, ℕ, Some, None, [], IfOk, IfSome, IsSome, is_some, ◌&&◌};
 ghost use Rattle.block_device.specs.Extent.{sector_len};
@@ -12,6 +13,7 @@ ghost use Rattle.board.specs.Machine.{block_irq, console_irq};
 ghost use Rattle.board.specs.Hosting.{HostedEvent, HostedWithin, IsHostedNext, LooksAtQueue, TakesHosted, flight_by, hosted_opened, must_wait, operation_in};
 
 mod access;
+mod saved;
 
 use crate::check::own_disk;
 use crate::event::EventKind;

@@ -1,10 +1,10 @@
 //! A slot's snapshot, and a slot that takes one up.
 
-ghost use Rattle.std.specs.Prelude.{◌≡◌, ◌≢◌, ◌↔◌, ◌≤◌, ℕ, IfErr, IfOk, IsOk, IsTrue, List, OnErr, OnOk, Some, length};
+ghost use Rattle.std.specs.Prelude.{◌≡◌, ◌≢◌, ◌↔◌, ◌<◌, ◌≤◌, ℕ, IfErr, IfOk, IsErr, IsOk, IsTrue, List, OnErr, OnOk, Some, length};
 ghost use Rattle.guest_memory.specs.Memory.{Memory};
 ghost use Rattle.mmio_window.specs.Saved.{window_restored};
 ghost use Rattle.mmio_window.specs.Soundness.{IsSound};
-ghost use Rattle.board.specs.Saved.{IsAs, IsCauseOf, IsLike, IsRestored, IsSnapshotOf, OffersFeatures, Prevents, Suits, TakesUp, saved_slot};
+ghost use Rattle.board.specs.Saved.{IsAs, IsCauseOf, IsLike, IsRestored, IsSavedTo, IsSnapshotOf, OffersFeatures, Prevents, Suits, TakesUp, saved_slot, snapshot_of};
 ghost use Rattle.board.specs.declared.event.EventKind.{EventKind};
 ghost use Rattle.board.specs.declared.reply.Reply.{Reply};
 ghost use Rattle.board.specs.Hosting.{device_at};
@@ -18,7 +18,7 @@ use crate::saved::RestoreFault;
 use crate::slot::Slot;
 use mmio_window::{DeviceKind, Window};
 use negotiation::Flags;
-use snapshot::SavedSlot;
+use snapshot::{SavedSlot, ShortBuffer};
 use std::alloc::{AllocError, Allocator};
 
 impl<A: Allocator> Slot<A> {
@@ -28,6 +28,24 @@ impl<A: Allocator> Slot<A> {
     {
         let (front, back) = self.console_device.pending();
         snapshot::write(alloc, self.saved(), front, back)
+    }
+
+    /// How many bytes the slot's snapshot has.
+    pub(crate) fn saved_len(&self) -> usize
+        ensures { result ≡ length (snapshot_of self.now) }
+    {
+        let (front, back) = self.console_device.pending();
+        snapshot::written_len(&self.saved(), front, back)
+    }
+
+    /// Writes the slot's snapshot to the front of a buffer, and answers how many bytes it has.
+    pub(crate) fn save_into(&self, into: &mut [u8]) -> Result<usize, ShortBuffer>
+        ensures saved { IfOk result (IsSavedTo self.now into.old into.new) }
+        ensures short { IsErr result ↔ (length into.old < length (snapshot_of self.now)) }
+        ensures kept { OnErr result (into.new ≡ into.old) }
+    {
+        let (front, back) = self.console_device.pending();
+        snapshot::write_into(&self.saved(), front, back, into)
     }
 
     // What the slot keeps, as plain numbers.

@@ -1,22 +1,50 @@
-//! A guest's devices, brought back from a snapshot. Nothing here takes memory.
+//! A guest's devices, saved to a snapshot and brought back from one. Nothing here takes memory.
 
-ghost use Rattle.std.specs.Prelude.{◌≡◌, ◌↔◌, ◌≤◌, Some, IsErrOf, IsOk, IsSomeAnd, OnErr, length};
+ghost use Rattle.std.specs.Prelude.{◌≡◌, ◌↔◌, ◌<◌, ◌≤◌, Some, IfOk, IsErrOf, IsOk, IsSomeAnd, OnErr, length};
 ghost use Rattle.std.specs.List.{slice_get};
 ghost use Rattle.board.specs.declared.event.EventKind.{EventKind};
 ghost use Rattle.board.specs.declared.saved.RestoreFault.{RestoreFault};
-ghost use Rattle.board.specs.Saved.{IsAs, IsCauseOf, IsLike, IsSnapshotOf};
+ghost use Rattle.board.specs.declared.saved.RestoreRefusal.{RestoreRefusal};
+ghost use Rattle.board.specs.declared.saved.SaveRefusal.{SaveRefusal};
+ghost use Rattle.board.specs.Saved.{IsAs, IsCauseOf, IsLike, IsSavedTo, IsSnapshotOf, snapshot_of};
 ghost use Rattle.board.specs.Slot.{BoardSlot};
-ghost use Rattle.paced.specs.declared.refusal.RestoreRefusal.{RestoreRefusal};
 ghost use Rattle.paced.specs.Pacing.{Handle};
 ghost use Rattle.paced.specs.Restoring.{restore_response};
 ghost use Rattle.embed.specs.Pausing.{IsCall, IsWhole};
 ghost use Rattle.embed.specs.Session.{IsIdle};
 
 use crate::session::Session;
-use paced::RestoreRefusal;
+use paced::{RestoreRefusal, SaveRefusal};
 use std::alloc::Allocator;
 
 impl<A: Allocator> Session<A> {
+    /// How many bytes the slot's snapshot has: what `save` writes until the next call for the slot. It is refused for a
+    /// bad slot, and while a service of the slot is paused.
+    pub fn saved_len(&self, slot: u8) -> Result<usize, SaveRefusal>
+        ensures value { IfOk result (λ len. IsSomeAnd (slice_get self.now.slots slot)
+            (λ found. len ≡ length (snapshot_of found))) }
+        ensures missing { IsErrOf result SaveRefusal.BadSlot ↔ (length self.now.slots ≤ slot) }
+        ensures busy { IsErrOf result SaveRefusal.Busy ↔ ¬ IsIdle slot self.now }
+        ensures not_short { ¬ IsErrOf result SaveRefusal.ShortBuffer }
+    {
+        self.paced.saved_len(slot)
+    }
+
+    /// Writes the slot's snapshot to the front of `into`, and answers how many bytes it has; the others stay. Every slot
+    /// of its description takes it back. It is refused for a bad slot, while a service of the slot is paused, and where it
+    /// doesn't fit; what is refused writes nothing.
+    pub fn save(&self, slot: u8, into: &mut [u8]) -> Result<usize, SaveRefusal>
+        ensures saved { IfOk result (λ len. IsSomeAnd (slice_get self.now.slots slot)
+            (λ found. IsSavedTo found into.old into.new len)) }
+        ensures missing { IsErrOf result SaveRefusal.BadSlot ↔ (length self.now.slots ≤ slot) }
+        ensures busy { IsErrOf result SaveRefusal.Busy ↔ ¬ IsIdle slot self.now }
+        ensures short { IsErrOf result SaveRefusal.ShortBuffer → IsSomeAnd (slice_get self.now.slots slot)
+            (λ found. length into.old < length (snapshot_of found)) }
+        ensures kept { OnErr result (into.new ≡ into.old) }
+    {
+        self.paced.save(slot, into)
+    }
+
     /// The slot takes up a snapshot of one of the same description. The bytes of memory and disk aren't in it: the host
     /// puts them back. It is refused for a bad slot, while a service of the slot is paused, and for bytes that the slot
     /// doesn't take up, with their fault; what is refused changes nothing.

@@ -1,7 +1,7 @@
 //! Calls for a slot without an event, for a caller that has the bytes in a slice. A slot whose service is paused stays as
 //! it is.
 
-ghost use Rattle.std.specs.Prelude.{◌≡◌, ◌≢◌, ◌↔◌, ◌<◌, ◌≤◌, length, [], None, Some, IsErrOf, IsOk, IsSomeAnd, OnErr};
+ghost use Rattle.std.specs.Prelude.{◌≡◌, ◌≢◌, ◌↔◌, ◌<◌, ◌≤◌, length, [], None, Some, IfOk, IsErrOf, IsOk, IsSomeAnd, OnErr};
 ghost use Rattle.std.specs.Borrow.{sem, u8, Array, Lends};
 ghost use Rattle.std.specs.List.{slice_get};
 ghost use Rattle.board.specs.declared.event.EventKind.{EventKind};
@@ -9,18 +9,18 @@ ghost use Rattle.board.specs.declared.reply.Reply.{Reply};
 ghost use Rattle.board.specs.Image.{Tells};
 ghost use Rattle.board.specs.declared.saved.RestoreFault.{RestoreFault};
 ghost use Rattle.board.specs.Pausing.{HasLimit};
-ghost use Rattle.board.specs.Saved.{IsAs, IsCauseOf, IsLike, IsSnapshotOf};
+ghost use Rattle.board.specs.Saved.{IsAs, IsCauseOf, IsLike, IsSavedTo, IsSnapshotOf, snapshot_of};
 ghost use Rattle.board.specs.Slot.{BoardSlot};
 ghost use Rattle.board.specs.World.{KeepsOthers, disturbed_of, extents_of};
 ghost use Rattle.paced.specs.Pacing.{Handle, Responds, paced_world, paused_at, with_slot_bytes};
 ghost use Rattle.paced.specs.Restoring.{restore_response, told_of};
 ghost use Rattle.paced.specs.contracts.paced.Paced.{the_row};
-ghost use Rattle.paced.specs.declared.refusal.RestoreRefusal.{RestoreRefusal};
+ghost use Rattle.board.specs.declared.saved.RestoreRefusal.{RestoreRefusal};
+ghost use Rattle.board.specs.declared.saved.SaveRefusal.{SaveRefusal};
 
 use crate::paced::Paced;
-use crate::refusal::RestoreRefusal;
 use crate::response::Response;
-use board::{Image, Reply, RestoreFault};
+use board::{Image, Reply, RestoreFault, RestoreRefusal, SaveRefusal, ShortBuffer};
 use std::alloc::Allocator;
 
 impl<I: Image, A: Allocator + Copy> Paced<I, A> {
@@ -81,6 +81,46 @@ impl<I: Image, A: Allocator> Paced<I, A> {
                     Response::Answered(Reply::BadRange)
                 }
             }
+        }
+    }
+
+    /// How many bytes the slot's snapshot has, which is none while a service of the slot is paused.
+    pub fn saved_len(&self, slot: u8) -> Result<usize, SaveRefusal>
+        ensures value { IfOk result (λ len. IsSomeAnd (slice_get self.now.board.slots slot)
+            (λ found. len ≡ length (snapshot_of found))) }
+        ensures missing { IsErrOf result SaveRefusal.BadSlot ↔ (length self.now.board.slots ≤ slot) }
+        ensures busy { IsErrOf result SaveRefusal.Busy ↔ ¬ (paused_at self.now.paused slot ≡ None) }
+        ensures not_short { ¬ IsErrOf result SaveRefusal.ShortBuffer }
+    {
+        match self.waiting(slot) {
+            None => Err(SaveRefusal::BadSlot),
+            Some(Some(_)) => Err(SaveRefusal::Busy),
+            Some(None) => match self.board.saved_len(slot) {
+                Some(len) => Ok(len),
+                None => Err(SaveRefusal::BadSlot),
+            },
+        }
+    }
+
+    /// Writes the slot's snapshot to the front of a buffer, and answers how many bytes it has; the others stay. What is
+    /// refused writes nothing.
+    pub fn save(&self, slot: u8, into: &mut [u8]) -> Result<usize, SaveRefusal>
+        ensures saved { IfOk result (λ len. IsSomeAnd (slice_get self.now.board.slots slot)
+            (λ found. IsSavedTo found into.old into.new len)) }
+        ensures missing { IsErrOf result SaveRefusal.BadSlot ↔ (length self.now.board.slots ≤ slot) }
+        ensures busy { IsErrOf result SaveRefusal.Busy ↔ ¬ (paused_at self.now.paused slot ≡ None) }
+        ensures short { IsErrOf result SaveRefusal.ShortBuffer → IsSomeAnd (slice_get self.now.board.slots slot)
+            (λ found. length into.old < length (snapshot_of found)) }
+        ensures kept { OnErr result (into.new ≡ into.old) }
+    {
+        match self.waiting(slot) {
+            None => Err(SaveRefusal::BadSlot),
+            Some(Some(_)) => Err(SaveRefusal::Busy),
+            Some(None) => match self.board.save_into(slot, into) {
+                None => Err(SaveRefusal::BadSlot),
+                Some(Ok(len)) => Ok(len),
+                Some(Err(ShortBuffer)) => Err(SaveRefusal::ShortBuffer),
+            },
         }
     }
 
