@@ -11,8 +11,8 @@ mod paced;
 mod response;
 
 pub use board::{
-    Board, Budget, Event, EventKind, Outlet, Pause, Reply, RestoreFault, RestoreRefusal, SaveRefusal,
-    Service,
+    Board, Budget, Event, EventKind, Outlet, Pause, Reply, RestoreFault, RestoreRefusal,
+    SaveRefusal, Service,
 };
 pub use chain::Progress;
 pub use fault::PacedFault;
