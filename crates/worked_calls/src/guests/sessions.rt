@@ -1,7 +1,7 @@
 //! A session, after whose making the heap refuses all.
 
 use super::Guests;
-use crate::answer::{put_bytes, put_number, put_result, put_word};
+use crate::answer::{put_bytes, put_number, put_result, put_word, written};
 use crate::subject::Stuck;
 use crate::words::Words;
 use board::{Event, EventKind};
@@ -13,31 +13,30 @@ use std::alloc::{Allocator, Global};
 const SHOWN: usize = 8;
 
 impl<'h, B: Allocator> Guests<'h, B> {
-    /// Makes a call of a session, if this word is one.
+    /// Makes a call of a session, or that of an event.
     pub(super) fn call_session(
         &mut self,
         word: &str,
         words: &mut Words<'_>,
         answer: &mut String,
-    ) -> Result<bool, Stuck> {
+    ) -> Result<(), Stuck> {
         match word {
-            "budget" => self.limit(words, answer)?,
-            "sessions" => self.sessions(words, answer)?,
-            "go_on" => self.go_on(words, answer)?,
-            "take" => self.take(words, answer)?,
-            "see" => self.see(words, answer)?,
-            "end" => self.end(answer)?,
-            "requests" => put_number(answer, self.heap.requests())?,
-            _ => return Ok(false),
+            "budget" => self.limit(words, answer),
+            "sessions" => self.sessions(words, answer),
+            "go_on" => self.go_on(words, answer),
+            "take" => self.take(words, answer),
+            "see" => self.see(words, answer),
+            "end" => self.end(answer),
+            "requests" => put_number(answer, self.heap.requests()),
+            _ => self.event(words.whole(), answer),
         }
-        Ok(true)
     }
 
     // Sets a limit of the budget: so many chains, or so many bytes.
     fn limit(&mut self, words: &mut Words<'_>, answer: &mut String) -> Result<(), Stuck> {
-        match words.word()? {
-            "chains" => self.budget.chains = Some(words.u32()?),
-            "bytes" => self.budget.bytes = Some(words.u64()?),
+        match words.word() {
+            "chains" => self.budget.chains = Some(words.u32()),
+            "bytes" => self.budget.bytes = Some(words.u64()),
             _ => return Err(Stuck::Words),
         }
         put_word(answer, "ok")
@@ -51,7 +50,7 @@ impl<'h, B: Allocator> Guests<'h, B> {
     ) -> Result<(), Stuck> {
         self.session = None;
         self.heap.refuse_from(0);
-        let made = self.session_of(words.u32()?);
+        let made = self.session_of(words.u32());
         self.heap.refuse_from(1);
         match made {
             Ok(session) => {
@@ -69,7 +68,7 @@ impl<'h, B: Allocator> Guests<'h, B> {
     /// Makes it with each request for memory refused, and those behind it: `ok` where each time it is refused for want of
     /// memory, and all memory comes back; and where each guest takes some.
     fn sessions(&mut self, words: &mut Words<'_>, answer: &mut String) -> Result<(), Stuck> {
-        let cache = words.u32()?;
+        let cache = words.u32();
         let used = self.local.used();
         let (_, requests) = self.session_refused(0, cache);
         for n in 1..=requests {
@@ -91,21 +90,27 @@ impl<'h, B: Allocator> Guests<'h, B> {
 
     /// Makes the call of an event.
     pub(super) fn call_event(&mut self, event: &Event, answer: &mut String) -> Result<(), Stuck> {
-        let session = self.session.as_mut().ok_or(Stuck::Conditions)?;
+        let Some(session) = &mut self.session else {
+            return Err(Stuck::Conditions);
+        };
         answer_event(self.alloc, session, event.slot, &event.what, answer)
     }
 
     /// Goes on with the paused service of a slot.
     fn go_on(&mut self, words: &mut Words<'_>, answer: &mut String) -> Result<(), Stuck> {
-        let session = self.session.as_mut().ok_or(Stuck::Conditions)?;
-        put_progress(answer, go_on(session, words.u8()?))
+        let Some(session) = &mut self.session else {
+            return Err(Stuck::Conditions);
+        };
+        put_progress(answer, go_on(session, words.u8()))
     }
 
     /// Takes as much of a slot's output as finds room: how many bytes, and the front of the room, at each place of which stood
     /// a dot.
     fn take(&mut self, words: &mut Words<'_>, answer: &mut String) -> Result<(), Stuck> {
-        let session = self.session.as_mut().ok_or(Stuck::Conditions)?;
-        let (slot, room) = (words.u8()?, words.u16()?);
+        let Some(session) = &mut self.session else {
+            return Err(Stuck::Conditions);
+        };
+        let (slot, room) = (words.u8(), words.u16());
         let mut bytes = vec![in self.alloc; b'.'; usize::from(room)]?;
         let Some(count) = take_output(session, slot, &mut bytes) else {
             return put_word(answer, "none");
@@ -116,8 +121,10 @@ impl<'h, B: Allocator> Guests<'h, B> {
 
     /// What can be seen of a slot: both interrupt words, what waits of its output, and whether a service of it is paused.
     fn see(&self, words: &mut Words<'_>, answer: &mut String) -> Result<(), Stuck> {
-        let session = self.session.as_ref().ok_or(Stuck::Conditions)?;
-        let slot = words.u8()?;
+        let Some(session) = &self.session else {
+            return Err(Stuck::Conditions);
+        };
+        let slot = words.u8();
         let (Some((block, console)), Some((first, second))) = (
             session.interrupts(slot),
             session.output(slot),
@@ -140,7 +147,10 @@ impl<'h, B: Allocator> Guests<'h, B> {
 
     /// Ends the session and keeps its image: `ok` where that is as it was.
     fn end(&mut self, answer: &mut String) -> Result<(), Stuck> {
-        self.left = self.session.take().ok_or(Stuck::Conditions)?.into_image();
+        let Some(session) = self.session.take() else {
+            return Err(Stuck::Conditions);
+        };
+        self.left = session.into_image();
         let same = self.left.as_slice() == self.image.as_slice();
         put_word(answer, if same { "ok" } else { "another image" })
     }
@@ -204,10 +214,7 @@ fn answer_event<A: Allocator + Copy>(
 // What a register gave, or the refusal.
 fn put_value(answer: &mut String, value: Result<u32, Refusal>) -> Result<(), Stuck> {
     match value {
-        Ok(value) => {
-            write!(answer, "{value:08x}")?;
-            Ok(())
-        }
+        Ok(value) => written(write!(answer, "{value:08x}")),
         Err(why) => put_result(answer, Err(why)),
     }
 }
