@@ -10,6 +10,8 @@ struct words {
     const char *kernel, *tree;
     const char *to;     /* the folder of the guests' files */
     const char *script; /* the lines that are typed, one at each prompt */
+    const char *save; /* the file that guest 0 is saved to, or NULL, */
+    uint64_t save_at; /* once it has run so many cycles */
     const char *record;
     const char *image; /* the file of all disks, which is served in place, or NULL */
     bool hosted;       /* each disk is the guest's file, which the host serves, */
