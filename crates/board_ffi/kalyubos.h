@@ -87,10 +87,14 @@ enum {
     KALYUBOS_BAD_OUTLET = 16,       /* an outlet keeps 2^24 bytes at most */
     KALYUBOS_BAD_SIZE = 17,         /* a struct has another size than this version's */
     KALYUBOS_MORE = 18,             /* the slot's service pauses; see kalyubos_go_on */
-    KALYUBOS_BUSY = 19,             /* a service of the slot is paused, or this write waits for its disk; nothing changed */
+    KALYUBOS_BUSY = 19,             /* a service of the slot is paused, or this call waits for its disk; nothing changed */
     KALYUBOS_IO = 20,               /* the call is done, and the slot's disk waits for the host; see kalyubos_operation */
     KALYUBOS_IDLE = 21,             /* nothing of the slot is in flight; nothing changed */
-    KALYUBOS_NO_IMAGE = 22          /* the board has no image: the host serves its disks; nothing changed */
+    KALYUBOS_NO_IMAGE = 22,         /* the board has no image: the host serves its disks; nothing changed */
+    KALYUBOS_BAD_SNAPSHOT = 23,     /* the bytes are no snapshot; nothing changed */
+    KALYUBOS_OTHER_SLOT = 24,       /* the snapshot is of a slot of another description; nothing changed */
+    KALYUBOS_BAD_STATE = 25,        /* the snapshot has a state that no driver can bring a window into; nothing changed */
+    KALYUBOS_SHORT_BUFFER = 26      /* the snapshot doesn't fit into the buffer; nothing is written */
 };
 
 /* What an answer says, as a sentence for a person. It is never null: a number of a later version has a sentence too. */
@@ -143,6 +147,14 @@ static inline const char *kalyubos_answer(uint32_t number)
         return "nothing of the slot is in flight";
     case KALYUBOS_NO_IMAGE:
         return "the board has no image, since the host serves its disks";
+    case KALYUBOS_BAD_SNAPSHOT:
+        return "the bytes are no snapshot";
+    case KALYUBOS_OTHER_SLOT:
+        return "the snapshot is of a slot with another memory, another disk or other devices";
+    case KALYUBOS_BAD_STATE:
+        return "the snapshot has a state that no driver can bring a window into";
+    case KALYUBOS_SHORT_BUFFER:
+        return "the buffer is shorter than the snapshot: kalyubos_saved_len tells its length";
     default:
         return "a number that this version of kalyubos.h doesn't know";
     }
@@ -368,6 +380,40 @@ uint32_t kalyubos_interrupts(struct kalyubos *board, uint8_t slot, uint8_t *bloc
 
 /* Whether a call of the image ever failed for the slot: never, since the image is in memory, or there is none. */
 uint32_t kalyubos_disturbed(struct kalyubos *board, uint8_t slot, bool *disturbed);
+
+/*
+ * How many bytes the slot's snapshot has: some 300, and its pending input. It stays so until the next call for the slot.
+ * BUSY while a service of the slot is paused, or something of it is in flight.
+ */
+uint32_t kalyubos_saved_len(struct kalyubos *board, uint8_t slot, size_t *len);
+
+/*
+ * Writes the slot's snapshot to the front of `into`: what its two devices keep, the pending input, and the description of
+ * the slot. `written` is how many bytes it has; those behind them stay. BUSY as kalyubos_saved_len; SHORT_BUFFER where
+ * `into` is shorter, and then nothing is written. Nothing of the board changes.
+ *
+ * A snapshot has neither memory nor disk, nor the output that waits. Before it the host
+ *  - stops the guest's CPUs, and keeps a write that was answered NO_ROOM: its CPU makes it again behind the restore;
+ *  - brings a paused service to its end by kalyubos_go_on, and completes what is in flight by kalyubos_completed;
+ *  - takes the output.
+ * Then, with no call for the slot between, it saves the devices, and copies the memory and the disk.
+ */
+uint32_t kalyubos_save(struct kalyubos *board, uint8_t slot, uint8_t *into, size_t into_len, size_t *written);
+
+/*
+ * Puts the slot's devices into the state of a snapshot, and the guest goes on where it was saved. Memory and disk stay.
+ * The slot may be of any board of either kind. `base`, `len`, `count`, `read_only` and `identity` are those of the slot that
+ * was saved, or the answer is OTHER_SLOT. The console's size is the snapshot's. `pending` is what then waits.
+ *
+ * Each snapshot that kalyubos_save wrote of such a slot is taken. Of other bytes BAD_SNAPSHOT, OTHER_SLOT or BAD_STATE says
+ * what is wrong, or they are taken as they spell: there is no checksum. A snapshot that was changed on its way harms its
+ * own guest alone. BUSY as kalyubos_saved_len.
+ *
+ * Before it the host puts back the guest's memory and its disk, those of an image by the board that it makes. Behind it the
+ * host sets both lines by `pending`, makes a write again that was answered NO_ROOM, and starts the guest's CPUs.
+ */
+uint32_t kalyubos_restore(struct kalyubos *board, uint8_t slot, const uint8_t *from, size_t from_len,
+                          struct kalyubos_pending *pending);
 
 /*
  * The image's length in bytes, and a copy of bytes of it from byte `start` on, as they stand. NO_IMAGE of a board whose

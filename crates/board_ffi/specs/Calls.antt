@@ -59,6 +59,17 @@ GoesOn slot code = ByKind (image.GoesOn slot code) (hosted.HasNoPause slot code)
 abbrev pub PausesBehind : ℕ → ℕ → AnySession → AnySession → Type 0
 PausesBehind slot took = OverImage (image.PausesBehind slot took)
 
+-- ---- snapshots of a guest
+
+abbrev pub HasSavedLen : ℕ → ℕ → ℕ → AnySession → AnySession → Type 0
+HasSavedLen slot code len = ByKind (image.HasSavedLen slot code len) (hosted.HasSavedLen slot code len)
+
+abbrev pub Saves : ℕ → ℕ → List ℕ → List ℕ → ℕ → AnySession → AnySession → Type 0
+Saves slot code room into len = ByKind (image.Saves slot code room into len) (hosted.Saves slot code room into len)
+
+abbrev pub Restores : ℕ → List ℕ → ℕ → AnySession → AnySession → Type 0
+Restores slot bytes code = ByKind (image.Restores slot bytes code) (hosted.Restores slot bytes code)
+
 -- ---- the disk of a guest
 
 abbrev pub IsAskedFor : ℕ → Operation → List Run → List Run → AnySession → AnySession → Type 0

@@ -14,6 +14,12 @@ use Rattle.board.specs.declared.hosted.reply.HostedReply.TheVariants as hosted
 use Rattle.paced.specs.declared.response.Response.TheVariants as response
 use Rattle.board.specs.declared.fault.BoardFault.{BoardFault}
 use Rattle.board.specs.declared.fault.BoardFault.TheVariants as board
+use Rattle.board.specs.declared.saved.RestoreFault.{RestoreFault}
+use Rattle.board.specs.declared.saved.RestoreFault.TheVariants.{Snapshot, OtherSlot, BadBlock, BadConsole}
+use Rattle.board.specs.declared.saved.RestoreRefusal.{RestoreRefusal}
+use Rattle.board.specs.declared.saved.RestoreRefusal.TheVariants as restore
+use Rattle.board.specs.declared.saved.SaveRefusal.{SaveRefusal}
+use Rattle.board.specs.declared.saved.SaveRefusal.TheVariants as save
 use Rattle.embed.specs.declared.refusal.Refusal.{Refusal}
 use Rattle.embed.specs.declared.refusal.Refusal.TheVariants.{BadSlot, BadRange, NoRoom, Busy, Idle}
 use Rattle.embed.specs.declared.hosted.progress.HostedProgress.{HostedProgress}
@@ -83,6 +89,37 @@ progress_code More = 18
 abbrev pub went_on_code : Result Progress Refusal → ℕ
 went_on_code (Ok progress) = progress_code progress
 went_on_code (Err why) = refusal_code why
+
+-- a slot that isn't saved
+abbrev pub save_refusal_code : SaveRefusal → ℕ
+save_refusal_code save.BadSlot = 3
+save_refusal_code save.Busy = 19
+save_refusal_code save.ShortBuffer = 26
+
+abbrev pub save_code : {X : Type 0} → Result X SaveRefusal → ℕ
+save_code (Ok len) = 0
+save_code (Err why) = save_refusal_code why
+
+-- the numbers that a save answers
+abbrev pub is_saving : ℕ → Bool
+is_saving code = (code == 0) || (code == 3) || (code == 19) || (code == 26)
+
+-- a snapshot that a slot doesn't take up: bytes that are none, one of another description, or of a window that can't be so
+abbrev pub restore_fault_code : RestoreFault → ℕ
+restore_fault_code (Snapshot fault) = 23
+restore_fault_code OtherSlot = 24
+restore_fault_code BadBlock = 25
+restore_fault_code BadConsole = 25
+
+-- a slot that isn't restored
+abbrev pub restore_refusal_code : RestoreRefusal → ℕ
+restore_refusal_code restore.BadSlot = 3
+restore_refusal_code restore.Busy = 19
+restore_refusal_code (restore.Fault why) = restore_fault_code why
+
+abbrev pub restore_code : Result (Unit {0}) RestoreRefusal → ℕ
+restore_code (Ok done) = 0
+restore_code (Err why) = restore_refusal_code why
 
 -- a board that was refused
 abbrev pub board_code : BoardFault → ℕ

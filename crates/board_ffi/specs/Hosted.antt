@@ -1,5 +1,5 @@
 -- What a call does to a board whose disks the host serves.
-use Rattle.std.specs.Prelude.{◌≡◌, ℕ, ◌==◌, ◌||◌, ◌<◌, ◌≤◌, ◌++◌, Bool, List, [], ◌∷◌, Option, Some, None, IsTrue, IsSomeAnd, if◌then◌else◌, length, min, take, drop, false}
+use Rattle.std.specs.Prelude.{◌≡◌, ℕ, ◌==◌, ◌||◌, ◌<◌, ◌≤◌, ◌++◌, ◌↔◌, ◌≢◌, Bool, List, [], ◌∷◌, Option, Some, None, Result, IsTrue, IsErrOf, IsSome, IsSomeAnd, if◌then◌else◌, length, min, take, drop, false}
 use Rattle.std.specs.List.{slice_get}
 use Rattle.std.specs.Option.{option_map}
 use Rattle.std.specs.Global.{Global}
@@ -13,15 +13,21 @@ use Rattle.block_device.specs.Operation.{LiesInside}
 use Rattle.board.specs.declared.event.EventKind.{EventKind}
 use Rattle.board.specs.declared.reply.Reply.{Reply}
 use Rattle.board.specs.declared.reply.Reply.TheVariants as reply
+use Rattle.board.specs.declared.saved.RestoreFault.{RestoreFault}
+use Rattle.board.specs.declared.saved.RestoreRefusal.{RestoreRefusal}
+use Rattle.board.specs.declared.saved.RestoreRefusal.TheVariants.{Fault}
 use Rattle.board.specs.Hosting.{HostedEvent, HostedState, InFlight}
 use Rattle.board.specs.HostedLine.{words_of}
 use Rattle.board.specs.Image.{sectors_of}
+use Rattle.board.specs.Restoring.{hosted_restore_reply, slot_in}
+use Rattle.board.specs.Saved.{IsAs, IsCauseOf, IsLike, IsSavedTo, IsSnapshotOf, snapshot_of}
+use Rattle.board.specs.Slot.{BoardSlot}
 use Rattle.embed.specs.Hosted.{HostedSessionState, IsHostedCall, operation_at, progress_by}
 use Rattle.embed.specs.HostedCourse.{IsHostedTaken}
 use Rattle.embed.specs.Session.{waiting_at}
 use Rattle.board_ffi.specs.declared.operation.Operation.{Operation}
 use Rattle.board_ffi.specs.declared.operation.Run.{Run}
-use Rattle.board_ffi.specs.Codes.{asking_code, code_at, hosted_reply_of, is_hosted}
+use Rattle.board_ffi.specs.Codes.{asking_code, code_at, hosted_reply_of, is_hosted, is_saving, restore_code}
 
 -- The board takes a call for this event of a slot, and its reply is the one that the number stands for: where the call is
 -- done it is this one.
@@ -85,6 +91,48 @@ pub record IsUndisturbed (slot : ℕ) (disturbed : Bool) (old new : HostedSessio
   pub there : slot < length old.slots
   pub noted : disturbed ≡ false
   pub kept : new ≡ old
+
+-- something of a slot is in flight
+abbrev pub IsAtWork : ℕ → HostedSessionState → Type 0
+IsAtWork slot session = IsSomeAnd (slice_get session.slots slot) (λ found. IsSome found.flight)
+
+-- The snapshot of a slot has so many bytes, or the number says why there is none. Nothing changes.
+pub record HasSavedLen (slot code len : ℕ) (old new : HostedSessionState) : Type 0 where
+  pub told : code ≡ 0 → IsSomeAnd (slice_get old.slots slot) (λ found. len ≡ length (snapshot_of (slot_in found.slot)))
+  pub missing : (code ≡ 3) ↔ (length old.slots ≤ slot)
+  pub busy : (code ≡ 19) ↔ IsAtWork slot old
+  pub not_short : code ≢ 26
+  pub code_is : IsTrue (is_saving code)
+  pub kept : new ≡ old
+
+-- The snapshot of a slot stands at the front of the buffer, which held these bytes, or the number says why it doesn't.
+-- Nothing of the board changes.
+pub record Saves (slot code : ℕ) (room into : List ℕ) (len : ℕ) (old new : HostedSessionState) : Type 0 where
+  pub saved : code ≡ 0 → IsSomeAnd (slice_get old.slots slot) (λ found. IsSavedTo (slot_in found.slot) room into len)
+  pub missing : (code ≡ 3) ↔ (length old.slots ≤ slot)
+  pub busy : (code ≡ 19) ↔ IsAtWork slot old
+  pub short :
+      code ≡ 26 →
+      IsSomeAnd (slice_get old.slots slot) (λ found. length room < length (snapshot_of (slot_in found.slot)))
+  pub code_is : IsTrue (is_saving code)
+  pub kept : new ≡ old
+
+-- The board takes a call for the restore of a slot, and the number says what came of it. What was saved of a slot is
+-- taken by every slot of its description at rest, and brings it to its state.
+pub record Restores (slot : ℕ) (bytes : List ℕ) (code : ℕ) (old new : HostedSessionState) : Type 0 where
+  pub result : Result (Unit {0}) RestoreRefusal
+  pub code_is : code ≡ restore_code result
+  pub call : IsHostedCall {A = Global} old slot (HostedEvent.Own (EventKind.Restore bytes)) (hosted_restore_reply result) new
+  pub fault :
+      (why : RestoreFault) → IsErrOf result (Fault why) →
+      IsSomeAnd (slice_get old.slots slot) (λ found. IsCauseOf (slot_in found.slot) bytes why)
+  pub taken :
+      (saved : BoardSlot) (before after : HostedState) → IsSnapshotOf bytes saved →
+      slice_get old.slots slot ≡ Some before → slice_get new.slots slot ≡ Some after →
+      IsLike saved (slot_in before.slot) → before.flight ≡ None →
+      (code ≡ 0) × IsAs saved (slot_in before.slot) (slot_in after.slot)
+  pub missing : (code ≡ 3) ↔ (length old.slots ≤ slot)
+  pub busy : (code ≡ 19) ↔ IsAtWork slot old
 
 -- there is no image, and nothing changes
 pub record HasNoImage (code : ℕ) (old new : HostedSessionState) : Type 0 where

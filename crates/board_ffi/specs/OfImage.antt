@@ -1,18 +1,23 @@
 -- What a call does to a board over an image.
-use Rattle.std.specs.Prelude.{◌≡◌, ℕ, ◌<◌, ◌≤◌, ◌+◌, ◌++◌, Bool, List, Some, IsTrue, IsSomeAnd, length, min, take, drop, false, Result}
+use Rattle.std.specs.Prelude.{◌≡◌, ℕ, ◌<◌, ◌≤◌, ◌+◌, ◌++◌, ◌↔◌, ◌≢◌, Bool, List, Some, IsTrue, IsErrOf, IsSomeAnd, length, min, take, drop, false, Result}
 use Rattle.chain.specs.declared.budget.Progress.{Progress}
 use Rattle.std.specs.List.{slice_get}
 use Rattle.std.specs.Option.{option_map}
 use Rattle.std.specs.Global.{Global}
 use Rattle.board.specs.declared.event.EventKind.{EventKind}
 use Rattle.board.specs.declared.reply.Reply.{Reply}
-use Rattle.board.specs.Slot.{interrupt_words}
+use Rattle.board.specs.declared.saved.RestoreFault.{RestoreFault}
+use Rattle.board.specs.declared.saved.RestoreRefusal.{RestoreRefusal}
+use Rattle.board.specs.declared.saved.RestoreRefusal.TheVariants.{Fault}
+use Rattle.board.specs.Saved.{IsAs, IsCauseOf, IsLike, IsSavedTo, IsSnapshotOf, snapshot_of}
+use Rattle.board.specs.Slot.{BoardSlot, interrupt_words}
 use Rattle.embed.specs.Course.{IsTaken}
 use Rattle.embed.specs.declared.refusal.Refusal.{Refusal}
 use Rattle.embed.specs.Pausing.{IsCall, IsWhole, WentOn, taken_at}
 use Rattle.embed.specs.Session.{IsIdle, SessionState, output_of}
 use Rattle.paced.specs.Pacing.{Handle}
-use Rattle.board_ffi.specs.Codes.{code_at, is_response, response_of, went_on_code}
+use Rattle.paced.specs.Restoring.{restore_response}
+use Rattle.board_ffi.specs.Codes.{code_at, is_response, is_saving, response_of, restore_code, went_on_code}
 
 -- The board takes a call for this event of a slot, and its response is the one that the number stands for: where the
 -- call is done it is this reply, and a step of the board.
@@ -84,6 +89,42 @@ pub record IsOutside (start len code : ℕ) (old new : SessionState) : Type 0 wh
   pub outside : length old.image < start + len
   pub bad_range : code ≡ 4
   pub kept : new ≡ old
+
+-- The snapshot of a slot has so many bytes, or the number says why there is none. Nothing changes.
+pub record HasSavedLen (slot code len : ℕ) (old new : SessionState) : Type 0 where
+  pub told : code ≡ 0 → IsSomeAnd (slice_get old.slots slot) (λ found. len ≡ length (snapshot_of found))
+  pub missing : (code ≡ 3) ↔ (length old.slots ≤ slot)
+  pub busy : (code ≡ 19) ↔ ¬ IsIdle slot old
+  pub not_short : code ≢ 26
+  pub code_is : IsTrue (is_saving code)
+  pub kept : new ≡ old
+
+-- The snapshot of a slot stands at the front of the buffer, which held these bytes, or the number says why it doesn't.
+-- Nothing of the board changes.
+pub record Saves (slot code : ℕ) (room into : List ℕ) (len : ℕ) (old new : SessionState) : Type 0 where
+  pub saved : code ≡ 0 → IsSomeAnd (slice_get old.slots slot) (λ found. IsSavedTo found room into len)
+  pub missing : (code ≡ 3) ↔ (length old.slots ≤ slot)
+  pub busy : (code ≡ 19) ↔ ¬ IsIdle slot old
+  pub short : code ≡ 26 → IsSomeAnd (slice_get old.slots slot) (λ found. length room < length (snapshot_of found))
+  pub code_is : IsTrue (is_saving code)
+  pub kept : new ≡ old
+
+-- The board takes a call for the restore of a slot, and the number says what came of it. What was saved of a slot is
+-- taken by every idle slot of its description, and brings it to its state.
+pub record Restores (slot : ℕ) (bytes : List ℕ) (code : ℕ) (old new : SessionState) : Type 0 where
+  pub result : Result (Unit {0}) RestoreRefusal
+  pub code_is : code ≡ restore_code result
+  pub call : IsCall {A = Global} old (Handle (record { slot = slot; what = EventKind.Restore bytes })) (restore_response result) new
+  pub whole : IsWhole {A = Global} old (record { slot = slot; what = EventKind.Restore bytes }) (restore_response result) new
+  pub fault :
+      (why : RestoreFault) → IsErrOf result (Fault why) →
+      IsSomeAnd (slice_get old.slots slot) (λ found. IsCauseOf found bytes why)
+  pub taken :
+      (saved before after : BoardSlot) → IsSnapshotOf bytes saved → slice_get old.slots slot ≡ Some before →
+      slice_get new.slots slot ≡ Some after → IsLike saved before → IsIdle slot old →
+      (code ≡ 0) × IsAs saved before after
+  pub missing : (code ≡ 3) ↔ (length old.slots ≤ slot)
+  pub busy : code ≡ 19 → ¬ IsIdle slot old
 
 -- nothing of any slot is in flight, and nothing changes
 pub record HasNoFlight (slot code : ℕ) (old new : SessionState) : Type 0 where

@@ -1,6 +1,6 @@
 //! A session of either kind. Each call answers the number that C is told, and fills what else it tells.
 //!
-//! A module for each kind of call: `registers`, `disk`, `memory`, `console` and `image`.
+//! A module for each kind of call: `registers`, `disk`, `memory`, `console`, `saved` and `image`.
 
 ghost use Rattle.std.specs.Prelude.{◌≡◌};
 ghost use Rattle.board_ffi.specs.Codes.{code_at};
@@ -10,6 +10,7 @@ mod disk;
 mod image;
 mod memory;
 mod registers;
+mod saved;
 
 use crate::codes::BAD_SLOT;
 use embed::{HostedSession, Session};

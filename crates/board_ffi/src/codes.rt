@@ -1,9 +1,14 @@
 //! The number of each answer, which has its name in the header.
 
-ghost use Rattle.std.specs.Prelude.{◌≡◌, IfOk, OnErr};
-ghost use Rattle.board_ffi.specs.Codes.{asking_code, board_code, code_by, fault_code, hosted_code, progress_code, refusal_code, went_on_code};
+ghost use Rattle.std.specs.Prelude.{◌≡◌, ◌≢◌, ◌↔◌, IfOk, IsErr, IsErrOf, IsOk, IsTrue, Ok, OnErr};
+ghost use Rattle.board.specs.declared.saved.RestoreRefusal.{RestoreRefusal};
+ghost use Rattle.board.specs.declared.saved.SaveRefusal.{SaveRefusal};
+ghost use Rattle.board_ffi.specs.Codes.{asking_code, board_code, code_by, fault_code, hosted_code, is_saving, progress_code, refusal_code, restore_code, restore_fault_code, save_code, went_on_code};
 
-use embed::{BoardFault, CacheFault, HostedProgress, MemoryFault, Progress, Refusal, SessionFault};
+use embed::{
+    BoardFault, CacheFault, HostedProgress, MemoryFault, Progress, Refusal, RestoreFault,
+    RestoreRefusal, SaveRefusal, SessionFault,
+};
 
 pub(crate) const DONE: u32 = 0;
 
@@ -50,6 +55,14 @@ pub(crate) const IO: u32 = 20;
 pub(crate) const IDLE: u32 = 21;
 
 pub(crate) const NO_IMAGE: u32 = 22;
+
+pub(crate) const BAD_SNAPSHOT: u32 = 23;
+
+pub(crate) const OTHER_SLOT: u32 = 24;
+
+pub(crate) const BAD_STATE: u32 = 25;
+
+pub(crate) const SHORT_BUFFER: u32 = 26;
 
 /// The number of a call that was refused.
 pub(crate) fn of_refusal(why: Refusal) -> u32
@@ -117,6 +130,55 @@ pub(crate) fn of_progress(progress: Progress) -> u32
     match progress {
         Progress::Done => DONE,
         Progress::More => MORE,
+    }
+}
+
+/// The number of a call that tells how many bytes a snapshot has, and how many where there is one.
+pub(crate) fn of_saved(answer: Result<usize, SaveRefusal>, len: &mut usize) -> u32
+    ensures number { result ≡ save_code answer }
+    ensures told { result ≡ 0 → answer ≡ Ok len.new }
+    ensures missing { (result ≡ 3) ↔ IsErrOf answer SaveRefusal.BadSlot }
+    ensures busy { (result ≡ 19) ↔ IsErrOf answer SaveRefusal.Busy }
+    ensures short { (result ≡ 26) ↔ IsErrOf answer SaveRefusal.ShortBuffer }
+    ensures one { IsTrue (is_saving result) }
+    ensures refused { result ≢ 0 → IsErr answer }
+    ensures kept { result ≢ 0 → len.new ≡ len.old }
+{
+    match answer {
+        Ok(found) => {
+            *len = found;
+            DONE
+        }
+        Err(SaveRefusal::BadSlot) => BAD_SLOT,
+        Err(SaveRefusal::Busy) => BUSY,
+        Err(SaveRefusal::ShortBuffer) => SHORT_BUFFER,
+    }
+}
+
+/// The number of a call in which a slot takes up a snapshot, or doesn't.
+pub(crate) fn of_restored(answer: Result<(), RestoreRefusal>) -> u32
+    ensures number { result ≡ restore_code answer }
+    ensures done { (result ≡ 0) ↔ IsOk answer }
+    ensures missing { (result ≡ 3) ↔ IsErrOf answer RestoreRefusal.BadSlot }
+    ensures busy { (result ≡ 19) ↔ IsErrOf answer RestoreRefusal.Busy }
+    ensures refused { result ≢ 0 → IsErr answer }
+{
+    match answer {
+        Ok(()) => DONE,
+        Err(RestoreRefusal::BadSlot) => BAD_SLOT,
+        Err(RestoreRefusal::Busy) => BUSY,
+        Err(RestoreRefusal::Fault(why)) => of_restore_fault(why),
+    }
+}
+
+// The number of a snapshot that isn't taken up.
+fn of_restore_fault(why: RestoreFault) -> u32
+    ensures { result ≡ restore_fault_code why }
+{
+    match why {
+        RestoreFault::Snapshot(_) => BAD_SNAPSHOT,
+        RestoreFault::OtherSlot => OTHER_SLOT,
+        RestoreFault::BadBlock | RestoreFault::BadConsole => BAD_STATE,
     }
 }
 

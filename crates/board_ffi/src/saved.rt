@@ -1,0 +1,71 @@
+//! A guest's devices, saved to a snapshot and brought back from one. Nothing here takes memory.
+
+ghost use Rattle.std.specs.Prelude.{◌≡◌, ◌≢◌};
+ghost use Rattle.board_ffi.specs.Calls.{Calls, HasSavedLen, Restores, Saves, Tells};
+
+use crate::codes::NO_BOARD;
+use crate::handle::Handle;
+use crate::pending::Pending;
+use std::alloc::Global;
+
+/// Tells how many bytes the snapshot of a guest has.
+#[unsafe(no_mangle)]
+pub extern "C" fn kalyubos_saved_len(
+    alloc: Global,
+    board: &mut Handle,
+    slot: u8,
+    len: &mut usize,
+) -> u32
+    ensures told { Calls board.old.session board.new.session result (HasSavedLen slot result len.new) }
+    ensures kept { result ≢ 0 → len.new ≡ len.old }
+{
+    let Some(session) = board.take(alloc) else {
+        return NO_BOARD;
+    };
+    let answer = session.saved_len(slot, len);
+    board.put(session);
+    answer
+}
+
+/// Writes the snapshot of a guest to the front of a buffer, and tells how many bytes it has.
+#[unsafe(no_mangle)]
+pub extern "C" fn kalyubos_save(
+    alloc: Global,
+    board: &mut Handle,
+    slot: u8,
+    into: &mut [u8],
+    written: &mut usize,
+) -> u32
+    ensures saves { Calls board.old.session board.new.session result
+        (Saves slot result into.old into.new written.new) }
+    ensures kept { result ≢ 0 → (into.new ≡ into.old) × (written.new ≡ written.old) }
+{
+    let Some(session) = board.take(alloc) else {
+        return NO_BOARD;
+    };
+    let answer = session.save(slot, into, written);
+    board.put(session);
+    answer
+}
+
+/// Puts the devices of a guest into the state of a snapshot, and tells what then waits.
+#[unsafe(no_mangle)]
+pub extern "C" fn kalyubos_restore(
+    alloc: Global,
+    board: &mut Handle,
+    slot: u8,
+    from: &[u8],
+    pending: &mut Pending,
+) -> u32
+    ensures restores { Calls board.old.session board.new.session result (Restores slot from.now result) }
+    ensures kept { result ≢ 0 → board.new.session ≡ board.old.session }
+    ensures pending { Tells slot board.new.session pending.old pending.new }
+{
+    let Some(mut session) = board.take(alloc) else {
+        return NO_BOARD;
+    };
+    let answer = session.restore(slot, from);
+    pending.tell(&session, slot);
+    board.put(session);
+    answer
+}
