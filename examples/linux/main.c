@@ -18,7 +18,7 @@
  *   --cycles COUNT    leaves a guest that isn't off by then
  *   --record FILE     writes what the guests did as a trace, and the answers to FILE.records
  *   --keep GUEST      writes that guest's disk back to its file at the end
- *   --save FILE       saves guest 0 to FILE, a file or a pipe, and leaves it then
+ *   --save FILE       saves guest 0, its disk among it, to FILE, a file or a pipe, and leaves it then
  *   --save-at COUNT   once it has run so many cycles, and nothing of it is paused or under way
  *   --image FILE      serves all disks in place from FILE, where they stand one after the other; of the guests' own files
  *                     only the names and the lengths count
@@ -117,24 +117,25 @@ static struct machine_file disk_of_noise(size_t guest)
     return (struct machine_file){ zeros, NOISE_SECTORS * SECTOR };
 }
 
-/* The disk of a guest that was saved: its bytes came with it, or are in the file that the host serves. */
+/* The disk of a guest that was saved; where the host serves it, its file gets the bytes that it had then. */
 static struct machine_file disk_of_saved(size_t guest, const char *path)
 {
     struct saved *saved = saved_read(path);
     guests[guest].saved = saved;
+    struct machine_file disk = saved_disk(saved);
     words.guests[guest] = saved_disk_name(saved);
-    return words.hosted ? read_file(words.guests[guest]) : saved_disk(saved);
+    if (words.hosted)
+        replace_file(words.guests[guest], disk.bytes, disk.len);
+    return disk;
 }
 
 static struct machine_file disk_of(size_t guest)
 {
-    static const char SAVED[] = "saved:";
-    const char *word = words.guests[guest];
+    const char *word = words.guests[guest], *saved = saved_file(word);
     guests[guest].is_noise = strcmp(word, "noise") == 0;
     if (guests[guest].is_noise)
         return disk_of_noise(guest);
-    bool is_saved = strncmp(word, SAVED, strlen(SAVED)) == 0;
-    return is_saved ? disk_of_saved(guest, word + strlen(SAVED)) : read_file(word);
+    return saved != NULL ? disk_of_saved(guest, saved) : read_file(word);
 }
 
 /* The disks' bytes, one disk after the other, and how many they are. */
@@ -219,7 +220,7 @@ static void save(struct guest *guest)
 {
     if (!is_saved_here(guest) || !machine_stop(&guest->machine))
         return;
-    saved_write(words.save, &guest->machine, words.guests[0], guest->sectors * SECTOR, words.hosted);
+    saved_write(words.save, &guest->machine, words.guests[0], guest->sectors * SECTOR);
     guest->left = true;
 }
 
@@ -288,7 +289,9 @@ static void listen(struct machine *machine)
 /* Whether all went off, or on elsewhere. */
 static bool report_guests(void)
 {
-    bool good = true;
+    bool good = words.save == NULL || guests[0].left;
+    if (!good)
+        printf("guest 0: it was off before it was to be saved\n");
     for (size_t i = 0; i < words.count; i++) {
         const char *kept = words.kept == (int)i && !guests[i].is_noise ? words.guests[i] : NULL;
         report_disk(i, guests[i].sectors * SECTOR, words.to, kept);

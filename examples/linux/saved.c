@@ -73,11 +73,11 @@ static void put_disk(FILE *file, uint8_t slot, size_t len)
     free(bytes);
 }
 
-void saved_write(const char *path, const struct machine *machine, const char *disk_name, uint64_t disk_len, bool hosted)
+void saved_write(const char *path, const struct machine *machine, const char *disk_name, uint64_t disk_len)
 {
     struct head head = { .machine_len = sizeof *machine, .windows_len = WINDOWS * sizeof(struct window),
                          .name_len = strlen(disk_name), .script_len = strlen(machine->terminal.script),
-                         .disk_len = hosted ? 0 : disk_len, .memory_len = MEMORY_LEN, .stopped = now() };
+                         .disk_len = disk_len, .memory_len = MEMORY_LEN, .stopped = now() };
     size_t devices_len;
     uint8_t *devices = board_save(machine->slot, &devices_len);
     FILE *file = open_file(path, "wb");
@@ -156,7 +156,6 @@ void saved_resume(struct saved *saved, struct machine *machine)
     free(saved->machine);
     free(saved->windows);
     free(saved->devices);
-    free(saved->disk);
     free(saved->memory);
     free(saved);
 }

@@ -9,19 +9,16 @@
 
 struct saved;
 
-/*
- * Saves a guest that was stopped (machine_stop). Its disk has this many bytes and is the file of this name: where the host
- * serves that, it stays there, else its bytes go with the guest.
- */
-void saved_write(const char *path, const struct machine *machine, const char *disk_name, uint64_t disk_len, bool hosted);
+/* Saves a guest that was stopped (machine_stop), with its disk of this name and so many bytes. */
+void saved_write(const char *path, const struct machine *machine, const char *disk_name, uint64_t disk_len);
 
 struct saved *saved_read(const char *path);
 
-/* The name of its disk's file, and the disk's bytes: none where they stay in that file. */
+/* The name of its disk's file, and the disk's bytes. Both are the caller's. */
 char *saved_disk_name(struct saved *saved);
 struct machine_file saved_disk(const struct saved *saved);
 
-/* Brings it back into a machine that was opened, on a slot with its disk, and frees what was read but the disk's name. */
+/* Brings it back into a machine that was opened, on a slot with its disk, and frees all else that was read. */
 void saved_resume(struct saved *saved, struct machine *machine);
 
 #endif

@@ -95,6 +95,21 @@ static void take(struct words *words, int option)
     }
 }
 
+const char *saved_file(const char *word)
+{
+    static const char SAVED[] = "saved:";
+    size_t len = strlen(SAVED);
+    return strncmp(word, SAVED, len) == 0 ? word + len : NULL;
+}
+
+static bool has_saved_guest(const struct words *words)
+{
+    bool found = words->save != NULL;
+    for (size_t i = 0; i < words->count; i++)
+        found = found || saved_file(words->guests[i]) != NULL;
+    return found;
+}
+
 struct words words_of(int argc, char **argv)
 {
     struct words words = {
@@ -110,6 +125,8 @@ struct words words_of(int argc, char **argv)
         fail("--kernel, --tree and one to sixteen guests are wanted");
     if (words.image != NULL && words.kept >= 0)
         fail("--image beside --keep");
+    if (has_saved_guest(&words) && (words.image != NULL || words.record != NULL))
+        fail("a saved guest beside --image or --record");
     if (words.hosted && (words.image != NULL || words.kept >= 0 || words.record != NULL))
         fail("--hosted beside --image, --keep or --record");
     return words;

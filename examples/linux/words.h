@@ -32,6 +32,9 @@ struct words {
 /* Ends the process where the words aren't as they should be. */
 struct words words_of(int argc, char **argv);
 
+/* The file of a word saved:FILE, a guest that goes on from it; else NULL. */
+const char *saved_file(const char *word);
+
 /* Says what went wrong, and ends the process. */
 _Noreturn void fail(const char *what);
 
