@@ -1,7 +1,7 @@
 /*
  * linux-machine --kernel FILE --tree FILE [OPTION].. GUEST..: a guest for each word, which is the file of its disk,
- * "noise", or saved:FILE, a guest that --save saved and that goes on. All share one board: one image of their disks, and one
- * cache. They run in turns until each is off.
+ * "noise", or saved:FILE, a guest that --save saved and that goes on. All share one board: one image of their disks,
+ * and one cache. They run in turns until each is off.
  *
  *   --to FOLDER       where each guest's console, disk and report go, as guest-0.console
  *   --script TEXT     lines to type, one at each prompt
