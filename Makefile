@@ -116,7 +116,8 @@ embed:
 
 # Boots Linux on the board: two guests, their consoles side by side. GUEST=0 shows one of them, INTERACTIVE=1 gives a
 # person the console of guest 0, RECORD=FILE writes what the guests did as a trace, DISK=FILE keeps guest 0's disk,
-# IMAGE=FILE has both disks in place, and DISKS=hosted has the host serve each from a file.
+# IMAGE=FILE has both disks in place, DISKS=hosted has the host serve each from a file, and SAVE_GUEST=FILE saves guest 0,
+# which RESUME_GUEST=FILE goes on with.
 linux:
 	@examples/linux/run
 

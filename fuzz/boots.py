@@ -12,7 +12,7 @@ import subprocess
 import sys
 import tempfile
 
-from medium import END, LIE, OUTPUT, SECTOR, SYNC, WRITE, ZEROS, Medium, entries_of, is_torn
+from medium import END, LIE, OUTPUT, SECTOR, SYNC, WRITE, ZEROS, Followed, entries_of, is_torn
 
 HERE = os.path.dirname(os.path.abspath(__file__))
 LINUX = os.path.join(os.path.dirname(HERE), "examples", "linux")
@@ -25,6 +25,9 @@ GUESTS = 2
 SIZES = {1024: (8, 1), 4096: (16, 4)}
 RAW = 64 * 4096
 NAME = "6b616c79-7562-6f73-0000-00000000000{}"
+
+# Disks are compared by so many bytes at once.
+PART = 1 << 16
 
 # Where files are looked at: in memory, where there is a place for it, since e2fsck syncs what it changes.
 LOOKED_AT = "/dev/shm" if os.access("/dev/shm", os.W_OK) else None
@@ -65,8 +68,9 @@ def booted(seed, shim, files):
             alone = [boot.log([guest]) for guest in range(GUESTS)]
             for guest in range(GUESTS):
                 check_alone(guest, log, alone[guest])
-            for moment in dice.sample(range(len(log) + 1), files):
-                check_left(boot, log, alone, moment, dice, counts)
+            stops = Stops(boot, log, alone)
+            for moment in sorted(dice.sample(range(len(log) + 1), files)):
+                stops.check(moment, dice, counts)
             if seed % 10 == 0:
                 check_lies(boot, alone, dice, counts)
         except Finding as finding:
@@ -129,6 +133,11 @@ def own(entries, file):
     return [entry for entry in entries if entry.call in calls or entry.kind == OUTPUT and entry.file == file]
 
 
+def calls_of(entries, file):
+    """The calls of one file, and their ends."""
+    return [entry for entry in own(entries, file) if entry.kind != OUTPUT]
+
+
 def deeds(entries):
     """The writes and syncs, and all that is told."""
     calls = [(entry.kind, entry.at, entry.data) for entry in entries if entry.kind in (WRITE, ZEROS, SYNC)]
@@ -141,22 +150,25 @@ def check_alone(guest, log, alone):
         raise Finding(f"guest {guest} writes or tells another thing beside the other guest than alone")
 
 
-def check_left(boot, log, alone, moment, dice, counts):
-    """One file of each disk that a stop at this moment leaves: one guest's files are in it, and the other's bytes are its own."""
-    guest = dice.randrange(GUESTS)
-    left = [medium_at(boot.disks[number], number, log[:moment]).one_left(dice) for number in range(GUESTS)]
-    told = told_by(log[:moment], guest)
-    check_files(boot, guest, left[guest], told)
-    check_own(boot, 1 - guest, left[1 - guest], alone[1 - guest], log[:moment])
-    counts["stops"] += 1
-    counts["files that were told"] += len(told)
+class Stops:
+    """The stops of a boot: both disks as its log goes, and each as the log of its guest alone does."""
 
+    def __init__(self, boot, log, alone):
+        self.boot, self.log = boot, log
+        self.disks = [Followed(boot.disks[guest], guest, log) for guest in range(GUESTS)]
+        self.alone = [Followed(boot.disks[guest], 0, calls_of(alone[guest], 0)) for guest in range(GUESTS)]
+        self.calls = [{entry.call for entry in calls_of(log, guest)} for guest in range(GUESTS)]
 
-def medium_at(content, file, entries):
-    medium = Medium(content, file)
-    for entry in entries:
-        medium.take(entry)
-    return medium
+    def check(self, moment, dice, counts):
+        """One file of each disk that a stop at this moment leaves: one guest's files are in it, and the other's bytes are its own."""
+        guest = dice.randrange(GUESTS)
+        left = [disk.at(moment).one_left(dice) for disk in self.disks]
+        told = told_by(self.log[:moment], guest)
+        check_files(self.boot, guest, left[guest], told)
+        done = len([entry for entry in self.log[:moment] if entry.call in self.calls[1 - guest]])
+        check_own(1 - guest, left[1 - guest], self.alone[1 - guest].at(done))
+        counts["stops"] += 1
+        counts["files that were told"] += len(told)
 
 
 def told_by(entries, guest):
@@ -188,19 +200,23 @@ def check_files(boot, guest, disk, told):
             raise Finding(f"guest {guest}: its file {file} was synced and told, and {what}")
 
 
-def check_own(boot, guest, disk, alone, log):
+def check_own(guest, disk, medium):
     """That a disk is what a stop may leave of its guest's own writes, as far as it has come."""
-    done = len([entry for entry in own(log, guest) if entry.kind != OUTPUT])
-    entries = [entry for entry in own(alone, 0) if entry.kind != OUTPUT][:done]
-    medium = medium_at(boot.disks[guest], 0, entries)
-    for sector in range(len(disk) // SECTOR):
+    for sector in other_sectors(disk, medium.safe):
         first, last = SECTOR * sector, SECTOR * (sector + 1)
-        if disk[first:last] == medium.safe[first:last]:
-            continue
         written = [write.data[first - write.at:last - write.at] for write in medium.unsafe.values()
                    if write.at <= first and last <= write.at + write.count]
         if not is_torn(disk[first:last], [medium.safe[first:last]] + written):
             raise Finding(f"guest {guest}: its sector {sector} has bytes that it didn't write, while the other is stopped")
+
+
+def other_sectors(one, other):
+    """The sectors in which two disks of one length differ."""
+    for start in range(0, len(one), PART):
+        if one[start:start + PART] != other[start:start + PART]:
+            for at in range(start, min(start + PART, len(one)), SECTOR):
+                if one[at:at + SECTOR] != other[at:at + SECTOR]:
+                    yield at // SECTOR
 
 
 @functools.lru_cache(maxsize=200)
@@ -217,9 +233,10 @@ def check_lies(boot, alone, dice, counts):
     """That syncs which are answered at once, and not done, are found."""
     log = boot.log([0, 1], "20 on")
     first = next(at for at, entry in enumerate(log) if entry.kind == LIE)
+    stops = Stops(boot, log, alone)
     for _ in range(50):
         try:
-            check_left(boot, log, alone, dice.randrange(first, len(log) + 1), dice, collections.Counter())
+            stops.check(dice.randrange(first, len(log) + 1), dice, collections.Counter())
         except Finding:
             counts["boots without syncs, and found"] += 1
             return

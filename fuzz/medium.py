@@ -30,6 +30,26 @@ def entries_of(log):
     return entries
 
 
+class Followed:
+    """A file that is followed through a log, best from moment to later moment."""
+
+    def __init__(self, content, file, entries):
+        self.content, self.file, self.entries = content, file, entries
+        self.start()
+
+    def start(self):
+        self.medium, self.moment = Medium(self.content, self.file), 0
+
+    def at(self, moment):
+        """The file after so many entries."""
+        if moment < self.moment:
+            self.start()
+        for entry in self.entries[self.moment:moment]:
+            self.medium.take(entry)
+        self.moment = moment
+        return self.medium
+
+
 class Medium:
     """One file at one moment."""
 
@@ -73,7 +93,7 @@ class Medium:
                 yield self.one_left(dice)
             return
         orders = itertools.chain.from_iterable(itertools.permutations(writes, count) for count in range(len(writes) + 1))
-        yield from dict.fromkeys(map(self.with_writes, orders))
+        yield from dict.fromkeys(bytes(self.with_writes(order)) for order in orders)
         for write in writes:
             yield self.with_writes(self.torn(write, dice))
 
@@ -90,7 +110,7 @@ class Medium:
         content = bytearray(self.safe)
         for write in writes:
             put(content, write)
-        return bytes(content)
+        return content
 
     @staticmethod
     def torn(write, dice):

@@ -277,6 +277,24 @@ bool board_line(uint8_t slot, uint8_t window)
     return (window == KALYUBOS_BLOCK ? waits[slot].block : waits[slot].console) != 0;
 }
 
+uint8_t *board_save(uint8_t slot, size_t *len)
+{
+    must(kalyubos_saved_len(&board, slot, len), "saved_len");
+    uint8_t *devices = malloc(*len);
+    if (devices == NULL)
+        must(KALYUBOS_NO_MEMORY, "save");
+    must(kalyubos_save(&board, slot, devices, *len, len), "save");
+    if (settings.hosted && fdatasync(disks[slot].file) != 0)
+        must(KALYUBOS_BAD_RANGE, settings.names[slot]);
+    return devices;
+}
+
+void board_restore(uint8_t slot, const uint8_t *devices, size_t len)
+{
+    before(slot);
+    must(kalyubos_restore(&board, slot, devices, len, &waits[slot]), "restore");
+}
+
 void board_disk(uint8_t slot, uint8_t *into, size_t len)
 {
     uint64_t start = 0;

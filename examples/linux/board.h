@@ -77,6 +77,13 @@ size_t board_output(uint8_t slot, uint8_t *into, size_t len);
 /* Whether a window's interrupt line is high. */
 bool board_line(uint8_t slot, uint8_t window);
 
+/*
+ * Saves the slot's devices, of which nothing is paused or in flight, as `len` bytes that the caller frees; and brings them
+ * back, on a slot of the same description with the bytes of its memory and disk.
+ */
+uint8_t *board_save(uint8_t slot, size_t *len);
+void board_restore(uint8_t slot, const uint8_t *devices, size_t len);
+
 /* Copies the bytes of the slot's disk. */
 void board_disk(uint8_t slot, uint8_t *into, size_t len);
 

@@ -699,3 +699,13 @@ void cpu_reset(struct cpu *cpu, uint64_t pc)
     forget_translations(cpu);
     set_mode(cpu, false);
 }
+
+void cpu_resume(struct cpu *cpu, const struct cpu *other)
+{
+    uint8_t *memory = cpu->memory;
+    struct cpu_bus bus = cpu->bus;
+    *cpu = *other;
+    cpu->memory = memory;
+    cpu->bus = bus;
+    forget_translations(cpu);
+}

@@ -54,6 +54,9 @@ struct cpu {
 /* A CPU in mode S, untranslated, at an address. */
 void cpu_reset(struct cpu *cpu, uint64_t pc);
 
+/* Goes on as another CPU did, in this one's memory and on its bus. */
+void cpu_resume(struct cpu *cpu, const struct cpu *other);
+
 /* Runs instructions until `cycles` is `stop_at`, or until it waits. */
 void cpu_run(struct cpu *cpu);
 

@@ -249,7 +249,7 @@ static void place(struct machine *machine, uint64_t offset, struct machine_file 
     memcpy(machine->cpu.memory + offset, file.bytes, file.len);
 }
 
-void machine_start(struct machine *machine, uint8_t slot, struct machine_file kernel, struct machine_file tree)
+void machine_open(struct machine *machine, uint8_t slot)
 {
     machine->slot = slot;
     machine->timer = machine->due = NEVER;
@@ -257,10 +257,31 @@ void machine_start(struct machine *machine, uint8_t slot, struct machine_file ke
     machine->cpu.memory_base = MEMORY_BASE;
     machine->cpu.memory_len = MEMORY_LEN;
     machine->cpu.bus = (struct cpu_bus){ machine, bus_load, bus_store, call };
+}
+
+void machine_start(struct machine *machine, struct machine_file kernel, struct machine_file tree)
+{
     place(machine, KERNEL, kernel);
     place(machine, TREE, tree);
     cpu_reset(&machine->cpu, MEMORY_BASE + KERNEL);
     machine->cpu.x[A1] = MEMORY_BASE + TREE;
+}
+
+void machine_resume(struct machine *machine, const struct machine *other, const char *script)
+{
+    static struct machine ours;
+    ours = *machine;
+    *machine = *other;
+    machine->slot = ours.slot;
+    machine->late = ours.late;
+    machine->latency = ours.latency;
+    machine->early = ours.early;
+    machine->mistakes = ours.mistakes;
+    machine->cpu = ours.cpu;
+    machine->terminal = ours.terminal;
+    cpu_resume(&machine->cpu, &other->cpu);
+    terminal_resume(&machine->terminal, &other->terminal, script);
+    move_lines(machine);
 }
 
 /* The first of the moments ahead: the timer's, the disk's and the end. */
@@ -285,6 +306,14 @@ void machine_run(struct machine *machine, uint64_t cycles)
         if (!machine->paused)
             cpu_run(cpu);
     } while (!machine->off && !machine->paused && !cpu->waits && cpu->cycles < end);
+}
+
+bool machine_stop(struct machine *machine)
+{
+    if (machine->paused || machine->flies)
+        return false;
+    take_output(machine);
+    return true;
 }
 
 bool machine_stands(const struct machine *machine)

@@ -50,8 +50,14 @@ struct machine_file {
     size_t len;
 };
 
+/* Puts a machine round a slot. */
+void machine_open(struct machine *machine, uint8_t slot);
+
 /* Loads the kernel and the tree into the slot's memory. */
-void machine_start(struct machine *machine, uint8_t slot, struct machine_file kernel, struct machine_file tree);
+void machine_start(struct machine *machine, struct machine_file kernel, struct machine_file tree);
+
+/* Goes on as another machine did, whose memory and devices the slot has, with the lines of this script. */
+void machine_resume(struct machine *machine, const struct machine *other, const char *script);
 
 /* Goes on with the service that is paused, where one is, and completes what its disk has done. */
 void machine_go_on(struct machine *machine);
@@ -64,6 +70,9 @@ void machine_pass(struct machine *machine);
 
 /* Whether it goes on only once its disk is done, or its service. */
 bool machine_stands(const struct machine *machine);
+
+/* Stops it where nothing of it is paused or under way, and takes what it put out; false where something is. */
+bool machine_stop(struct machine *machine);
 
 /* Types to the console what its terminal has, and takes what it put out; nothing while it is paused. */
 void machine_talk(struct machine *machine);

@@ -1,6 +1,7 @@
 /*
- * linux-machine --kernel FILE --tree FILE [OPTION].. GUEST..: a guest for each word, which is the file of its disk, or
- * "noise". All share one board: one image of their disks, and one cache. They run in turns until each is off.
+ * linux-machine --kernel FILE --tree FILE [OPTION].. GUEST..: a guest for each word, which is the file of its disk,
+ * "noise", or saved:FILE, a guest that --save saved and that goes on. All share one board: one image of their disks,
+ * and one cache. They run in turns until each is off.
  *
  *   --to FOLDER       where each guest's console, disk and report go, as guest-0.console
  *   --script TEXT     lines to type, one at each prompt
@@ -17,6 +18,8 @@
  *   --cycles COUNT    leaves a guest that isn't off by then
  *   --record FILE     writes what the guests did as a trace, and the answers to FILE.records
  *   --keep GUEST      writes that guest's disk back to its file at the end
+ *   --save FILE       saves guest 0, its disk among it, to FILE, a file or a pipe, and leaves it then
+ *   --save-at COUNT   once it has run so many cycles, and nothing of it is paused or under way
  *   --image FILE      serves all disks in place from FILE, where they stand one after the other; of the guests' own files
  *                     only the names and the lengths count
  *   --hosted WAY      serves each disk from its guest's file in place, by a board whose disks are the host's: WAY is `ring`,
@@ -39,12 +42,15 @@
 #include "machine.h"
 #include "noise.h"
 #include "report.h"
+#include "saved.h"
 #include "words.h"
 
-enum { GUESTS = 16, PATH = 4096, SECTOR = 512, TURN = 1000000, ACTS = 5000, NOISE_SECTORS = 64 };
+enum { GUESTS = 16, PATH = 4096, SECTOR = 512, TURN = 1000000, STEP = 100, ACTS = 5000, NOISE_SECTORS = 64 };
 
 struct guest {
     bool is_noise;
+    bool left; /* it was saved, and goes on elsewhere */
+    struct saved *saved;
     uint64_t sectors;
     struct machine machine;
     struct noise noise;
@@ -88,8 +94,12 @@ static void power_on(size_t index, struct machine_file kernel, struct machine_fi
     machine->terminal.screen = screen_of(index);
     machine->terminal.log = create_file(words.to, index, "console");
     machine->terminal.script = words.script;
-    machine_start(machine, index, kernel, tree);
+    machine_open(machine, index);
     board_watch(index, machine->mistakes);
+    if (guests[index].saved != NULL)
+        saved_resume(guests[index].saved, machine);
+    else
+        machine_start(machine, kernel, tree);
 }
 
 /* The disk of noise is zeros; where the host serves it, they are a file in the folder. */
@@ -107,14 +117,34 @@ static struct machine_file disk_of_noise(size_t guest)
     return (struct machine_file){ zeros, NOISE_SECTORS * SECTOR };
 }
 
+/* The disk of a guest that was saved; where the host serves it, its file gets the bytes that it had then. */
+static struct machine_file disk_of_saved(size_t guest, const char *path)
+{
+    struct saved *saved = saved_read(path);
+    guests[guest].saved = saved;
+    struct machine_file disk = saved_disk(saved);
+    words.guests[guest] = saved_disk_name(saved);
+    if (words.hosted)
+        replace_file(words.guests[guest], disk.bytes, disk.len);
+    return disk;
+}
+
+static struct machine_file disk_of(size_t guest)
+{
+    const char *word = words.guests[guest], *saved = saved_file(word);
+    guests[guest].is_noise = strcmp(word, "noise") == 0;
+    if (guests[guest].is_noise)
+        return disk_of_noise(guest);
+    return saved != NULL ? disk_of_saved(guest, saved) : read_file(word);
+}
+
 /* The disks' bytes, one disk after the other, and how many they are. */
 static uint8_t *image_of_guests(size_t *all)
 {
     uint8_t *image = NULL;
     size_t len = 0;
     for (size_t i = 0; i < words.count; i++) {
-        guests[i].is_noise = strcmp(words.guests[i], "noise") == 0;
-        struct machine_file disk = guests[i].is_noise ? disk_of_noise(i) : read_file(words.guests[i]);
+        struct machine_file disk = disk_of(i);
         image = realloc(image, len + disk.len);
         if (image == NULL)
             fail("the image");
@@ -153,20 +183,45 @@ static void open_guests(void)
 
 static bool is_on(const struct guest *guest)
 {
-    return !guest->is_noise && !guest->machine.off && guest->machine.cpu.cycles < words.cycles;
+    return !guest->is_noise && !guest->left && !guest->machine.off && guest->machine.cpu.cycles < words.cycles;
+}
+
+static bool is_saved_here(const struct guest *guest)
+{
+    return words.save != NULL && guest == &guests[0] && guest->machine.cpu.cycles >= words.save_at;
+}
+
+/* How far a guest runs in its turn: guest 0 no further than to where it is saved, and then by steps until it can be. */
+static uint64_t cycles_of_turn(const struct guest *guest)
+{
+    uint64_t cycles = guest->machine.cpu.cycles;
+    if (is_saved_here(guest))
+        return STEP;
+    bool comes_near = words.save != NULL && guest == &guests[0] && words.save_at - cycles < TURN;
+    return comes_near ? words.save_at - cycles : TURN;
 }
 
 /* A guest whose service is paused waits for it: nothing else is done for it in this turn but a piece of the service. */
-static void take_turn(struct machine *machine)
+static void take_turn(struct guest *guest)
 {
+    struct machine *machine = &guest->machine;
     machine_go_on(machine);
     if (machine_stands(machine))
         return;
-    machine_run(machine, TURN);
+    machine_run(machine, cycles_of_turn(guest));
     if (machine->cpu.waits || machine->off)
         machine_talk(machine);
     if (machine->cpu.waits)
         machine_pass(machine);
+}
+
+/* Saves a guest once its moment has come, and leaves it. */
+static void save(struct guest *guest)
+{
+    if (!is_saved_here(guest) || !machine_stop(&guest->machine))
+        return;
+    saved_write(words.save, &guest->machine, words.guests[0], guest->sectors * SECTOR);
+    guest->left = true;
 }
 
 /* Gives each guest that is on a turn; waits where all wait for their disks. */
@@ -177,7 +232,9 @@ static void turn(void)
         if (guests[i].is_noise)
             noise_run(&guests[i].noise, ACTS);
         else if (is_on(&guests[i]))
-            take_turn(&guests[i].machine);
+            take_turn(&guests[i]);
+    if (is_on(&guests[0]))
+        save(&guests[0]);
     for (size_t i = 0; i < words.count; i++)
         stand = stand && (!is_on(&guests[i]) || machine_stands(&guests[i].machine));
     if (stand && words.hosted)
@@ -229,17 +286,19 @@ static void listen(struct machine *machine)
 
 /* ---- the end */
 
-/* Whether all went off. */
+/* Whether all went off, or on elsewhere. */
 static bool report_guests(void)
 {
-    bool good = true;
+    bool good = words.save == NULL || guests[0].left;
+    if (!good)
+        printf("guest 0: it was off before it was to be saved\n");
     for (size_t i = 0; i < words.count; i++) {
         const char *kept = words.kept == (int)i && !guests[i].is_noise ? words.guests[i] : NULL;
         report_disk(i, guests[i].sectors * SECTOR, words.to, kept);
         if (guests[i].is_noise)
             printf("guest %zu: noise, %llu writes\n", i, (unsigned long long)guests[i].noise.writes);
         else
-            good = report_machine(&guests[i].machine, words.to) && good;
+            good = (report_machine(&guests[i].machine, words.to) || guests[i].left) && good;
     }
     return good;
 }

@@ -60,3 +60,13 @@ void terminal_took(struct terminal *terminal, size_t len)
     terminal->typed_len -= len;
     memmove(terminal->typed, terminal->typed + len, terminal->typed_len);
 }
+
+void terminal_resume(struct terminal *terminal, const struct terminal *other, const char *script)
+{
+    struct terminal ours = *terminal;
+    *terminal = *other;
+    terminal->number = ours.number;
+    terminal->screen = ours.screen;
+    terminal->log = ours.log;
+    terminal->script = script;
+}

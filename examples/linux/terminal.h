@@ -30,6 +30,9 @@ void terminal_show(struct terminal *terminal, const uint8_t *bytes, size_t len);
 /* Types bytes, as many as there is room for. */
 void terminal_type(struct terminal *terminal, const uint8_t *bytes, size_t len);
 
+/* Goes on as another terminal did, with the lines of this script, on this one's screen and log. */
+void terminal_resume(struct terminal *terminal, const struct terminal *other, const char *script);
+
 /* The console took so many. */
 void terminal_took(struct terminal *terminal, size_t len);
 

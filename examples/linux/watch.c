@@ -4,7 +4,6 @@
 #include <string.h>
 
 #include "mistake.h"
-#include "window.h"
 
 enum { SLOTS = 64, WINDOWS = 2, CONFIGURATION = 0x100 };
 
@@ -40,6 +39,11 @@ void watch_guest(uint8_t slot, const struct queue_memory *memory, FILE *told)
 size_t watch_count(uint8_t slot)
 {
     return slot < SLOTS ? guests[slot].count : 0;
+}
+
+struct window *watch_windows(uint8_t slot)
+{
+    return guests[slot].windows;
 }
 
 __attribute__((format(printf, 3, 4)))

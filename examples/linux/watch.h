@@ -9,7 +9,7 @@
 #include <stdio.h>
 
 #include "kalyubos.h"
-#include "queue.h"
+#include "window.h"
 
 /* A guest's access to a register; what was typed to its console, or a completion of its disk, which have no register. */
 struct watch_call {
@@ -26,6 +26,9 @@ void watch_guest(uint8_t slot, const struct queue_memory *memory, FILE *told);
 /* How many mistakes there were, the untold ones among them: no more than WATCH_TOLD are. */
 enum { WATCH_TOLD = 100 };
 size_t watch_count(uint8_t slot);
+
+/* What is known of its windows, in their order, to keep beside a guest that is saved. */
+struct window *watch_windows(uint8_t slot);
 
 /* What stands before each call of a guest that is watched, and after it; `line` is the trace's line of the call, or 0. */
 void watch_before(const struct watch_call *call);

@@ -50,7 +50,8 @@ static const struct option OPTIONS[] = {
     { "keep", required_argument, NULL, 'b' },    { "kernel", required_argument, NULL, 'k' },
     { "late", no_argument, NULL, 'l' },          { "latency", required_argument, NULL, 'u' },
     { "outlet", required_argument, NULL, 'o' },  { "quiet", no_argument, NULL, 'q' },
-    { "record", required_argument, NULL, 'r' },  { "script", required_argument, NULL, 's' },
+    { "record", required_argument, NULL, 'r' },  { "save", required_argument, NULL, 'v' },
+    { "save-at", required_argument, NULL, 'e' }, { "script", required_argument, NULL, 's' },
     { "show", required_argument, NULL, 'g' },    { "to", required_argument, NULL, 'd' },
     { "tree", required_argument, NULL, 't' },    { "without", required_argument, NULL, 'w' },
     { NULL, 0, NULL, 0 },
@@ -72,6 +73,7 @@ static void take(struct words *words, int option)
     case 'b': words->kept = number(optarg); break;
     case 'c': words->cache = number(optarg); break;
     case 'd': words->to = optarg; break;
+    case 'e': words->save_at = number(optarg); break;
     case 'g': words->shown = number(optarg); break;
     case 'h': host(words, optarg); break;
     case 'i': words->interactive = true; break;
@@ -86,10 +88,26 @@ static void take(struct words *words, int option)
     case 's': words->script = optarg; break;
     case 't': words->tree = optarg; break;
     case 'u': words->latency = strcmp(optarg, "real") == 0 ? UINT64_MAX : number(optarg); break;
+    case 'v': words->save = optarg; break;
     case 'w': words->hidden |= feature(optarg); break;
     case 'y': words->bytes = number(optarg); break;
     default: exit(2);
     }
+}
+
+const char *saved_file(const char *word)
+{
+    static const char SAVED[] = "saved:";
+    size_t len = strlen(SAVED);
+    return strncmp(word, SAVED, len) == 0 ? word + len : NULL;
+}
+
+static bool has_saved_guest(const struct words *words)
+{
+    bool found = words->save != NULL;
+    for (size_t i = 0; i < words->count; i++)
+        found = found || saved_file(words->guests[i]) != NULL;
+    return found;
 }
 
 struct words words_of(int argc, char **argv)
@@ -107,6 +125,8 @@ struct words words_of(int argc, char **argv)
         fail("--kernel, --tree and one to sixteen guests are wanted");
     if (words.image != NULL && words.kept >= 0)
         fail("--image beside --keep");
+    if (has_saved_guest(&words) && (words.image != NULL || words.record != NULL))
+        fail("a saved guest beside --image or --record");
     if (words.hosted && (words.image != NULL || words.kept >= 0 || words.record != NULL))
         fail("--hosted beside --image, --keep or --record");
     return words;

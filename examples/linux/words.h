@@ -10,6 +10,8 @@ struct words {
     const char *kernel, *tree;
     const char *to;     /* the folder of the guests' files */
     const char *script; /* the lines that are typed, one at each prompt */
+    const char *save; /* the file that guest 0 is saved to, or NULL, */
+    uint64_t save_at; /* once it has run so many cycles */
     const char *record;
     const char *image; /* the file of all disks, which is served in place, or NULL */
     bool hosted;       /* each disk is the guest's file, which the host serves, */
@@ -29,6 +31,9 @@ struct words {
 
 /* Ends the process where the words aren't as they should be. */
 struct words words_of(int argc, char **argv);
+
+/* The file of a word saved:FILE, a guest that goes on from it; else NULL. */
+const char *saved_file(const char *word);
 
 /* Says what went wrong, and ends the process. */
 _Noreturn void fail(const char *what);
