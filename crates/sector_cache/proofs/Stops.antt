@@ -1,10 +1,10 @@
 -- What a stop may leave, through one call after another.
 use Rattle.std.proofs.Common.{◌≡◌, ℕ, ◌+◌, ◌-◌, ◌*◌, ◌≤◌, inl, inr, ◌⊎◌, ⊎_elim, List, ◌++◌, length, take, drop, Option, None, Some, refl, sym, ◌∙◌, ap, subst, arith}
-use Rattle.std.specs.Prelude.{Bool, false, IfSome, ⊤}
+use Rattle.std.specs.Prelude.{false, IfSome, ⊤}
 use Rattle.std.proofs.lemmas.List.{drop-drop, drop-take, drop_at, length-take-le, take-take, take_at}
 use Rattle.sector_cache.specs.Disk.{Disk, LeavesTold}
 use Rattle.sector_cache.specs.Sector.{extent_of, with_sector}
-use Rattle.sector_cache.specs.Stop.{BeginsAt, DiffersWithin, IsCut, Touches}
+use Rattle.sector_cache.specs.Stop.{BeginsAt, DiffersWithin, IsCut, Only, Touches}
 
 -- Bytes that differ within a range.
 
@@ -127,11 +127,21 @@ module _ (start end : ℕ) where
     between = λ since left past. inl tt;
   }
 
+  begun : {t u : ℕ} {a b : List ℕ → Type 0} {p q : ℕ → List ℕ → Type 0} (since : ℕ) (left : List ℕ) → Touches start end t u a b p q → BeginsAt a p since → q since left → IsCut start end a left
+  begun {t} {u} {a} {b} {p} {q} since left h begins past =
+      ⊎_elim (λ sooner. cut_none a left (begins left sooner)) (λ cut. cut) (h.between since left past)
+
+  -- Where a stop could leave these bytes alone it leaves them but for the range.
+  pub known_beside : {t u : ℕ} {a b : List ℕ → Type 0} {p q : ℕ → List ℕ → Type 0} (since : ℕ) (bytes left : List ℕ) → Touches start end t u a b p q → BeginsAt a p since → Only bytes a → q since left → DiffersWithin start end bytes left
+  known_beside {t} {u} {a} {b} {p} {q} since bytes left h begins only past =
+      let cut : IsCut start end a left = begun since left h begins past in
+      subst (λ whole. DiffersWithin start end whole left) (only cut.whole cut.may) cut.within
+
   -- With a clear mark a stop leaves what is told but for these bytes.
   pub told_beside : {t u : ℕ} {a b : List ℕ → Type 0} {p q : ℕ → List ℕ → Type 0} (disk : Disk) (since : ℕ) (left : List ℕ) → Touches start end t u a b p q → BeginsAt a p since
       → ((whole : List ℕ) → a whole → LeavesTold disk whole) → disk.mark ≡ false → q since left → IfSome disk.told (λ bytes. DiffersWithin start end bytes left)
   told_beside {t} {u} {a} {b} {p} {q} disk since left h begins durable clear past =
-      let cut : IsCut start end a left = ⊎_elim (λ sooner. cut_none a left (begins left sooner)) (λ cut. cut) (h.between since left past) in
+      let cut : IsCut start end a left = begun since left h begins past in
       beside disk.told (durable cut.whole cut.may clear) cut.within
     where
       beside : {whole : List ℕ} (told : Option (List ℕ)) → IfSome told (λ bytes. whole ≡ bytes) → DiffersWithin start end whole left → IfSome told (λ bytes. DiffersWithin start end bytes left)

@@ -6,7 +6,7 @@ pub record DiffersWithin (start end : ℕ) (old new : List ℕ) : Type 0 where
   pub before : take start new ≡ take start old
   pub behind : drop end new ≡ drop end old
 
--- a stop may leave this of bytes that it may leave else, and any bytes from `start` to `end`
+-- these are bytes that a stop may leave, but for any bytes from `start` up to `end`: there a write was cut
 pub record IsCut (start end : ℕ) (may_leave : List ℕ → Type 0) (left : List ℕ) : Type 0 where
   pub whole : List ℕ
   pub may : may_leave whole
@@ -45,6 +45,10 @@ unnumbered image = 0
 abbrev pub unrecorded : {I : Type 0} → I → ℕ → List ℕ → Type 0
 unrecorded image since left = ⊤
 
--- nothing might have been left since then but what may be left now, as where the record begins
+-- a stop leaves these bytes and no others
+abbrev pub Only : List ℕ → (List ℕ → Type 0) → Type 0
+Only bytes may_leave = (left : List ℕ) → may_leave left → left ≡ bytes
+
+-- nothing might have been left since that number but what may be left now, as since the number of this moment
 abbrev pub BeginsAt : (may_leave : List ℕ → Type 0) → (left_since : ℕ → List ℕ → Type 0) → ℕ → Type 0
 BeginsAt may_leave left_since since = (left : List ℕ) → left_since since left → may_leave left

@@ -5,7 +5,7 @@ ghost use Rattle.sector_cache.specs.FileImage.{IsSettled, disk_of as file_disk_o
 ghost use Rattle.sector_cache.specs.MemoryImage.{disk_of as memory_disk_of};
 ghost use Rattle.sector_cache.specs.ScriptedImage.{disk_of as scripted_disk_of};
 ghost use Rattle.sector_cache.specs.Sector.{extent_of};
-ghost use Rattle.sector_cache.specs.Stop.{BeginsAt, DiffersWithin, TouchesOnly};
+ghost use Rattle.sector_cache.specs.Stop.{BeginsAt, DiffersWithin, Only, TouchesOnly};
 ghost use Rattle.sector_cache.specs.declared.file_image.FileImage.{FileImage};
 ghost use Rattle.sector_cache.specs.declared.memory.MemoryImage.{MemoryImage};
 ghost use Rattle.sector_cache.specs.declared.scripted.ScriptedImage.{ScriptedImage};
@@ -29,11 +29,16 @@ pub fn a_flushed_file_outlasts_a_stop<F: BackingFile>()
         IfSome (F.held (file_of image)) (λ bytes. left ≡ bytes) }
 {}
 
-/// Calls that touch no byte but those from `start` to `end`, and began with a clear mark: a stop at any moment since, within
-/// a call too, leaves exactly what was told of all other bytes (`beside`), and so of each extent that is apart (`apart`). It
-/// rests on an image that records what a stop might have left, from a moment at which nothing else was.
+/// A stop at any moment within calls that touch only the bytes from `start` to `end`, whatever failed: where one before them
+/// could leave these bytes alone, it leaves them but for that range (`known`), and where the mark was clear then, what was
+/// told (`told`). So each extent apart from the range is as it was (`apart`). It rests on an image that records what a
+/// stop might have left, from a moment before the calls.
 pub fn a_cut_call_touches_nothing_else<I: Image>()
-    ensures beside { (old new : I) (start end since : ℕ) (left : List ℕ) →
+    ensures known { (old new : I) (start end since : ℕ) (bytes left : List ℕ) →
+        TouchesOnly I.moment I.may_leave I.left_since start end old new → Only bytes (I.may_leave old) →
+        BeginsAt (I.may_leave old) (I.left_since old) since → I.left_since new since left →
+        DiffersWithin start end bytes left }
+    ensures told { (old new : I) (start end since : ℕ) (left : List ℕ) →
         TouchesOnly I.moment I.may_leave I.left_since start end old new → (I.disk old).mark ≡ false →
         BeginsAt (I.may_leave old) (I.left_since old) since → I.left_since new since left →
         IfSome (I.disk old).told (λ bytes. DiffersWithin start end bytes left) }
