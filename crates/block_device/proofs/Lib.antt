@@ -12,6 +12,7 @@ pub mod Pieces
 pub mod Requests
 pub mod SomeAnswer
 pub mod Telling
+pub mod Touching
 pub mod Transfers
 pub mod Unasked
 pub mod Zeroing

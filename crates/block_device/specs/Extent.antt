@@ -3,6 +3,7 @@ use Rattle.std.specs.Prelude.{◌≡◌, ℕ, ◌+◌, ◌*◌, ◌≤◌, Bool,
 use Rattle.std.specs.Option.{option_map}
 use Rattle.sector_cache.specs.Sector.{extent_of}
 use Rattle.sector_cache.specs.Disk.{Disk, KeepsClear}
+use Rattle.sector_cache.specs.Stop.{TouchesOnly}
 use Rattle.block_device.specs.declared.extent.Extent.{Extent}
 
 -- how many bytes a sector has (5.2.4)
@@ -45,6 +46,11 @@ pub record StaysInExtent (extent : Extent) (old new : Disk) : Type 0 where
   pub rises : old.failures ≤ new.failures
   pub clear : KeepsClear old new
   pub outside : KeepsOutside extent old new
+
+-- Nor does a stop at any moment, within a call too, leave anything else outside of the extent: whatever is cut short.
+abbrev pub TouchesExtent : {I : Type 0} → (moment : I → ℕ) → (may_leave : I → List ℕ → Type 0) → (left_since : I → ℕ → List ℕ → Type 0) → (extent : Extent) → (old new : I) → Type 0
+TouchesExtent moment may_leave left_since extent old new =
+    TouchesOnly moment may_leave left_since (sector_len * extent.start) (sector_len * (extent.start + extent.count)) old new
 
 -- the same for one request, of which at most one call fails
 pub record CallsWithin (extent : Extent) (failed : Bool) (old new : Disk) : Type 0 where

@@ -7,7 +7,7 @@ ghost use Rattle.chain.specs.Bytes.{writable_of};
 ghost use Rattle.chain.specs.Service.{Does};
 ghost use Rattle.block_device.specs.Asking.{Begins, IsAsked, used_by, with_status};
 ghost use Rattle.block_device.specs.Device.{block_device};
-ghost use Rattle.block_device.specs.Extent.{CallsWithin, IsWithin, extent_disk};
+ghost use Rattle.block_device.specs.Extent.{CallsWithin, IsWithin, TouchesExtent, extent_disk};
 ghost use Rattle.block_device.specs.Request.{code_of};
 ghost use Rattle.block_device.specs.Progress.{IsDone};
 
@@ -75,6 +75,7 @@ impl BlockDevice {
             (extent_disk self.now.extent (I.disk cache.old))
             (extent_disk self.now.extent (I.disk cache.new)) result.len result.wrote }
         ensures calls { CallsWithin self.now.extent result.failed (I.disk cache.old) (I.disk cache.new) }
+        ensures touches { TouchesExtent I.moment I.may_leave I.left_since self.now.extent cache.old cache.new }
         ensures range { SameRange mem.old mem.new }
     {
         match self.begin(mem, chain) {
@@ -132,6 +133,7 @@ impl BlockDevice {
             (extent_disk self.now.extent (I.disk cache.new)) result.len result.status }
         ensures room { result.len < length (writable_of chain.now) }
         ensures calls { CallsWithin self.now.extent result.failed (I.disk cache.old) (I.disk cache.new) }
+        ensures touches { TouchesExtent I.moment I.may_leave I.left_since self.now.extent cache.old cache.new }
         ensures range { SameRange mem.old mem.new }
     {
         match request {

@@ -3,7 +3,7 @@
 ghost use Rattle.std.specs.Prelude.{◌≡◌, Option, nat_lt};
 ghost use Rattle.guest_memory.specs.Memory.{SameRange};
 ghost use Rattle.mmio_window.specs.Queue.{LiesIn, made_as};
-ghost use Rattle.block_device.specs.Extent.{IsWithin, StaysInExtent};
+ghost use Rattle.block_device.specs.Extent.{IsWithin, StaysInExtent, TouchesExtent};
 ghost use Rattle.block_device.specs.Serving.{LeavesQueue, Stops, site_of};
 
 use crate::device::BlockDevice;
@@ -69,6 +69,7 @@ impl BlockDevice {
             (site_of self.now mem.new queue.new (I.disk cache.new)) result.left }
         ensures failed { result.failed ≡ nat_lt (I.disk cache.old).failures (I.disk cache.new).failures }
         ensures stays { StaysInExtent self.now.extent (I.disk cache.old) (I.disk cache.new) }
+        ensures touches { TouchesExtent I.moment I.may_leave I.left_since self.now.extent cache.old cache.new }
         ensures range { SameRange mem.old mem.new }
         ensures made { made_as queue.new ≡ made_as queue.old }
     {
@@ -110,6 +111,7 @@ impl BlockDevice {
             (site_of self.now mem.new queue.new (I.disk cache.new)) result.stop }
         ensures failed { result.failed ≡ nat_lt (I.disk cache.old).failures (I.disk cache.new).failures }
         ensures stays { StaysInExtent self.now.extent (I.disk cache.old) (I.disk cache.new) }
+        ensures touches { TouchesExtent I.moment I.may_leave I.left_since self.now.extent cache.old cache.new }
         ensures range { SameRange mem.old mem.new }
         ensures queue { LiesIn mem.new queue.new }
         ensures made { made_as queue.new ≡ made_as queue.old }

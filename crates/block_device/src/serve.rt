@@ -7,7 +7,7 @@ ghost use Rattle.mmio_window.specs.Serving.{IsNotified};
 ghost use Rattle.mmio_window.specs.Soundness.{IsSound};
 ghost use Rattle.mmio_window.specs.Window.{queue_at};
 ghost use Rattle.block_device.specs.Device.{block_device, exact_device};
-ghost use Rattle.block_device.specs.Extent.{IsWithin, StaysInExtent, extent_disk};
+ghost use Rattle.block_device.specs.Extent.{IsWithin, StaysInExtent, TouchesExtent, extent_disk};
 ghost use Rattle.block_device.specs.Serving.{progress_of, shown};
 
 use crate::device::{BlockDevice, REQUESTQ};
@@ -57,6 +57,7 @@ impl BlockDevice {
             (extent_disk self.now.extent (I.disk cache.new)) }
 
         ensures stays { StaysInExtent self.now.extent (I.disk cache.old) (I.disk cache.new) }
+        ensures touches { TouchesExtent I.moment I.may_leave I.left_since self.now.extent cache.old cache.new }
         ensures range { SameRange mem.old mem.new }
         ensures sound { IsSound mem.new window.new }
     {
@@ -91,6 +92,7 @@ impl BlockDevice {
             (extent_disk self.now.extent (I.disk cache.new)) }
         ensures failed { IsTrue result.failed ↔ ((I.disk cache.old).failures < (I.disk cache.new).failures) }
         ensures stays { StaysInExtent self.now.extent (I.disk cache.old) (I.disk cache.new) }
+        ensures touches { TouchesExtent I.moment I.may_leave I.left_since self.now.extent cache.old cache.new }
         ensures range { SameRange mem.old mem.new }
         ensures sound { IsSound mem.new window.new }
     {

@@ -7,7 +7,7 @@ ghost use Rattle.chain.specs.Buffers.{Within};
 ghost use Rattle.chain.specs.Bytes.{readable_of};
 ghost use Rattle.block_device.specs.declared.request.Request.TheVariants.{Rejected, WriteZeroes};
 ghost use Rattle.block_device.specs.declared.request.RequestStatus.TheVariants.{IoError, Unsupported};
-ghost use Rattle.block_device.specs.Extent.{CallsWithin, IsWithin, KeepsOutside, extent_disk, sector_len};
+ghost use Rattle.block_device.specs.Extent.{CallsWithin, IsWithin, KeepsOutside, TouchesExtent, extent_disk, sector_len};
 ghost use Rattle.block_device.specs.Operation.{disk_run, zeroes_in};
 ghost use Rattle.block_device.specs.Progress.{IsDone, IsServable};
 ghost use Rattle.block_device.specs.Request.{payload_of, write_zeroes_request_of};
@@ -182,6 +182,7 @@ impl BlockDevice {
             (extent_disk self.now.extent (I.disk cache.new)) result.len result.status }
         ensures len { result.len ≡ 0 }
         ensures calls { CallsWithin self.now.extent result.failed (I.disk cache.old) (I.disk cache.new) }
+        ensures touches { TouchesExtent I.moment I.may_leave I.left_since self.now.extent cache.old cache.new }
     {
         for index in 0..segments {
             let segment = WriteZeroesSegment::read(mem, chain, index);
@@ -210,6 +211,7 @@ impl BlockDevice {
             (extent_disk self.now.extent (I.disk cache.old))
             (extent_disk self.now.extent (I.disk cache.new))) }
         ensures outside { KeepsOutside self.now.extent (I.disk cache.old) (I.disk cache.new) }
+        ensures touches { TouchesExtent I.moment I.may_leave I.left_since self.now.extent cache.old cache.new }
     {
         let first = self.extent.start + segment.sector;
         for done in 0..u64::from(segment.count) {

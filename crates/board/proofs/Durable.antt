@@ -135,7 +135,7 @@ extents_seen : (slots : List BoardSlot) (bytes : List ℕ) → map (λ slot. ext
 extents_seen [] bytes = refl
 extents_seen (slot ∷ slots) bytes = ap (λ rest. extent_of bytes slot.extent.start slot.extent.count ∷ rest) (extents_seen slots bytes)
 
-told_left : (told : Option (List ℕ)) (left : List ℕ) → IsSome told → IfSome told (λ bytes. left ≡ bytes) → left ≡ unwrap_or told []
+pub told_left : (told : Option (List ℕ)) (left : List ℕ) → IsSome told → IfSome told (λ bytes. left ≡ bytes) → left ≡ unwrap_or told []
 told_left None left tells same = absurd (cc)
 told_left (Some bytes) left tells same = same
 

@@ -8,6 +8,7 @@ pub mod Seats
 pub mod Alone
 pub mod Failures
 pub mod Durable
+pub mod Touching
 pub mod Noted
 pub mod Runs
 pub mod Access

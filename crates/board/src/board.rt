@@ -3,6 +3,7 @@
 ghost use Rattle.std.specs.Prelude.{◌≡◌, ◌≢◌, ◌↔◌, ◌≤◌, ◌<◌, ◌++◌, ◌∷◌, [], ℕ, List, All, length, map, vec_len, vec_capacity, IfOk, IfErr, OnOk, Some, None, IfSome, IfNone, IsSomeAnd, IsErrAnd};
 ghost use Rattle.std.specs.List.{slice_get};
 ghost use Rattle.board.specs.declared.fault.BoardFault.{BoardFault};
+ghost use Rattle.board.specs.Durable.{TouchesSlot};
 ghost use Rattle.board.specs.Fault.{IsAccepted, Refuses, cache_refusal};
 ghost use Rattle.board.specs.Line.{AnswersMissing, IsRun, HasInterruptWords, KeepsIdle, events_done};
 ghost use Rattle.board.specs.Slot.{BoardSlot, opened, state_of};
@@ -119,6 +120,7 @@ impl<I: Image, A: Allocator + Copy> Board<I, A> {
         ensures limit { O.limit out.new ≡ O.limit out.old }
 
         ensures stays { StaysInExtents I.disk self.old self.new }
+        ensures touches { TouchesSlot I.moment I.may_leave I.left_since event.now.slot self.old self.new }
 
         // a refusal, of memory or of the image, is noted for the event's slot
         ensures noted { disturbed_of self.new.slots ≡ noted event.now.slot
@@ -192,6 +194,7 @@ impl<I: Image, A: Allocator + Copy> Board<I, A> {
         ensures block_word { result.block_irq ≤ 3 }
         ensures console_word { result.console_irq ≤ 3 }
         ensures stays { StaysInExtents I.disk self.old self.new }
+        ensures touches { TouchesSlot I.moment I.may_leave I.left_since slot self.old self.new }
         ensures noted { disturbed_of self.new.slots ≡ noted slot
             (met_refusal result.reply (I.disk self.old.image).failures (I.disk self.new.image).failures)
             (disturbed_of self.old.slots) }

@@ -4,6 +4,8 @@ ghost use Rattle.std.specs.Prelude.{◌≡◌, ℕ, ◌+◌, ◌<◌, ◌≤◌,
 ghost use Rattle.std.specs.List.{slice_get};
 ghost use Rattle.chain.specs.Service.{Served, ServesAll, Site};
 ghost use Rattle.sector_cache.specs.Disk.{Disk};
+ghost use Rattle.sector_cache.specs.Sector.{extent_of};
+ghost use Rattle.sector_cache.specs.Stop.{BeginsAt, Only};
 ghost use Rattle.mmio_window.specs.declared.device_kind.DeviceKind.{DeviceKind};
 ghost use Rattle.mmio_window.specs.declared.queue.Queue.{Queue};
 ghost use Rattle.mmio_window.specs.Queue.{queue_kind};
@@ -13,8 +15,9 @@ ghost use Rattle.board.specs.declared.event.Event.{Event};
 ghost use Rattle.board.specs.declared.event.EventKind.{EventKind};
 ghost use Rattle.board.specs.declared.reply.Reply.{Reply};
 ghost use Rattle.board.specs.declared.reply.Record.{Record};
-ghost use Rattle.board.specs.Durable.{IsLeftAsSeen};
-ghost use Rattle.board.specs.Image.{Tells};
+ghost use Rattle.board.specs.Durable.{IsLeftAsSeen, TouchesSlot};
+ghost use Rattle.board.specs.Extent.{IsApart};
+ghost use Rattle.board.specs.Image.{Tells, bytes_of};
 ghost use Rattle.board.specs.Line.{Move, IsLine, IsNoted, IsQuiet, IsAlone, IsRun, RanOnBoth, SeesTheSame, events_of, own_events};
 ghost use Rattle.board.specs.Machine.{IsNext, RunsOnItsOwn};
 ghost use Rattle.board.specs.Outcome.{Outcome};
@@ -148,4 +151,21 @@ pub fn a_stop_between_events_loses_nothing<I: Image, A: Allocator>()
         Tells (I.disk board.image) → IsLine old moves (world_of I.disk board) →
         (world_of I.disk board).health.failures ≡ old.health.failures → old.health.mark ≡ false →
         I.may_leave board.image left → IsLeftAsSeen board.slots (world_of I.disk board) left }
+{}
+
+/// A stop at any moment within an event, as a loss of power, touches no other guest's disk, whatever of the event's own writes
+/// was cut short and whatever failed. Where one before the event could leave these bytes alone, it leaves theirs (`known`);
+/// where the mark was clear then, that disk as its guest saw it (`seen`). It rests on an image that records what a stop
+/// might have left, from a moment before the event.
+pub fn a_cut_event_touches_no_other_disk<I: Image>()
+    ensures known { (old new : BoardState I) (g since : ℕ) (own other : BoardSlot) (bytes left : List ℕ) →
+        TouchesSlot I.moment I.may_leave I.left_since g old new → slice_get old.slots g ≡ Some own →
+        IsApart own.extent other.extent → Only bytes (I.may_leave old.image) →
+        BeginsAt (I.may_leave old.image) (I.left_since old.image) since → I.left_since new.image since left →
+        extent_of left other.extent.start other.extent.count ≡ extent_of bytes other.extent.start other.extent.count }
+    ensures seen { (old new : BoardState I) (g since : ℕ) (own other : BoardSlot) (left : List ℕ) →
+        TouchesSlot I.moment I.may_leave I.left_since g old new → slice_get old.slots g ≡ Some own →
+        IsApart own.extent other.extent → Tells (I.disk old.image) → (I.disk old.image).mark ≡ false →
+        BeginsAt (I.may_leave old.image) (I.left_since old.image) since → I.left_since new.image since left →
+        extent_of left other.extent.start other.extent.count ≡ (state_of (bytes_of (I.disk old.image)) other).extent }
 {}

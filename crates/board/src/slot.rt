@@ -6,7 +6,7 @@
 //! from outside.
 
 ghost use Rattle.std.specs.Prelude.{◌≡◌, ◌≢◌, ◌<◌, ◌≤◌, ◌||◌, ℕ, List, All, map, Some, IfOk};
-ghost use Rattle.block_device.specs.Extent.{IsWithin};
+ghost use Rattle.block_device.specs.Extent.{IsWithin, TouchesExtent};
 ghost use Rattle.board.specs.Fault.{IsMemory};
 ghost use Rattle.board.specs.Image.{Tells, bytes_of, health_of};
 ghost use Rattle.board.specs.Lending.{LendsBytes};
@@ -130,6 +130,7 @@ impl<A: Allocator + Copy> Slot<A> {
         ensures noted { self.new.disturbed ≡ (self.old.disturbed ||
             met_in result (I.disk cache.old).failures (I.disk cache.new).failures) }
         ensures stays { StaysInSlot self.old self.new (I.disk cache.old) (I.disk cache.new) }
+        ensures touches { TouchesExtent I.moment I.may_leave I.left_since self.old.extent cache.old cache.new }
 
         // a slot that is there is never said to be missing, and what is refused changes nothing
         ensures limited { (next : Pause) → result ≡ Turn.More next → HasLimit budget }
@@ -164,6 +165,7 @@ impl<A: Allocator + Copy> Slot<A> {
         ensures noted { self.new.disturbed ≡ (self.old.disturbed ||
             met_in result (I.disk cache.old).failures (I.disk cache.new).failures) }
         ensures stays { StaysInSlot self.old self.new (I.disk cache.old) (I.disk cache.new) }
+        ensures touches { TouchesExtent I.moment I.may_leave I.left_since self.old.extent cache.old cache.new }
         ensures limited { (next : Pause) → result ≡ Turn.More next → HasLimit budget }
         ensures there { result ≢ Turn.Answered Reply.BadSlot }
     {
@@ -206,6 +208,7 @@ impl<A: Allocator + Copy> Slot<A> {
             (O.bytes out.old) (O.bytes out.new) result.turn }
         ensures limit { O.limit out.new ≡ O.limit out.old }
         ensures unnoted { IsUnnoted self.old self.new (I.disk cache.old) (I.disk cache.new) result.failed }
+        ensures touches { TouchesExtent I.moment I.may_leave I.left_since self.old.extent cache.old cache.new }
         ensures limited { (next : Pause) → result.turn ≡ Turn.More next → HasLimit budget }
         ensures there { result.turn ≢ Turn.Answered Reply.BadSlot }
         ensures bad_range { result.turn ≡ Turn.Answered Reply.BadRange → self.new ≡ self.old }

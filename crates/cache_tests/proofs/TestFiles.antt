@@ -1,7 +1,10 @@
 -- A file of the tests takes a front of what is written to it.
-use Rattle.std.proofs.Common.{◌≡◌, ℕ, ◌+◌, ◌-◌, ◌≤◌, List, ◌++◌, length, take, drop, sym, ◌∙◌, ap, subst, arith}
-use Rattle.std.proofs.lemmas.List.{append_assoc, drop-drop, length-append, length-drop, length-take-le, take-append-drop, take-append-le, take-take}
+use Rattle.std.proofs.Common.{◌≡◌, ◌≢◌, inl, inr, ℕ, ◌+◌, ◌-◌, ◌≤◌, List, [], ◌∷◌, ◌++◌, length, take, drop, refl, sym, ◌∙◌, ap, subst, arith}
+use Rattle.std.proofs.lemmas.Bool.{cases_lt}
+use Rattle.std.proofs.lemmas.List.{append_assoc, drop-drop, drop_at, length-append, length-drop, length-take-le, take-append-drop, take-append-le, take-take, take_at}
 use Rattle.sector_cache.specs.Backing.{IsPut, with_bytes}
+use Rattle.sector_cache.specs.Stop.{DiffersWithin}
+use Rattle.sector_cache.proofs.Stops.{differs_none}
 
 -- what stands after a front up to the end of the write, and then the rest
 rest_of : (bytes : List ℕ) (at n l : ℕ) → n ≤ l → take (l - n) (drop (at + n) bytes) ++ drop (at + l) bytes ≡ drop (at + n) bytes
@@ -28,6 +31,47 @@ put_front bytes from at n inside within =
           ∙ ap (λ rest. take at bytes ++ rest) (sym (append_assoc front tail (drop (at + length from) bytes)))
           ∙ ap (λ k. take at bytes ++ (front ++ tail ++ drop (at + k) bytes)) (sym long);
     }
+
+-- nor does it touch more than the place that it was to be written to
+pub front_within : (bytes front : List ℕ) (at size : ℕ) → at + length front ≤ length bytes → length front ≤ size → DiffersWithin at (at + size) bytes (with_bytes bytes at front)
+front_within bytes front at size inside within =
+    let head = take at bytes in
+    let rest = drop (at + length front) bytes in
+    let head_long : length head ≡ at = length-take-le at bytes (omega (arith, inside)) in
+    record {
+      before = take_at head (front ++ rest) at head_long;
+      behind =
+          sym (drop-drop size at (with_bytes bytes at front))
+          ∙ ap (drop size) (drop_at head (front ++ rest) at head_long)
+          ∙ ap (λ k. drop k (front ++ rest)) (let e : size ≡ length front + (size - length front) = omega (arith, within) in e)
+          ∙ sym (drop-drop (size - length front) (length front) (front ++ rest))
+          ∙ ap (drop (size - length front)) (drop_at front rest (length front) refl)
+          ∙ drop-drop (size - length front) (at + length front) bytes
+          ∙ ap (λ k. drop k bytes) (let e : at + length front + (size - length front) ≡ at + size = omega (arith, within) in e);
+    }
+
+nothing_written : (bytes front : List ℕ) (start : ℕ) → length front ≡ 0 → with_bytes bytes start front ≡ bytes
+nothing_written bytes [] start none =
+    ap (λ k. take start bytes ++ drop k bytes) (let e : start + 0 ≡ start = omega arith in e) ∙ take-append-drop start bytes
+nothing_written bytes (x ∷ front) start none = absurd (omega (arith, none))
+
+-- wherever the file found that place
+pub found_within : (bytes front : List ℕ) (at start size : ℕ) → start + length front ≤ length bytes → length front ≤ size → (at ≢ start → length front ≡ 0) → DiffersWithin at (at + size) bytes (with_bytes bytes start front)
+found_within bytes front at start size inside within apart =
+    elim (cases_lt at start) [
+      | inl below ↦ nothing (apart (λ same. omega (arith, below, same)))
+      | inr from ↦
+          elim (cases_lt start at) [
+            | inl above ↦ nothing (apart (λ same. omega (arith, above, same)))
+            | inr to ↦
+                let same : at ≡ start = omega (arith, from, to) in
+                subst (λ k. DiffersWithin at (at + size) bytes (with_bytes bytes k front)) same
+                (front_within bytes front at size (omega (arith, same, inside)) within)
+          ]
+    ]
+  where
+    nothing : length front ≡ 0 → DiffersWithin at (at + size) bytes (with_bytes bytes start front)
+    nothing none = subst (DiffersWithin at (at + size) bytes) (sym (nothing_written bytes front start none)) (differs_none at (at + size) bytes)
 
 -- and nothing that was written is one of none
 pub put_none : (bytes from : List ℕ) (at : ℕ) → at + length from ≤ length bytes → IsPut at from 0 bytes bytes

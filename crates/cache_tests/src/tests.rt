@@ -8,6 +8,7 @@ mod image_calls;
 mod in_place;
 mod memory_file;
 mod plain;
+mod recorded;
 mod refused;
 mod sectors;
 mod switched;

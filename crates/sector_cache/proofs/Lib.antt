@@ -2,3 +2,4 @@ pub mod Coherence
 pub mod Filed
 pub mod Keeping
 pub mod Sectors
+pub mod Stops

@@ -4,6 +4,7 @@ pub mod Backing
 pub mod Fault
 pub mod Kept
 pub mod Lending
+pub mod Stop
 pub mod FileImage
 pub mod MemoryImage
 pub mod Script

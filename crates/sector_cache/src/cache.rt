@@ -8,6 +8,7 @@ ghost use Rattle.sector_cache.specs.contracts.cache.SectorCache.{the_row};
 ghost use Rattle.sector_cache.specs.Disk.{IsAsTold, IsTorn, failed, written, flushed};
 ghost use Rattle.sector_cache.specs.Fault.{IsCapacity, RefusesCapacity};
 ghost use Rattle.sector_cache.specs.Lending.{IsReadThrough};
+ghost use Rattle.sector_cache.specs.Stop.{TouchesNothing, TouchesSector};
 
 use crate::fault::{CacheFault, Refused};
 use crate::image::{Image, ImageError};
@@ -75,7 +76,8 @@ impl<I: Image, A: Allocator + Copy> SectorCache<I, A> {
         requires { sector < (I.disk self.old).sector_count }
         ensures read { IfOk result (λ bytes. IsAsTold (I.disk self.old) sector bytes.now) }
         ensures* after_borrow { sem 𝓛 (Rests (the_row I.row A.row I.Image A.Allocator) self.entry (λ cache.
-            IsReadThrough result (I.disk self.old) (I.disk cache))) }
+            IsReadThrough result (I.disk self.old) (I.disk cache)
+            × TouchesNothing I.moment I.may_leave I.left_since self.old cache)) }
     {
         if self.image.lend_sector(sector).is_some() {
             return self.image.lend_sector(sector).ok_or(ImageError);
@@ -94,6 +96,7 @@ impl<I: Image, A: Allocator + Copy> SectorCache<I, A> {
         ensures read { OnOk result (IsAsTold (I.disk self.old) sector into.new) }
         ensures ok { OnOk result (I.disk self.new ≡ I.disk self.old) }
         ensures err { OnErr result (I.disk self.new ≡ failed (I.disk self.old)) }
+        ensures touches { TouchesNothing I.moment I.may_leave I.left_since self.old self.new }
     {
         *into = *self.lend(sector)?;
         Ok(())
@@ -105,6 +108,7 @@ impl<I: Image, A: Allocator + Copy> SectorCache<I, A> {
         requires { sector < (I.disk self.old).sector_count }
         ensures ok { OnOk result (I.disk self.new ≡ written sector from.now (I.disk self.old)) }
         ensures err { OnErr result (IsTorn sector (I.disk self.old) (I.disk self.new)) }
+        ensures touches { TouchesSector I.moment I.may_leave I.left_since sector self.old self.new }
     {
         self.kept.forget(sector);
         self.image.write_sector(sector, from)?;
@@ -120,6 +124,7 @@ impl<I: Image, A: Allocator + Copy> SectorCache<I, A> {
         ensures ok { OnOk result
             (I.disk self.new ≡ written sector (replicate 512 0) (I.disk self.old)) }
         ensures err { OnErr result (IsTorn sector (I.disk self.old) (I.disk self.new)) }
+        ensures touches { TouchesSector I.moment I.may_leave I.left_since sector self.old self.new }
     {
         self.kept.forget(sector);
         self.image.write_sector(sector, &[0; 512])
@@ -131,6 +136,7 @@ impl<I: Image, A: Allocator> SectorCache<I, A> {
     pub fn flush(&mut self) -> Result<(), ImageError>
         ensures ok { OnOk result (I.disk self.new ≡ flushed (I.disk self.old)) }
         ensures err { OnErr result (I.disk self.new ≡ failed (I.disk self.old)) }
+        ensures touches { TouchesNothing I.moment I.may_leave I.left_since self.old self.new }
     {
         self.image.flush()
     }

@@ -3,6 +3,7 @@
 ghost use Rattle.std.specs.Prelude.{◌≡◌, ◌≢◌, ◌↔◌, ◌+◌, ◌-◌, ◌*◌, ◌/◌, ◌%◌, ◌<◌, ◌^◌, length, Some, IfSome, IfOk, OnOk, OnErr, IsOk, IsErr, IsErrOf, IsTrue, is_err};
 ghost use Rattle.sector_cache.specs.Disk.{IsAsTold, IsTorn, failed, written, flushed};
 ghost use Rattle.sector_cache.specs.Backing.{HasSector, LeavesShort, PutsSector};
+ghost use Rattle.sector_cache.specs.Stop.{TouchesNothing, TouchesSector};
 
 use crate::backing;
 use crate::backing::BackingFile;
@@ -127,6 +128,7 @@ impl<F: BackingFile> FileImage<F> {
         ensures synced { OnOk result (F.IsSynced self.new.file) }
         ensures still { F.IsSynced self.old.file → F.IsSynced self.new.file }
         ensures stays { F.held self.new.file ≡ F.held self.old.file }
+        ensures touches { TouchesNothing F.moment F.may_leave F.left_since self.old.file self.new.file }
     {
         if self.is_lost {
             return Err(io::Error::from(ErrorKind::Other));
@@ -144,6 +146,10 @@ impl<F: BackingFile> Image for FileImage<F> {
     ghost disk = { disk_of };
 
     ghost may_leave = { λ image. F.may_leave (file_of image) };
+
+    ghost moment = { λ image. F.moment (file_of image) };
+
+    ghost left_since = { λ image. F.left_since (file_of image) };
 
     fn sectors(&self) -> u64 {
         self.sectors
@@ -163,6 +169,8 @@ impl<F: BackingFile> Image for FileImage<F> {
         ensures held { OnOk result (IsTried self.old →
             HasSector (F.held (file_of self.old)) sector into.new) }
         ensures stays { F.held (file_of self.new) ≡ F.held (file_of self.old) }
+        ensures touches { TouchesNothing F.moment F.may_leave F.left_since
+            (file_of self.old) (file_of self.new) }
         ensures settled { IsSettled F.IsSynced self.old → IsSettled F.IsSynced self.new }
         ensures quiet { OnOk result (trouble_of self.new ≡ trouble_of self.old) }
         ensures noted { OnErr result (IsNoted FileCall.Read (Some sector)
@@ -186,6 +194,8 @@ impl<F: BackingFile> Image for FileImage<F> {
         ensures short { IsTried self.old → LeavesShort sector result
             (F.held (file_of self.old)) (F.held (file_of self.new)) }
         ensures settled { IsSettled F.IsSynced self.new }
+        ensures touches { TouchesSector F.moment F.may_leave F.left_since sector
+            (file_of self.old) (file_of self.new) }
         ensures quiet { OnOk result (trouble_of self.new ≡ with_last sector (trouble_of self.old)) }
         ensures noted { OnErr result (IsNoted FileCall.Write (Some sector)
             (with_last sector (trouble_of self.old)) (trouble_of self.new)) }
@@ -206,6 +216,8 @@ impl<F: BackingFile> Image for FileImage<F> {
         ensures untouched { IsSpent self.old → file_of self.new ≡ file_of self.old }
         ensures synced { OnOk result (IsTried self.old → F.IsSynced (file_of self.new)) }
         ensures stays { F.held (file_of self.new) ≡ F.held (file_of self.old) }
+        ensures touches { TouchesNothing F.moment F.may_leave F.left_since
+            (file_of self.old) (file_of self.new) }
         ensures settled { IsTried self.old → IsSettled F.IsSynced self.old → IsSettled F.IsSynced self.new }
 
         // once a sync has failed each flush fails, and leaves the file alone
@@ -228,4 +240,6 @@ impl<F: BackingFile> Image for FileImage<F> {
     ghost fits = { λ image. Prim.omega (arith, image.fits) };
 
     ghost durable = { λ image left may clear. tt };
+
+    ghost counts_now = { λ image. F.counts_now (file_of image) };
 }

@@ -1,7 +1,8 @@
 //! What a disk image is: the calls that the cache makes, and what each of them leaves.
 
-ghost use Rattle.std.specs.Prelude.{◌≡◌, ◌^◌, ◌<◌, ℕ, Bool, List, false, is_some, IfSome, OnOk, OnErr};
+ghost use Rattle.std.specs.Prelude.{◌≡◌, ◌^◌, ◌<◌, ◌≤◌, ℕ, Bool, List, false, is_some, IfSome, OnOk, OnErr};
 ghost use Rattle.sector_cache.specs.Disk.{Disk, IsWhole, IsAsTold, IsTorn, LeavesTold, Tells, failed, written, flushed};
+ghost use Rattle.sector_cache.specs.Stop.{TouchesNothing, TouchesSector, unnumbered, unrecorded};
 
 use thiserror::Error;
 
@@ -24,6 +25,12 @@ pub trait Image {
     // what a stop at this moment, as a loss of power, may leave of its bytes
     ghost may_leave: { Self → List ℕ → Type 0 };
 
+    // the number of this moment, which doesn't fall
+    ghost moment: { Self → ℕ } = { unnumbered };
+
+    // what a stop at any moment since that number might have left, within a call too: anything, where that isn't recorded
+    ghost left_since: { Self → ℕ → List ℕ → Type 0 } = { unrecorded };
+
     fn sectors(&self) -> u64
         ensures { result ≡ (disk self.now).sector_count };
 
@@ -38,18 +45,21 @@ pub trait Image {
         requires { sector < (disk self.old).sector_count }
         ensures read { OnOk result (IsAsTold (disk self.old) sector into.new) }
         ensures ok { OnOk result (disk self.new ≡ disk self.old) }
-        ensures err { OnErr result (disk self.new ≡ failed (disk self.old)) };
+        ensures err { OnErr result (disk self.new ≡ failed (disk self.old)) }
+        ensures touches { TouchesNothing moment may_leave left_since self.old self.new };
 
     /// After an `Err` the sector may hold any 512 bytes.
     fn write_sector(&mut self, sector: u64, from: &[u8; 512]) -> Result<(), ImageError>
         requires { sector < (disk self.old).sector_count }
         ensures ok { OnOk result (disk self.new ≡ written sector from.now (disk self.old)) }
-        ensures err { OnErr result (IsTorn sector (disk self.old) (disk self.new)) };
+        ensures err { OnErr result (IsTorn sector (disk self.old) (disk self.new)) }
+        ensures touches { TouchesSector moment may_leave left_since sector self.old self.new };
 
     /// Hands what was written so far to the medium.
     fn flush(&mut self) -> Result<(), ImageError>
         ensures ok { OnOk result (disk self.new ≡ flushed (disk self.old)) }
-        ensures err { OnErr result (disk self.new ≡ failed (disk self.old)) };
+        ensures err { OnErr result (disk self.new ≡ failed (disk self.old)) }
+        ensures touches { TouchesNothing moment may_leave left_since self.old self.new };
 
     // 512 bytes are told for each sector
     ghost whole: { (image : Self) → IsWhole (disk image) };
@@ -59,4 +69,7 @@ pub trait Image {
 
     // with a clear mark, a stop leaves exactly what is told
     ghost durable: { (image : Self) (left : List ℕ) → may_leave image left → LeavesTold (disk image) left };
+
+    // this moment is one of those since an earlier one
+    ghost counts_now: { (image : Self) (since : ℕ) (left : List ℕ) → since ≤ moment image → may_leave image left → left_since image since left };
 }

@@ -21,7 +21,9 @@ pub use cache::SectorCache;
 pub use fault::{CacheFault, FileCall, FileFailure, FileImageFault, ImageFault, Refused};
 pub use file_image::FileImage;
 pub use image::{Image, ImageError};
-pub use laws::{a_flushed_file_outlasts_a_stop, memory_images_tell};
+pub use laws::{
+    a_cut_call_touches_nothing_else, a_flushed_file_outlasts_a_stop, memory_images_tell,
+};
 pub use memory::MemoryImage;
 pub use scripted::ScriptedImage;
 pub use sector::{SECTOR_LEN, are_whole_sectors};

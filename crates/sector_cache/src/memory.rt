@@ -2,6 +2,7 @@
 
 ghost use Rattle.std.specs.Prelude.{◌≡◌, ◌≢◌, ◌%◌, ◌<◌, ◌↔◌, length, Some, IsSomeAnd, OnOk, IfOk, IsOk, IsErrOf, true};
 ghost use Rattle.sector_cache.specs.Disk.{IsAsTold, Tells, new_disk, written, flushed};
+ghost use Rattle.sector_cache.specs.Stop.{TouchesNothing, TouchesSector, unnumbered, unrecorded};
 
 use crate::fault::ImageFault;
 use crate::image::{Image, ImageError};
@@ -68,29 +69,35 @@ impl<A: Allocator> Image for MemoryImage<A> {
         sector::lend(&self.bytes, sector)
     }
 
+    #[tactic(auto, using(crate::proofs::Stops::touches_none))]
     fn read_sector(&mut self, sector: u64, into: &mut [u8; 512]) -> Result<(), ImageError>
         requires { sector < (disk_of self.old).sector_count }
         ensures succeeds { IsOk result }
         ensures read { IsAsTold (disk_of self.old) sector into.new }
         ensures after { disk_of self.new ≡ disk_of self.old }
+        ensures touches { TouchesNothing unnumbered may_leave_of unrecorded self.old self.new }
     {
         sector::copy_from(&self.bytes, sector, into);
         Ok(())
     }
 
+    #[tactic(auto, using(crate::proofs::Stops::touches_plain_sector))]
     fn write_sector(&mut self, sector: u64, from: &[u8; 512]) -> Result<(), ImageError>
         requires { sector < (disk_of self.old).sector_count }
         ensures succeeds { IsOk result }
         ensures after { disk_of self.new ≡ written sector from.now (disk_of self.old) }
+        ensures touches { TouchesSector unnumbered may_leave_of unrecorded sector self.old self.new }
     {
         self.mark = true;
         sector::copy_into(&mut self.bytes, sector, from);
         Ok(())
     }
 
+    #[tactic(auto, using(crate::proofs::Stops::touches_none))]
     fn flush(&mut self) -> Result<(), ImageError>
         ensures succeeds { IsOk result }
         ensures after { disk_of self.new ≡ flushed (disk_of self.old) }
+        ensures touches { TouchesNothing unnumbered may_leave_of unrecorded self.old self.new }
     {
         self.mark = false;
         Ok(())
@@ -101,4 +108,6 @@ impl<A: Allocator> Image for MemoryImage<A> {
     ghost fits = { λ image. Prim.omega (arith, image.bytes.ok) };
 
     ghost durable = { λ image left is clear. is };
+
+    ghost counts_now = { λ image since left reached may. tt };
 }

@@ -3,6 +3,7 @@
 ghost use Rattle.std.specs.Prelude.{◌≡◌, ◌≢◌, ◌%◌, ◌<◌, ◌≤◌, ◌↔◌, length, Some, OnOk, OnErr, IfOk, IsErr, IsErrOf, IsTrue, if◌then◌else◌};
 ghost use Rattle.sector_cache.specs.Disk.{IsAsTold, new_disk, failed, written, flushed};
 ghost use Rattle.sector_cache.specs.Script.{new_script, Fails, called, flush_called, IsHalfWritten};
+ghost use Rattle.sector_cache.specs.Stop.{TouchesNothing, TouchesSector, unnumbered, unrecorded};
 
 use crate::fault::ImageFault;
 use crate::image::{Image, ImageError};
@@ -82,6 +83,7 @@ impl<A: Allocator> ScriptedImage<A> {
     fn next_call_fails(&mut self) -> bool
         ensures fails { IsTrue result ↔ Fails (script_of self.old) }
         ensures script { script_of self.new ≡ called (script_of self.old) }
+        ensures memory { self.new.memory ≡ self.old.memory }
         ensures disk { disk_of self.new ≡
             (if result then failed (disk_of self.old) else disk_of self.old) }
     {
@@ -113,6 +115,7 @@ impl<A: Allocator> Image for ScriptedImage<A> {
         None
     }
 
+    #[tactic(auto, using(crate::proofs::Stops::touches_none))]
     fn read_sector(&mut self, sector: u64, into: &mut [u8; 512]) -> Result<(), ImageError>
         requires { sector < (disk_of self.old).sector_count }
         ensures fails { IsErr result ↔ Fails (script_of self.old) }
@@ -120,6 +123,7 @@ impl<A: Allocator> Image for ScriptedImage<A> {
         ensures read { OnOk result (IsAsTold (disk_of self.old) sector into.new) }
         ensures ok { OnOk result (disk_of self.new ≡ disk_of self.old) }
         ensures err { OnErr result (disk_of self.new ≡ failed (disk_of self.old)) }
+        ensures touches { TouchesNothing unnumbered may_leave_of unrecorded self.old self.new }
     {
         if self.next_call_fails() {
             return Err(ImageError);
@@ -134,6 +138,7 @@ impl<A: Allocator> Image for ScriptedImage<A> {
         ensures ok { OnOk result (disk_of self.new ≡ written sector from.now (disk_of self.old)) }
         ensures err { OnErr result
             (IsHalfWritten sector from.now (disk_of self.old) (disk_of self.new)) }
+        ensures touches { TouchesSector unnumbered may_leave_of unrecorded sector self.old self.new }
     {
         if self.next_call_fails() {
             let mut torn = [0; sector::SECTOR_LEN];
@@ -145,11 +150,13 @@ impl<A: Allocator> Image for ScriptedImage<A> {
         self.memory.write_sector(sector, from)
     }
 
+    #[tactic(auto, using(crate::proofs::Stops::touches_none))]
     fn flush(&mut self) -> Result<(), ImageError>
         ensures fails { IsErr result ↔ Fails (script_of self.old) }
         ensures script { script_of self.new ≡ flush_called (script_of self.old) }
         ensures ok { OnOk result (disk_of self.new ≡ flushed (disk_of self.old)) }
         ensures err { OnErr result (disk_of self.new ≡ failed (disk_of self.old)) }
+        ensures touches { TouchesNothing unnumbered may_leave_of unrecorded self.old self.new }
     {
         self.flushes = self.flushes.saturating_add(1);
         if self.next_call_fails() {
@@ -163,4 +170,6 @@ impl<A: Allocator> Image for ScriptedImage<A> {
     ghost fits = { λ image. Prim.omega (arith, image.memory.bytes.ok) };
 
     ghost durable = { λ image left is clear. is };
+
+    ghost counts_now = { λ image since left reached may. tt };
 }

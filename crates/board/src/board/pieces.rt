@@ -2,6 +2,7 @@
 
 ghost use Rattle.std.specs.Prelude.{◌≡◌, ◌↔◌, ◌<◌, ◌≤◌, ℕ, List, [], length, Some, IsSomeAnd};
 ghost use Rattle.std.specs.List.{slice_get};
+ghost use Rattle.board.specs.Durable.{TouchesSlot};
 ghost use Rattle.board.specs.declared.event.EventKind.{EventKind};
 ghost use Rattle.board.specs.declared.pause.Pause.{Pause};
 ghost use Rattle.board.specs.declared.pause.Turn.{Turn};
@@ -83,6 +84,7 @@ impl<I: Image, A: Allocator + Copy> Board<I, A> {
         ensures block_word { result.block_irq ≤ 3 }
         ensures console_word { result.console_irq ≤ 3 }
         ensures stays { StaysInExtents I.disk self.old self.new }
+        ensures touches { TouchesSlot I.moment I.may_leave I.left_since slot self.old self.new }
         ensures noted { disturbed_of self.new.slots ≡ noted slot
             (met_in result.turn (I.disk self.old.image).failures (I.disk self.new.image).failures)
             (disturbed_of self.old.slots) }
@@ -147,6 +149,7 @@ impl<I: Image, A: Allocator + Copy> Board<I, A> {
         ensures block_word { result.block_irq ≤ 3 }
         ensures console_word { result.console_irq ≤ 3 }
         ensures stays { StaysInExtents I.disk self.old self.new }
+        ensures touches { TouchesSlot I.moment I.may_leave I.left_since slot self.old self.new }
         ensures noted { disturbed_of self.new.slots ≡ noted slot
             (met_in result.turn (I.disk self.old.image).failures (I.disk self.new.image).failures)
             (disturbed_of self.old.slots) }

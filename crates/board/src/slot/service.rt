@@ -5,7 +5,7 @@ ghost use Rattle.guest_memory.specs.Memory.{SameRange};
 ghost use Rattle.mmio_window.specs.declared.stage.Stage.{Stage};
 ghost use Rattle.mmio_window.specs.Window.{queue_at};
 ghost use Rattle.block_device.specs.Device.{block_device};
-ghost use Rattle.block_device.specs.Extent.{IsWithin, StaysInExtent, extent_disk};
+ghost use Rattle.block_device.specs.Extent.{IsWithin, StaysInExtent, TouchesExtent, extent_disk};
 ghost use Rattle.console_device.specs.Device.{receive, transmit_fitting, transmit_within};
 ghost use Rattle.board.specs.declared.pause.Pause.{Pause};
 ghost use Rattle.board.specs.declared.pause.Service.{Service};
@@ -48,6 +48,7 @@ impl<A: Allocator + Copy> Slot<A> {
             (state_of (bytes_of (I.disk cache.new)) self.new) (O.bytes out.old) (O.bytes out.new) result.turn }
         ensures limit { O.limit out.new ≡ O.limit out.old }
         ensures unnoted { IsUnnoted self.old self.new (I.disk cache.old) (I.disk cache.new) result.failed }
+        ensures touches { TouchesExtent I.moment I.may_leave I.left_since self.old.extent cache.old cache.new }
         ensures no_memory { result.turn ≡ Turn.Answered Reply.NoMemory → stage ≡ Stage.First →
             (pause.service ≡ Service.Transmit) × HasBytesToPutOut self.old.memory self.old.console }
         ensures limited { (next : Pause) → result.turn ≡ Turn.More next → HasLimit budget }
@@ -100,6 +101,7 @@ impl<A: Allocator + Copy> Slot<A> {
         ensures rest { self.new ≡ record self.old { memory = self.new.memory; block = self.new.block } }
         ensures failed { result.failed ≡ nat_lt (I.disk cache.old).failures (I.disk cache.new).failures }
         ensures stays { StaysInExtent self.old.extent (I.disk cache.old) (I.disk cache.new) }
+        ensures touches { TouchesExtent I.moment I.may_leave I.left_since self.old.extent cache.old cache.new }
     {
         let (memory, window) = (&mut self.memory, &mut self.block);
         self.block_device

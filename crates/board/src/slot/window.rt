@@ -1,7 +1,7 @@
 //! The accesses of a guest's drivers to the windows of its devices, and what the devices do then.
 
 ghost use Rattle.std.specs.Prelude.{◌≡◌, ◌≢◌, ℕ, List, Some, OnOk, OnErr};
-ghost use Rattle.block_device.specs.Extent.{IsWithin};
+ghost use Rattle.block_device.specs.Extent.{IsWithin, TouchesExtent};
 ghost use Rattle.mmio_window.specs.declared.device_kind.DeviceKind.{DeviceKind};
 ghost use Rattle.board.specs.declared.event.EventKind.{EventKind};
 ghost use Rattle.board.specs.declared.pause.Pause.{Pause};
@@ -80,6 +80,7 @@ impl<A: Allocator + Copy> Slot<A> {
             (state_of (bytes_of (I.disk cache.new)) self.new) (O.bytes out.old) (O.bytes out.new) result.turn }
         ensures limit { O.limit out.new ≡ O.limit out.old }
         ensures unnoted { IsUnnoted self.old self.new (I.disk cache.old) (I.disk cache.new) result.failed }
+        ensures touches { TouchesExtent I.moment I.may_leave I.left_since self.old.extent cache.old cache.new }
         ensures limited { (next : Pause) → result.turn ≡ Turn.More next → HasLimit budget }
         ensures there { result.turn ≢ Turn.Answered Reply.BadSlot }
         ensures in_range { result.turn ≢ Turn.Answered Reply.BadRange }

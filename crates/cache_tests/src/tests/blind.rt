@@ -81,4 +81,6 @@ impl Image for BlindImage {
     ghost fits = { λ image. Prim.omega arith };
 
     ghost durable = { λ image left may clear. tt };
+
+    ghost counts_now = { λ image since left reached may. tt };
 }

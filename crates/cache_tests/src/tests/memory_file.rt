@@ -87,10 +87,12 @@ impl BackingFile for MemoryFile {
 
     ghost IsSynced = { λ file. file.unsynced ≡ false };
 
-    // its bytes as they stand, where all are synced
-    ghost may_leave = { λ file left. file.unsynced ≡ false → left ≡ file.bytes.items };
+    // its bytes as they stand, synced or not
+    ghost may_leave = { λ file left. left ≡ file.bytes.items };
 
-    ghost keeps = { λ file left synced may. may synced };
+    ghost keeps = { λ file left synced may. may };
+
+    ghost counts_now = { λ file since left reached may. tt };
 
     fn hold(&mut self) -> Result<(), FileImageFault> {
         Ok(())

@@ -90,4 +90,6 @@ impl Image for SwitchedImage {
     ghost fits = { λ image. Prim.omega (arith, image.memory.bytes.ok) };
 
     ghost durable = { λ image left is clear. is };
+
+    ghost counts_now = { λ image since left reached may. tt };
 }

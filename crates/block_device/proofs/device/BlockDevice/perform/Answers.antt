@@ -1,5 +1,6 @@
 use Rattle.std.proofs.Common.{arith}
 use Rattle.block_device.proofs.Answering.{read_fits, write_fits, zeroes_fit, done_flushed, done_unflushed}
+use Rattle.block_device.proofs.Touching.{touched_nothing, untouched}
 use Rattle.block_device.specs.Extent.{extent_disk}
 use Rattle.block_device.proofs.device.BlockDevice.perform.Goals as goal
 
@@ -22,3 +23,9 @@ returns-in-Ok-clause-done g c =
 pub returns-in-Err-clause-done : goal.returns-in-Err-clause-done
 returns-in-Err-clause-done g c =
     done_unflushed c.args.self.now.extent c.args.request c.args.chain.now c.args.mem.now (g.I.Image.disk c.args.cache.now) (g.I.Image.disk c.flush.new.self) c.in-Flush.is c.in-Err.ensures.err
+
+pub returns-in-Ok-clause-touches : goal.returns-in-Ok-clause-touches
+returns-in-Ok-clause-touches g c = touched_nothing c.args.self.now.extent (untouched c.args.self.now.extent) c.flush.ensures.touches
+
+pub returns-in-Err-clause-touches : goal.returns-in-Err-clause-touches
+returns-in-Err-clause-touches g c = touched_nothing c.args.self.now.extent (untouched c.args.self.now.extent) c.flush.ensures.touches

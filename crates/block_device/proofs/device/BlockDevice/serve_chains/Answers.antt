@@ -1,48 +1,54 @@
 use Rattle.chain.proofs.Budgets.{some_left}
 use Rattle.mmio_window.specs.Queue.{entry_of}
 use Rattle.block_device.proofs.Courses.{course_start, course_more, stops_spent, stops_by_fault, stops_paused, or_with_true, or_with_false}
+use Rattle.block_device.proofs.Touching.{touched_more, untouched}
 use Rattle.block_device.proofs.device.BlockDevice.serve_chains.Goals as goal
 
 pub loop-token-init : goal.loop-token-init
-loop-token-init g c = course_start c.args.self.now c.args.budget c.args.mem.now c.args.queue.now (g.I.Image.disk c.args.cache.now) c.requires.queue
+loop-token-init g c =
+    (course_start c.args.self.now c.args.budget c.args.mem.now c.args.queue.now (g.I.Image.disk c.args.cache.now) c.requires.queue, untouched c.args.self.now.extent)
 
 pub loop-token-preserved-then-failed : goal.loop-token-preserved-then-failed
-loop-token-preserved-then-failed g c =
-    course_more c.args.self.now c.args.budget c.loop-token.left c.spend.new.self c.args.mem.now c.loop-token.mem c.answer-answer.new.mem c.give.new.mem c.args.queue.now c.loop-token.queue c.take.new.self c.give.new.self
-    (g.I.Image.disk c.args.cache.now) (g.I.Image.disk c.loop-token.cache) (g.I.Image.disk c.answer-answer.new.cache)
-    c.loop-token.failed c.answer-answer.result.failed c.loop-token.failed c.take.new.chain (entry_of c.in-Ok-Some.token) c.answer-answer.result.len c.answer-answer.result.wrote
-    c.loop-token.invariant (some_left c.loop-token.left c.is_spent.result c.is_spent.ensures c.if-is_spent.false) c.spend.ensures
-    (rw c.in-Ok-Some.field-0-is at c.in-Ok-Some.ensures.on_offer) (rw c.in-Ok-Some.field-0-is at c.in-Ok-Some.ensures.offered) c.in-Ok-Some.ensures.same
-    c.answer-answer.ensures.does c.give.ensures.used c.give.ensures.past c.answer-answer.ensures.calls
-    c.answer-answer.ensures.range c.give.ensures.range c.give.ensures.lies c.give.ensures.made
-    (or_with_true c.loop-token.failed c.answer-answer.result.failed c.if-failed.true)
+loop-token-preserved-then-failed g c = (
+  course_more c.args.self.now c.args.budget c.loop-token.left c.spend.new.self c.args.mem.now c.loop-token.mem c.answer-answer.new.mem c.give.new.mem c.args.queue.now c.loop-token.queue c.take.new.self c.give.new.self
+      (g.I.Image.disk c.args.cache.now) (g.I.Image.disk c.loop-token.cache) (g.I.Image.disk c.answer-answer.new.cache)
+      c.loop-token.failed c.answer-answer.result.failed c.loop-token.failed c.take.new.chain (entry_of c.in-Ok-Some.token) c.answer-answer.result.len c.answer-answer.result.wrote
+      c.loop-token.invariant.0 (some_left c.loop-token.left c.is_spent.result c.is_spent.ensures c.if-is_spent.false) c.spend.ensures
+      (rw c.in-Ok-Some.field-0-is at c.in-Ok-Some.ensures.on_offer) (rw c.in-Ok-Some.field-0-is at c.in-Ok-Some.ensures.offered) c.in-Ok-Some.ensures.same
+      c.answer-answer.ensures.does c.give.ensures.used c.give.ensures.past c.answer-answer.ensures.calls
+      c.answer-answer.ensures.range c.give.ensures.range c.give.ensures.lies c.give.ensures.made
+      (or_with_true c.loop-token.failed c.answer-answer.result.failed c.if-failed.true),
+  touched_more c.args.self.now.extent c.loop-token.invariant.1 c.answer-answer.ensures.touches,
+)
 
 pub loop-token-preserved : goal.loop-token-preserved
-loop-token-preserved g c =
-    course_more c.args.self.now c.args.budget c.loop-token.left c.spend.new.self c.args.mem.now c.loop-token.mem c.answer-answer.new.mem c.give.new.mem c.args.queue.now c.loop-token.queue c.take.new.self c.give.new.self
-    (g.I.Image.disk c.args.cache.now) (g.I.Image.disk c.loop-token.cache) (g.I.Image.disk c.answer-answer.new.cache)
-    c.loop-token.failed c.answer-answer.result.failed c.answer-answer.result.failed c.take.new.chain (entry_of c.in-Ok-Some.token) c.answer-answer.result.len c.answer-answer.result.wrote
-    c.loop-token.invariant (some_left c.loop-token.left c.is_spent.result c.is_spent.ensures c.if-is_spent.false) c.spend.ensures
-    (rw c.in-Ok-Some.field-0-is at c.in-Ok-Some.ensures.on_offer) (rw c.in-Ok-Some.field-0-is at c.in-Ok-Some.ensures.offered) c.in-Ok-Some.ensures.same
-    c.answer-answer.ensures.does c.give.ensures.used c.give.ensures.past c.answer-answer.ensures.calls
-    c.answer-answer.ensures.range c.give.ensures.range c.give.ensures.lies c.give.ensures.made
-    (or_with_false c.loop-token.failed c.answer-answer.result.failed c.if-failed.false)
+loop-token-preserved g c = (
+  course_more c.args.self.now c.args.budget c.loop-token.left c.spend.new.self c.args.mem.now c.loop-token.mem c.answer-answer.new.mem c.give.new.mem c.args.queue.now c.loop-token.queue c.take.new.self c.give.new.self
+      (g.I.Image.disk c.args.cache.now) (g.I.Image.disk c.loop-token.cache) (g.I.Image.disk c.answer-answer.new.cache)
+      c.loop-token.failed c.answer-answer.result.failed c.answer-answer.result.failed c.take.new.chain (entry_of c.in-Ok-Some.token) c.answer-answer.result.len c.answer-answer.result.wrote
+      c.loop-token.invariant.0 (some_left c.loop-token.left c.is_spent.result c.is_spent.ensures c.if-is_spent.false) c.spend.ensures
+      (rw c.in-Ok-Some.field-0-is at c.in-Ok-Some.ensures.on_offer) (rw c.in-Ok-Some.field-0-is at c.in-Ok-Some.ensures.offered) c.in-Ok-Some.ensures.same
+      c.answer-answer.ensures.does c.give.ensures.used c.give.ensures.past c.answer-answer.ensures.calls
+      c.answer-answer.ensures.range c.give.ensures.range c.give.ensures.lies c.give.ensures.made
+      (or_with_false c.loop-token.failed c.answer-answer.result.failed c.if-failed.false),
+  touched_more c.args.self.now.extent c.loop-token.invariant.1 c.answer-answer.ensures.touches,
+)
 
 pub returns-then-is_spent-clause-stops : goal.returns-then-is_spent-clause-stops
 returns-then-is_spent-clause-stops g c =
     stops_paused c.args.self.now c.args.budget c.loop-token.left c.args.mem.now c.loop-token.mem c.args.queue.now c.loop-token.queue c.take.new.self
     (g.I.Image.disk c.args.cache.now) (g.I.Image.disk c.loop-token.cache) c.loop-token.failed c.take.new.chain (entry_of c.in-Ok-Some.token)
-    c.loop-token.invariant (c.is_spent.ensures.0 c.if-is_spent.true)
+    c.loop-token.invariant.0 (c.is_spent.ensures.0 c.if-is_spent.true)
     (rw c.in-Ok-Some.field-0-is at c.in-Ok-Some.ensures.on_offer) (rw c.in-Ok-Some.field-0-is at c.in-Ok-Some.ensures.offered) c.in-Ok-Some.ensures.same
 
 pub returns-in-Ok-None-clause-stops : goal.returns-in-Ok-None-clause-stops
 returns-in-Ok-None-clause-stops g c =
     stops_spent c.args.self.now c.args.budget c.loop-token.left c.args.mem.now c.loop-token.mem c.args.queue.now c.loop-token.queue c.take.new.self
     (g.I.Image.disk c.args.cache.now) (g.I.Image.disk c.loop-token.cache) c.loop-token.failed
-    c.loop-token.invariant (rw c.in-Ok-None.field-0-is at c.in-Ok-None.ensures.on_offer) c.in-Ok-None.ensures.same
+    c.loop-token.invariant.0 (rw c.in-Ok-None.field-0-is at c.in-Ok-None.ensures.on_offer) c.in-Ok-None.ensures.same
 
 pub returns-in-Err-clause-stops : goal.returns-in-Err-clause-stops
 returns-in-Err-clause-stops g c =
     stops_by_fault c.args.self.now c.args.budget c.loop-token.left c.args.mem.now c.loop-token.mem c.args.queue.now c.loop-token.queue c.take.new.self
     (g.I.Image.disk c.args.cache.now) (g.I.Image.disk c.loop-token.cache) c.loop-token.failed c.in-Err.fault
-    c.loop-token.invariant c.in-Err.ensures.met c.in-Err.ensures.fault c.in-Err.ensures.stopped
+    c.loop-token.invariant.0 c.in-Err.ensures.met c.in-Err.ensures.fault c.in-Err.ensures.stopped

@@ -2,6 +2,7 @@ use Rattle.std.proofs.Common.{sym}
 use Rattle.mmio_window.proofs.Soundness.{serving_keeps_sound}
 use Rattle.mmio_window.specs.Window.{queue_at}
 use Rattle.block_device.proofs.Pieces.{serves_to}
+use Rattle.block_device.proofs.Touching.{untouched}
 use Rattle.block_device.proofs.device.BlockDevice.serve_piece.Goals as goal
 
 pub returns-clause-served : goal.returns-clause-served
@@ -15,3 +16,6 @@ returns-clause-sound g c =
     c.show.ensures.sound c.serve_queue-service.new.mem
     (serving_keeps_sound c.args.mem.now c.serve_queue-service.new.mem c.args.window.now 0 c.in-Some.queue.now c.serve_queue-service.new.queue
     c.requires.sound c.serve_queue-service.ensures.range (sym c.in-Some.ensures.value) c.serve_queue-service.ensures.made)
+
+pub returns-in_default-clause-touches : goal.returns-in_none-clause-touches
+returns-in_default-clause-touches g c = untouched c.args.self.now.extent

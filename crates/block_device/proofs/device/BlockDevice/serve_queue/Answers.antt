@@ -5,6 +5,7 @@ use Rattle.mmio_window.specs.Serving.{ending_of}
 use Rattle.block_device.specs.Device.{block_device}
 use Rattle.block_device.specs.Extent.{extent_disk}
 use Rattle.block_device.specs.Serving.{site_of}
+use Rattle.block_device.proofs.Touching.{untouched}
 use Rattle.block_device.proofs.device.BlockDevice.serve_queue.Goals as goal
 
 pub returns-in-Err-clause-service : goal.returns-in-Err-clause-service
@@ -21,3 +22,6 @@ returns-in-End-clause-service g c =
     c.serve_chains-work.new.mem c.close-in-End.new.mem c.serve_chains-work.new.queue c.close-in-End.new.self
     (extent_disk c.args.self.now.extent (g.I.Image.disk c.serve_chains-work.new.cache)) (ending_of c.in-End.fault) c.close-in-End.result
     (rw c.in-End.is at c.serve_chains-work.ensures.stops) c.close-in-End.ensures.closed c.close-in-End.ensures.shut c.close-in-End.ensures.wants)
+
+pub returns-in-Err-clause-touches : goal.returns-in-Err-clause-touches
+returns-in-Err-clause-touches g c = untouched c.args.self.now.extent

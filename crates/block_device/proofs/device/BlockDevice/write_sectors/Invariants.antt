@@ -1,5 +1,6 @@
 use Rattle.std.proofs.Common.{◌+◌}
 use Rattle.chain.specs.Bytes.{readable_of}
+use Rattle.block_device.specs.Extent.{TouchesExtent}
 use Rattle.block_device.specs.Request.{payload_of}
 use Rattle.block_device.proofs.Transfers.{IsWriting}
 use Rattle.block_device.proofs.device.BlockDevice.write_sectors.Given as goal
@@ -7,3 +8,4 @@ use Rattle.block_device.proofs.device.BlockDevice.write_sectors.Given as goal
 abbrev pub invariant-loop-done : goal.invariant-loop-done
 invariant-loop-done g l =
     IsWriting (g.I.Image.disk l.fn.cache) (g.I.Image.disk l.cache) (l.self.extent.start + l.sector) (payload_of (readable_of l.mem l.chain)) l.done
+    × TouchesExtent g.I.Image.moment g.I.Image.may_leave g.I.Image.left_since l.self.extent l.fn.cache l.cache

@@ -3,16 +3,19 @@ use Rattle.std.specs.List.{range_with_len}
 use Rattle.block_device.specs.Extent.{extent_disk}
 use Rattle.block_device.specs.Zeroes.{IsStopped, sectors_of}
 use Rattle.block_device.proofs.Zeroing.{IsZeroing, run-at, run-more, zeroing_more, zeroing_stops}
+use Rattle.block_device.proofs.Touching.{touched_sector}
 use Rattle.block_device.proofs.device.BlockDevice.zero_sectors.Goals as goal
 
 pub loop-done-preserved : goal.loop-done-preserved
 loop-done-preserved g c =
     let sector = c.args.segment.sector in
-    let done = c.loop-done.done in
-    subst (IsZeroing c.args.self.now.extent (g.I.Image.disk c.args.cache.now) (g.I.Image.disk c.zero.new.self)) (sym (run-more sector done))
-    (zeroing_more c.args.self.now.extent (g.I.Image.disk c.args.cache.now) (g.I.Image.disk c.loop-done.cache) (g.I.Image.disk c.zero.new.self)
-    (range_with_len sector done) (sector + done) _ c.loop-done.invariant (g.met.I.Image.whole c.loop-done.cache) c.requires.lies
-    (omega arith) (omega arith) c.in_ok-zero.ensures.ok)
+    let done = c.loop-done.done in (
+      subst (IsZeroing c.args.self.now.extent (g.I.Image.disk c.args.cache.now) (g.I.Image.disk c.zero.new.self)) (sym (run-more sector done))
+          (zeroing_more c.args.self.now.extent (g.I.Image.disk c.args.cache.now) (g.I.Image.disk c.loop-done.cache) (g.I.Image.disk c.zero.new.self)
+          (range_with_len sector done) (sector + done) _ c.loop-done.invariant.0 (g.met.I.Image.whole c.loop-done.cache) c.requires.lies
+          (omega arith) (omega arith) c.in_ok-zero.ensures.ok),
+      touched_sector c.args.self.now.extent (c.args.self.now.extent.start + c.args.segment.sector + c.loop-done.done) c.loop-done.invariant.1 (omega arith) (omega arith) c.zero.ensures.touches,
+    )
 
 pub returns-in_err-zero-clause-err : goal.returns-in_err-zero-clause-err
 returns-in_err-zero-clause-err g c =
@@ -21,7 +24,7 @@ returns-in_err-zero-clause-err g c =
     let stopped : IsStopped (sectors_of c.args.segment) (extent_disk c.args.self.now.extent (g.I.Image.disk c.args.cache.now)) (extent_disk c.args.self.now.extent (g.I.Image.disk c.zero.new.self)) =
     (zeroing_stops c.args.self.now.extent (g.I.Image.disk c.args.cache.now) (g.I.Image.disk c.loop-done.cache) (g.I.Image.disk c.zero.new.self)
     (sectors_of c.args.segment) (range_with_len sector done) (range_with_len (sector + done + 1) (c.args.segment.count - done - 1)) (sector + done) _
-    c.loop-done.invariant (g.met.I.Image.whole c.loop-done.cache) c.requires.lies (omega arith) (omega arith)
+    c.loop-done.invariant.0 (g.met.I.Image.whole c.loop-done.cache) c.requires.lies (omega arith) (omega arith)
     (run-at sector done c.args.segment.count (omega arith)) c.in_err-zero.ensures.err).0 in
     search rules
 
@@ -31,5 +34,8 @@ returns-in_err-zero-clause-outside g c =
     let done = c.loop-done.done in
     (zeroing_stops c.args.self.now.extent (g.I.Image.disk c.args.cache.now) (g.I.Image.disk c.loop-done.cache) (g.I.Image.disk c.zero.new.self)
     (sectors_of c.args.segment) (range_with_len sector done) (range_with_len (sector + done + 1) (c.args.segment.count - done - 1)) (sector + done) _
-    c.loop-done.invariant (g.met.I.Image.whole c.loop-done.cache) c.requires.lies (omega arith) (omega arith)
+    c.loop-done.invariant.0 (g.met.I.Image.whole c.loop-done.cache) c.requires.lies (omega arith) (omega arith)
     (run-at sector done c.args.segment.count (omega arith)) c.in_err-zero.ensures.err).1
+
+pub returns-in_err-zero-clause-touches : goal.returns-in_err-zero-clause-touches
+returns-in_err-zero-clause-touches g c = touched_sector c.args.self.now.extent (c.args.self.now.extent.start + c.args.segment.sector + c.loop-done.done) c.loop-done.invariant.1 (omega arith) (omega arith) c.zero.ensures.touches

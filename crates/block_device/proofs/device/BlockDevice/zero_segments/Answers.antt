@@ -3,6 +3,7 @@ use Rattle.chain.specs.Bytes.{readable_of}
 use Rattle.block_device.specs.Request.{payload_of}
 use Rattle.block_device.proofs.Judging.{segment_within}
 use Rattle.block_device.proofs.Zeroing.{zeroes_done, zeroes_stopped, zeroes_unflushed, zeroing_joins}
+use Rattle.block_device.proofs.Touching.{touched_more, touched_nothing}
 use Rattle.block_device.proofs.device.BlockDevice.zero_segments.Goals as goal
 
 pub zero_sectors-requires-clause-sectors : goal.zero_sectors-requires-clause-sectors
@@ -12,41 +13,52 @@ zero_sectors-requires-clause-sectors g c =
     segment_within c.args.self.now.extent.count payload c.loop-index.index c.read-segment.result c.requires.sectors c.read-segment.ensures below
 
 pub loop-index-preserved : goal.loop-index-preserved
-loop-index-preserved g c =
-    zeroing_joins c.args.self.now.extent (g.I.Image.disk c.args.cache.now) (g.I.Image.disk c.loop-index.cache) (g.I.Image.disk c.zero_sectors.new.cache)
-    (payload_of (readable_of c.args.mem.now c.args.chain.now)) c.loop-index.index c.read-segment.result c.loop-index.invariant c.read-segment.ensures
-    c.in-Ok.ensures.ok c.zero_sectors.ensures.outside
+loop-index-preserved g c = (
+  zeroing_joins c.args.self.now.extent (g.I.Image.disk c.args.cache.now) (g.I.Image.disk c.loop-index.cache) (g.I.Image.disk c.zero_sectors.new.cache)
+      (payload_of (readable_of c.args.mem.now c.args.chain.now)) c.loop-index.index c.read-segment.result c.loop-index.invariant.0 c.read-segment.ensures
+      c.in-Ok.ensures.ok c.zero_sectors.ensures.outside,
+  touched_more c.args.self.now.extent c.loop-index.invariant.1 c.zero_sectors.ensures.touches,
+)
 
 pub returns-in-Err-clause-done : goal.returns-in-Err-clause-done
 returns-in-Err-clause-done g c =
     let payload = payload_of (readable_of c.args.mem.now c.args.chain.now) in
     let below : c.loop-index.index < length payload / 16 = omega (arith, c.requires.payload) in
     (zeroes_stopped c.args.self.now.identity c.args.self.now.extent c.args.chain.now c.args.mem.now (g.I.Image.disk c.args.cache.now) (g.I.Image.disk c.loop-index.cache) (g.I.Image.disk c.zero_sectors.new.cache)
-    c.args.segments c.loop-index.index c.loop-index.invariant c.read-segment.result c.read-segment.ensures below c.in-Err.ensures.err c.zero_sectors.ensures.outside).0
+    c.args.segments c.loop-index.index c.loop-index.invariant.0 c.read-segment.result c.read-segment.ensures below c.in-Err.ensures.err c.zero_sectors.ensures.outside).0
 
 pub returns-in-Err-clause-calls : goal.returns-in-Err-clause-calls
 returns-in-Err-clause-calls g c =
     let payload = payload_of (readable_of c.args.mem.now c.args.chain.now) in
     let below : c.loop-index.index < length payload / 16 = omega (arith, c.requires.payload) in
     (zeroes_stopped c.args.self.now.identity c.args.self.now.extent c.args.chain.now c.args.mem.now (g.I.Image.disk c.args.cache.now) (g.I.Image.disk c.loop-index.cache) (g.I.Image.disk c.zero_sectors.new.cache)
-    c.args.segments c.loop-index.index c.loop-index.invariant c.read-segment.result c.read-segment.ensures below c.in-Err.ensures.err c.zero_sectors.ensures.outside).1
+    c.args.segments c.loop-index.index c.loop-index.invariant.0 c.read-segment.result c.read-segment.ensures below c.in-Err.ensures.err c.zero_sectors.ensures.outside).1
 
 pub returns-in-Ok-flush-clause-done : goal.returns-in-Ok-flush-clause-done
 returns-in-Ok-flush-clause-done g c =
     (zeroes_done c.args.self.now.identity c.args.self.now.extent c.args.chain.now c.args.mem.now (g.I.Image.disk c.args.cache.now) (g.I.Image.disk c.loop-index.cache) (g.I.Image.disk c.flush.new.self)
-    c.args.segments c.loop-index.index c.loop-index.invariant c.requires.payload (omega arith) c.in-Ok-flush.ensures.ok).0
+    c.args.segments c.loop-index.index c.loop-index.invariant.0 c.requires.payload (omega arith) c.in-Ok-flush.ensures.ok).0
 
 pub returns-in-Ok-flush-clause-calls : goal.returns-in-Ok-flush-clause-calls
 returns-in-Ok-flush-clause-calls g c =
     (zeroes_done c.args.self.now.identity c.args.self.now.extent c.args.chain.now c.args.mem.now (g.I.Image.disk c.args.cache.now) (g.I.Image.disk c.loop-index.cache) (g.I.Image.disk c.flush.new.self)
-    c.args.segments c.loop-index.index c.loop-index.invariant c.requires.payload (omega arith) c.in-Ok-flush.ensures.ok).1
+    c.args.segments c.loop-index.index c.loop-index.invariant.0 c.requires.payload (omega arith) c.in-Ok-flush.ensures.ok).1
 
 pub returns-in-Err-flush-clause-done : goal.returns-in-Err-flush-clause-done
 returns-in-Err-flush-clause-done g c =
     (zeroes_unflushed c.args.self.now.identity c.args.self.now.extent c.args.chain.now c.args.mem.now (g.I.Image.disk c.args.cache.now) (g.I.Image.disk c.loop-index.cache) (g.I.Image.disk c.flush.new.self)
-    c.args.segments c.loop-index.index c.loop-index.invariant c.requires.payload (omega arith) c.in-Err-flush.ensures.err).0
+    c.args.segments c.loop-index.index c.loop-index.invariant.0 c.requires.payload (omega arith) c.in-Err-flush.ensures.err).0
 
 pub returns-in-Err-flush-clause-calls : goal.returns-in-Err-flush-clause-calls
 returns-in-Err-flush-clause-calls g c =
     (zeroes_unflushed c.args.self.now.identity c.args.self.now.extent c.args.chain.now c.args.mem.now (g.I.Image.disk c.args.cache.now) (g.I.Image.disk c.loop-index.cache) (g.I.Image.disk c.flush.new.self)
-    c.args.segments c.loop-index.index c.loop-index.invariant c.requires.payload (omega arith) c.in-Err-flush.ensures.err).1
+    c.args.segments c.loop-index.index c.loop-index.invariant.0 c.requires.payload (omega arith) c.in-Err-flush.ensures.err).1
+
+pub returns-in-Err-clause-touches : goal.returns-in-Err-clause-touches
+returns-in-Err-clause-touches g c = touched_more c.args.self.now.extent c.loop-index.invariant.1 c.zero_sectors.ensures.touches
+
+pub returns-in-Ok-flush-clause-touches : goal.returns-in-Ok-flush-clause-touches
+returns-in-Ok-flush-clause-touches g c = touched_nothing c.args.self.now.extent c.loop-index.invariant.1 c.flush.ensures.touches
+
+pub returns-in-Err-flush-clause-touches : goal.returns-in-Err-flush-clause-touches
+returns-in-Err-flush-clause-touches g c = touched_nothing c.args.self.now.extent c.loop-index.invariant.1 c.flush.ensures.touches

@@ -6,6 +6,7 @@ use Rattle.board.specs.World.{disturbed_of}
 use Rattle.board.proofs.Outside.{outside_kept}
 use Rattle.board.proofs.Seats.{extents_of-set, noted_none, noted_set, others_kept, slot_within, stays_in_extents, stays_same, takes}
 use Rattle.board.proofs.Alone.{get_set}
+use Rattle.board.proofs.Touching.{touches_missing, touches_slot}
 use Rattle.board.proofs.board.Board.go_on.Goals as goal
 
 pub returns-in_default-clause-noted : goal.returns-in_default-clause-noted
@@ -68,3 +69,12 @@ returns-clause-within g c limit limited found after here now =
     let is : c.in-Some.slot.now ≡ found = same_Some c.in-Some.slot.now found (sym was ∙ here) in
     let set : c.go_on-turn.new.self ≡ after = same_Some c.go_on-turn.new.self after (sym (get_set c.self.inside.slots.items c.args.slot c.in-Some.slot.now c.go_on-turn.new.self (there g c)) ∙ now) in
     rw (← is, ← set, ← c.self.view_is, c.after.ensures.turn) (c.go_on-turn.ensures.within limit limited)
+
+pub returns-in_default-clause-touches : goal.returns-in_default-clause-touches
+returns-in_default-clause-touches g c =
+    let past : length c.self.inside.slots.items ≤ c.args.slot = grind (arith, c.in_default.ensures.variant.1) in
+    rw (← c.self.view_is) (touches_missing g.I.Image.moment g.I.Image.may_leave g.I.Image.left_since c.self.inside.slots.items c.args.slot c.self.inside.cache past)
+
+pub returns-clause-touches : goal.returns-clause-touches
+returns-clause-touches g c =
+    rw (← c.self.view_is) (touches_slot g.I.Image.moment g.I.Image.may_leave g.I.Image.left_since c.self.inside.slots.items _ c.args.slot c.in-Some.slot.now c.self.inside.cache c.go_on-turn.new.cache (there g c) c.go_on-turn.ensures.touches)

@@ -4,6 +4,7 @@ use Rattle.board.specs.Image.{bytes_of, health_of}
 use Rattle.board.specs.Slot.{state_of}
 use Rattle.board.proofs.Blocks.{count_of, read_given}
 use Rattle.board.proofs.Turns.{comes_first, silent_answer}
+use Rattle.board.proofs.Touching.{untouched}
 use Rattle.board.proofs.slot.Slot.answer.Goals as goal
 use Rattle.board.proofs.slot.Slot.answer.Goals.{in-Read, in-MemRead, in-MemWrite, in-Resize, in-Restore}
 
@@ -33,3 +34,9 @@ returns-clause-serves g c = λ tells.
           (silent_answer _ c.args.budget _ _ _ _ _ out refl
           (w.answer_restore-reply.ensures.given bytes (health_of old) (count_of slot.extent old tells (g.met.I.Image.whole c.args.cache.now) c.requires.lies)))
     ]
+
+pub returns-in-Input-clause-touches : goal.returns-in-Input-clause-touches
+returns-in-Input-clause-touches g c = untouched g.I.Image.moment g.I.Image.may_leave g.I.Image.left_since c.args.self.now.extent c.args.cache.now
+
+pub returns-clause-touches : goal.returns-clause-touches
+returns-clause-touches g c = untouched g.I.Image.moment g.I.Image.may_leave g.I.Image.left_since c.args.self.now.extent c.args.cache.now

@@ -4,6 +4,7 @@ use Rattle.board.specs.Image.{bytes_of, health_of}
 use Rattle.board.specs.Slot.{state_of}
 use Rattle.board.proofs.Outside.{outside_kept}
 use Rattle.board.proofs.Turns.{block_piece, has_bytes, never_lacks, refuses, sends, sent_within, silent_turn, unsent_within}
+use Rattle.board.proofs.Touching.{untouched}
 use Rattle.board.proofs.slot.Slot.serve_piece.Goals as goal
 use Rattle.board.proofs.slot.Slot.serve_piece.Goals.{in-Ok, in-Err}
 
@@ -63,3 +64,9 @@ returns-after-serve_transmit-clause-within g c = λ limit limited.
           rw (served.ensures.rest, w.turn-is)
           (unsent_within _ limit (g.O.Outlet.limit c.args.out.now) c.args.pause c.args.stage c.args.budget state served.new.self.memory served.new.self.console _ _ limited c.in-Transmit.is w.in-Err.ensures.no_memory)
     ]
+
+pub returns-in-Receive-clause-touches : goal.returns-in-Receive-clause-touches
+returns-in-Receive-clause-touches g c = untouched g.I.Image.moment g.I.Image.may_leave g.I.Image.left_since c.args.self.now.extent c.args.cache.now
+
+pub returns-after-serve_transmit-clause-touches : goal.returns-after-serve_transmit-clause-touches
+returns-after-serve_transmit-clause-touches g c = untouched g.I.Image.moment g.I.Image.may_leave g.I.Image.left_since c.args.self.now.extent c.args.cache.now

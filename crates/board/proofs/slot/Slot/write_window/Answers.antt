@@ -11,6 +11,7 @@ use Rattle.board.specs.Within.{BeginsWithin}
 use Rattle.board.specs.Task.{Task}
 use Rattle.board.specs.World.{TakesMemory}
 use Rattle.board.proofs.Turns.{begins_by, begins_within, nothing_asked, nothing_turn, put_out_asked, put_out_turn, put_out_within, serve_asked, transmit_asked}
+use Rattle.board.proofs.Touching.{untouched}
 use Rattle.board.proofs.slot.Slot.write_window.Goals as goal
 
 pub returns-in-Serve-clause-serves : goal.returns-in-Serve-clause-serves
@@ -71,3 +72,9 @@ returns-in-Nothing-clause-serves g c = λ tells.
     rw (c.write_registers.ensures.written bytes)
     (nothing_turn state c.args.window c.args.offset c.args.width c.args.value c.args.budget (health_of (g.I.Image.disk c.args.cache.now)) _
     (nothing_asked task (sym c.in-Nothing.is ∙ c.write_registers.ensures.duty bytes)))
+
+pub returns-in-PutOut-clause-touches : goal.returns-in-PutOut-clause-touches
+returns-in-PutOut-clause-touches g c = untouched g.I.Image.moment g.I.Image.may_leave g.I.Image.left_since c.args.self.now.extent c.args.cache.now
+
+pub returns-in-Nothing-clause-touches : goal.returns-in-Nothing-clause-touches
+returns-in-Nothing-clause-touches g c = untouched g.I.Image.moment g.I.Image.may_leave g.I.Image.left_since c.args.self.now.extent c.args.cache.now
