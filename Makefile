@@ -91,7 +91,7 @@ bench:
 fuzz:
 	@fuzz/run $(N) --from $(FROM)
 
-# Runs the built program on thousands of broken traces.
+# Runs the built program on some thousand broken traces.
 broken:
 	@fuzz/broken
 
@@ -127,7 +127,7 @@ linux-test:
 linux-picture:
 	@examples/linux/picture
 
-# Calls the library from C ten million times at random: under a heap that refuses, with hosted disks, from several threads.
+# Calls the library from C ten million times at random, under a heap that refuses; also with hosted disks and from several threads.
 stress:
 	@examples/embed/stress-run
 
@@ -139,7 +139,7 @@ doors:
 peer:
 	@crates/conformance/run-on --quiet --jobs 3 --adapter --in-place - --table crates/conformance/peers/QEMU.md crates/conformance/peers/qemu
 
-# Makes wrong devices out of a small model, and checks that the test suite refuses each.
+# Makes wrong devices out of a small model, and checks that each fails the scenario that is meant for it.
 mutants:
 	@crates/conformance/mutants/run
 
