@@ -21,7 +21,7 @@ run:
 prove:
 	@packaging/replay --prove "$(TRACE)" "$(IMAGE)" "$(SAVE)"
 
-# Says what happened in a trace, in the standard's names. TRACE=FILE names it, IMAGE=FILE an image to replay it over, and
+# Says in the standard's words what happens in a trace, and what its drivers do wrong. TRACE=FILE names it, IMAGE=FILE an image to replay it over, and
 # PAGE=FILE has it as one page to look at.
 show: vshow
 	@crates/show/out/vshow "$(TRACE)" $(if $(IMAGE),"$(IMAGE)") $(if $(PAGE),--page "$(PAGE)")
@@ -35,11 +35,11 @@ vshow:
 look-test: vshow
 	@crates/show/look/test crates/show/out/vshow
 
-# Draws the picture of the page in the README anew.
+# Draws the README's picture of vshow's page anew.
 look-picture: look-test
 	@cp crates/show/look/out/broken-driver.png examples/broken-driver.png
 
-# Compares what vshow says with records, over every scenario and N traces of the fuzzer from the seed FROM on. Before that it
+# Compares what vshow says with a model, over every scenario and N fuzzed traces from the seed FROM on. Before that it
 # tries each rule on a driver's mistakes, over a trace that breaks it and one near it that doesn't.
 show-check: vshow
 	@crates/show/look/rules crates/show/out/vshow
@@ -49,7 +49,7 @@ show-check: vshow
 test:
 	@.ci/gate
 
-# Lists what there is to make.
+# Lists these commands.
 help:
 	@awk '/^#/ { text = text substr($$0, 2); next } /^[a-z-]+:/ && text { sub(/:.*/, ""); sub(/\. .*|\.$$/, "", text); \
 		printf "make %-15s%s\n", $$0, text } { text = "" }' $(firstword $(MAKEFILE_LIST))
@@ -58,32 +58,32 @@ help:
 library:
 	@packaging/build
 
-# Installs the library's header, archive and shared object below PREFIX, with kalyubos.pc, its pages and the notices; it is
-# built first where a source is newer. DESTDIR stands before each path.
+# Builds the library for C where a source is newer, and installs it below PREFIX with its header, kalyubos.pc, pages and notices.
+# DESTDIR stands before each path.
 install: packaging/out/libkalyubos.a
 	@DESTDIR="$(DESTDIR)" LIBDIR="$(LIBDIR)" INCLUDEDIR="$(INCLUDEDIR)" packaging/install "$(PREFIX)"
 
 packaging/out/libkalyubos.a: crates.txt examples/embed/heap.c $(shell find crates -name out -prune -o -name '*.rt' -print -o -name '*.h' -print)
 	@packaging/build
 
-# Removes what install put there.
+# Removes what make install installed.
 uninstall:
 	@DESTDIR="$(DESTDIR)" LIBDIR="$(LIBDIR)" INCLUDEDIR="$(INCLUDEDIR)" packaging/install --remove "$(PREFIX)"
 
-# Packs the built library and programs, the suite and the pages, for who has no toolchain: an archive in packaging/out. make
+# Packs what is built, the suite and the pages into an archive in packaging/out, for users without the toolchain. make
 # library, make prove and make vshow build what it wants; vshow is left out where it isn't built.
 dist:
 	@packaging/release dist
 
-# Packs the same as three packages for Debian, by dpkg-deb.
+# Packs the same into three Debian packages, by dpkg-deb.
 deb:
 	@packaging/release deb
 
-# Makes the archive and the packages twice each, compares them byte for byte, and looks at the links of their pages.
+# Makes the archive and the packages twice, compares them byte for byte, and checks the links of their pages.
 dist-check:
 	@packaging/release check
 
-# Times the built program over traces that the script makes.
+# Measures the built program over generated traces.
 bench:
 	@bench/run
 
@@ -91,26 +91,25 @@ bench:
 fuzz:
 	@fuzz/run $(N) --from $(FROM)
 
-# Hands broken traces to the built program.
+# Runs the built program on some thousand broken traces.
 broken:
 	@fuzz/broken
 
-# Calls the program by all kinds of words, with its standard streams closed, over files of all kinds, and with each call of the
-# system and each request for memory going wrong; and replays N traces in place over a file of which one call goes wrong, from
-# the seed FROM on.
+# Runs the built program with wrong arguments, closed streams, odd files, and failing system calls and memory. It also replays
+# N traces in place over a file of which one call goes wrong, from the seed FROM on.
 trouble:
 	@fuzz/calls
 	@fuzz/streams
 	@fuzz/files
 	@fuzz/trouble $(N) --from $(FROM)
 
-# Makes the files that a stop may leave, of N traces replayed in place and of N boots of Linux from the seed FROM on, and looks
-# for what the guests were told. The boots want what make linux builds.
+# Tries power losses: of N traces in place and N boots of Linux, from the seed FROM on. It makes the files that a stop may leave,
+# and looks in them for what the guests were told. The boots want what make linux builds.
 stops:
 	@fuzz/stops $(N) --from $(FROM)
 
-# Builds the library and its hosts, in C and in Rust, over a CPU emulator and over KVM, as far as the machine has what
-# they want, runs them, and compares what they print.
+# Builds the library and the example hosts in C and Rust, runs them, and compares what they print. It leaves out the hosts whose
+# tools the machine doesn't have.
 embed:
 	@examples/embed/run
 
@@ -121,32 +120,30 @@ embed:
 linux:
 	@examples/linux/run
 
-# Boots it in many ways, and prints a line for each check.
+# Boots Linux in many ways, and prints a line for each check.
 linux-test:
 	@examples/linux/test
 
-# Boots it once more, and draws both consoles as examples/linux/boot.svg.
+# Boots Linux, and draws both consoles as examples/linux/boot.svg.
 linux-picture:
 	@examples/linux/picture
 
-# Calls the library ten million times at random from C, under a heap that refuses, and beside vreplay; with disks that the host
-# completes at random; and from several threads.
+# Calls the library from C ten million times at random, under a heap that refuses; also with hosted disks and from several threads.
 stress:
 	@examples/embed/stress-run
 
-# Runs the worked scenarios by each door that is built: the program, the program in place, the C library, and that with disks that
-# a host serves.
+# Runs the test suite on what is built: the program, the program in place, the C library, and the library with hosted disks.
 doors:
 	@crates/conformance/in-process/doors
 
-# Runs the worked scenarios on QEMU's devices, and compares what differs with the table; it wants qemu-system-arm.
+# Runs the test suite on QEMU's devices, and compares the differences with a table; it wants qemu-system-arm.
 peer:
 	@crates/conformance/run-on --quiet --jobs 3 --adapter --in-place - --table crates/conformance/peers/QEMU.md crates/conformance/peers/qemu
 
-# Makes wrong devices out of a small model, and runs over each the scenario that it must fail.
+# Makes wrong devices out of a small model, and checks that each fails the scenario that is meant for it.
 mutants:
 	@crates/conformance/mutants/run
 
-# Makes the scenarios of the matrix anew from their tables, and compares them with what is checked in.
+# Makes the matrix of scenarios anew from its tables, and compares it with the files checked in.
 matrix:
 	@crates/conformance/matrix/make
