@@ -176,7 +176,8 @@ static void scatter(struct guest *guest)
 static void fill_descriptor(uint8_t *at, int queue, uint64_t place, uint64_t number, bool is_sane, bool is_packed)
 {
     static const uint16_t lens[] = { 16, 1, 512, 16, 1024, 0, 4, 513 }, of_request[] = { 16, 512, 1 };
-    uint64_t part = queue < 2 ? place % 3 : 3, next = place + 1, flags = part < 2 ? NEXT : 0, len = part < 3 ? of_request[part] : 64;
+    uint64_t part = queue < 2 ? place % 3 : 3, next = place + 1;
+    uint64_t flags = part < 2 ? NEXT : 0, len = part < 3 ? of_request[part] : 64;
     if (part == 2 || queue == 2 || (part == 1 && chance(2)))
         flags |= WRITE;
     if (!is_sane) {
@@ -436,7 +437,7 @@ int main(int count, char **words)
     }
     end_all(boards, 2);
     printf("snapshots: %" PRIu64 " from seed %" PRIu64 ": %" PRIu64 " taken, %" PRIu64 " that are none, %" PRIu64 " of another slot, %"
-           PRIu64 " of no state; %" PRIu64 " queues went on, %" PRIu64 " devices failed\n", most, seed, counts[KALYUBOS_DONE], counts[KALYUBOS_BAD_SNAPSHOT],
-           counts[KALYUBOS_OTHER_SLOT], counts[KALYUBOS_BAD_STATE], moved, failed);
+           PRIu64 " of no state; %" PRIu64 " queues went on, %" PRIu64 " devices failed\n", most, seed, counts[KALYUBOS_DONE],
+           counts[KALYUBOS_BAD_SNAPSHOT], counts[KALYUBOS_OTHER_SLOT], counts[KALYUBOS_BAD_STATE], moved, failed);
     return 0;
 }

@@ -12,8 +12,8 @@ static const uint64_t MEMORY = 0x80000000;
 
 /* The description: magic, version, base, length, sectors, read-only, identity, columns and rows. */
 #define DESCRIPTION \
-    'K', 'A', 'L', 'Y', 'U', 'B', 'O', 'S', 1, 0, 0, 0, 0, 0, 0, 0x80, 0, 0, 0, 0, 0, 0, 1, 0, 0, 0, 0, 0, SECTORS, 0, 0, 0, 0, 0, 0, \
-    0, 0, 'd', 'i', 's', 'k', '-', 'a', 0, 0, 0, 0, 0, 0, 0, 0, 0, 0, 0, 0, 0, 0, 80, 0, 25, 0
+    'K', 'A', 'L', 'Y', 'U', 'B', 'O', 'S', 1, 0, 0, 0, 0, 0, 0, 0x80, 0, 0, 0, 0, 0, 0, 1, 0, 0, 0, 0, 0, \
+    SECTORS, 0, 0, 0, 0, 0, 0, 0, 0, 'd', 'i', 's', 'k', '-', 'a', 0, 0, 0, 0, 0, 0, 0, 0, 0, 0, 0, 0, 0, 0, 80, 0, 25, 0
 
 /* What each device offers: VERSION_1, RING_PACKED, NOTIFICATION_DATA, INDIRECT_DESC and EVENT_IDX (28, 29, 32, 34, 38), and
  * SEG_MAX, BLK_SIZE, FLUSH and WRITE_ZEROES (2, 6, 9, 14) of the disk, SIZE and EMERG_WRITE (0, 2) of the console. */
@@ -44,8 +44,9 @@ static const struct kalyubos_slot slot = { .size = sizeof slot, .base = MEMORY, 
 /* The slot is saved as these bytes, into buffers of three lengths; a shorter one is left as it was. */
 static void is_saved_as(const uint8_t *bytes, size_t count)
 {
-    uint8_t into[LEN + 16];
+    uint8_t into[LEN + 16], held[LEN + 16];
     size_t len = 0, written;
+    memset(held, HOLD, sizeof held);
     need(kalyubos_saved_len(&board, 0, &len) == KALYUBOS_DONE && len == count, "saved_len", len);
     for (size_t room = count - 1; room <= count + 1; room++) {
         memset(into, HOLD, sizeof into);
@@ -53,7 +54,7 @@ static void is_saved_as(const uint8_t *bytes, size_t count)
         uint32_t answer = kalyubos_save(&board, 0, into, room, &written);
         need(answer == (room < count ? KALYUBOS_SHORT_BUFFER : KALYUBOS_DONE), "save", answer);
         need(written == (room < count ? HOLD : count), "how many bytes were written", written);
-        need(room < count ? into[0] == HOLD && memcmp(into, into + 1, room) == 0 : memcmp(into, bytes, count) == 0, "bytes", room);
+        need(memcmp(into, room < count ? held : bytes, count) == 0, "bytes", room);
         need(into[count] == HOLD, "a byte behind the snapshot", room);
     }
 }
@@ -76,7 +77,7 @@ static void check_refusals(void)
         { 12, 1, KALYUBOS_OTHER_SLOT },      { 22, 2, KALYUBOS_OTHER_SLOT },     /* base, length */
         { 28, 5, KALYUBOS_OTHER_SLOT },      { 36, 1, KALYUBOS_OTHER_SLOT },     /* sectors, read-only */
         { 37, 'D', KALYUBOS_OTHER_SLOT },    { 61, 0x45, KALYUBOS_OTHER_SLOT },  /* identity, an offered feature */
-        { 69, 0x10, KALYUBOS_BAD_STATE },    { 69, 8, KALYUBOS_BAD_STATE },      /* a status bit without a name, FEATURES_OK alone */
+        { 69, 0x10, KALYUBOS_BAD_STATE },    { 69, 8, KALYUBOS_BAD_STATE },      /* a status bit without a name, 8 alone */
         { 165, 0x20, KALYUBOS_BAD_STATE },                                     /* the same of the console */
     };
     uint8_t bytes[LEN + 1];
@@ -102,7 +103,8 @@ static void check_missing(uint8_t number, uint32_t answer)
     need(kalyubos_saved_len(&board, number, &len) == answer, "saved_len of none", number);
     need(kalyubos_save(&board, number, into, LEN, &len) == answer, "save of none", number);
     need(kalyubos_restore(&board, number, fresh, LEN, &pending) == answer, "restore of none", number);
-    need(len == HOLD && into[0] == HOLD && memcmp(into, into + 1, LEN - 1) == 0 && pending.block == HOLD, "what is told", number);
+    need(len == HOLD && into[0] == HOLD && memcmp(into, into + 1, LEN - 1) == 0, "what is told", number);
+    need(pending.block == HOLD && pending.console == HOLD && pending.output == HOLD, "what waits", number);
 }
 
 static void put(uint64_t at, uint64_t low, uint64_t high)
@@ -115,14 +117,16 @@ static void put(uint64_t at, uint64_t low, uint64_t high)
 static void check_busy(uint32_t first)
 {
     static const uint32_t writes[][2] = {
-        { STATUS, 0 }, { STATUS, 3 }, { 0x024, 1 }, { 0x020, 1 }, { STATUS, 11 }, { 0x030, 0 }, { 0x038, 4 }, { 0x080, 0x80001000 },
-        { 0x090, 0x80002000 }, { 0x0a0, 0x80003000 }, { 0x044, 1 }, { STATUS, 15 },
+        { STATUS, 0 }, { STATUS, 3 }, { 0x024, 1 }, { 0x020, 1 }, { STATUS, 11 }, { 0x030, 0 }, { 0x038, 4 },
+        { 0x080, 0x80001000 }, { 0x090, 0x80002000 }, { 0x0a0, 0x80003000 }, { 0x044, 1 }, { STATUS, 15 },
     };
     struct kalyubos_pending pending;
     uint8_t into[LEN + 16];
     size_t len;
-    for (size_t i = 0; i < sizeof writes / sizeof *writes; i++)
-        need(kalyubos_write(&board, 0, KALYUBOS_BLOCK, (uint16_t)writes[i][0], 4, writes[i][1], &pending) == KALYUBOS_DONE, "write", i);
+    for (size_t i = 0; i < sizeof writes / sizeof *writes; i++) {
+        uint16_t offset = (uint16_t)writes[i][0];
+        need(kalyubos_write(&board, 0, KALYUBOS_BLOCK, offset, 4, writes[i][1], &pending) == KALYUBOS_DONE, "write", offset);
+    }
     put(0x1000, MEMORY + 0x4000, 16 | 1ull << 32 | 1ull << 48);
     put(0x1010, MEMORY + 0x5000, 512 | 3ull << 32 | 2ull << 48);
     put(0x1020, MEMORY + 0x6000, 1 | 2ull << 32);
