@@ -56,7 +56,7 @@ impl Subject for Traces {
             "fronts" => self.fronts(answer),
             "slot" => self.slot(words, answer),
             "event" => self.event(words, answer),
-            "version_2" => self.version_2(answer),
+            "version" => self.version(words, answer),
             "read_growths" => self.read_growths(words, answer),
             "growths" => self.growths(words, answer),
             "images" => self.images(answer),
