@@ -8,13 +8,16 @@ use Rattle.board.specs.declared.event.Event.{Event}
 use Rattle.board.specs.declared.spec.SlotSpec.{SlotSpec}
 use Rattle.trace.specs.declared.fault.FaultKind.{FaultKind}
 use Rattle.trace.specs.declared.fault.FaultKind.TheVariants as kind
+use Rattle.trace.specs.declared.read.said.Said.{Said}
+use Rattle.trace.specs.declared.word.Word.{Word}
 use Rattle.trace.specs.declared.word.Word.TheVariants.{Slot}
 use Rattle.trace.specs.Cuts.{fields_of, lines_of, is_line_feed}
 use Rattle.trace.specs.Faults.{IsCleanBefore, IsEnded, IsFault, IsOfVersion, Passes, line_at}
 use Rattle.trace.specs.Printable.{InRange, IsPrintable, EventInRange, IsPrintableKind, IsPrintableSlot, SlotInRange}
+use Rattle.trace.specs.Said.{said_fields}
 use Rattle.trace.specs.Version.{IsVersion}
 use Rattle.trace.specs.Words.{IsWordOf}
-use Rattle.trace.specs.Refusals.{AddsLine, IsFine, IsFineSlot, RefusesLine, RefusesAfterWord, has_begun}
+use Rattle.trace.specs.Refusals.{AddsLine, AddsSaid, IsFine, IsFineSlot, RefusesLine, RefusesAfterWord, has_begun}
 use Rattle.trace.specs.Text.{Content, ended, header, joined, text, line, cache_fields, cache_line, slot_fields, slot_line, event_fields, event_line, trace_lines, word_for}
 use Rattle.trace.proofs.Clean.{Good, IsSlotLine, good, good_passes, only_slots, one_event}
 use Rattle.trace.proofs.Entries.{EnteredEvent, entered_cache, entered_event, entered_slot, same_word}
@@ -224,6 +227,15 @@ entry_read text c d k rest l after so cut (inl adds) =
     subst (λ x. Sofar text x (k + 1) after) (sym adds.added) (slot_read text c k rest l after adds.slot so cut adds.said.fields adds.said.fine (none_begun c adds.said.early))
 entry_read text c d k rest l after so cut (inr adds) =
     subst (λ x. Sofar text x (k + 1) after) (sym adds.added) (event_read text c k rest l after adds.event so cut adds.said.fields adds.said.fine adds.said.of_version)
+
+-- what a line says was added
+pub said_added : {A : Type 0} (old : Content A) (l : List ℕ) (said : Said A) (events : List (Event A)) → fields_of l ≡ said_fields said → IsWordOf old.version (word_for said.event.what) → AddsSaid said old.events events → AddsLine old l (record old { events = events })
+said_added old l said events is of adds =
+    inr (record {
+      event = adds.event;
+      said = record { fields = is ∙ sym adds.fields; fine = adds.fine; of_version = subst (λ (w : Word). IsWordOf old.version w) (sym adds.word) of };
+      added = ap (λ es. record old { events = es }) adds.added;
+    })
 
 -- the next line's number stays below the text's length
 pub length_joined : (ls : List (List ℕ)) → length ls ≤ length (joined ls)

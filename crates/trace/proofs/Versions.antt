@@ -1,5 +1,5 @@
 -- What later versions have.
-use Rattle.std.proofs.Common.{◌≡◌, ◌==◌, ◌≤◌, ◌∙◌, ℕ, Bool, true, false, if◌then◌else◌, List, [], get_or, map, refl, sym, arith, inl, inr}
+use Rattle.std.proofs.Common.{◌≡◌, ◌==◌, ◌≤◌, ℕ, Bool, true, false, if◌then◌else◌, List, [], get_or, map, refl, arith, inl, inr}
 use Rattle.trace.specs.declared.word.Word.{Word}
 use Rattle.trace.specs.declared.word.Word.TheVariants.{Cache, Slot, Read, Write, MemRead, MemWrite, Input, Resize, Restore}
 use Rattle.trace.specs.Printable.{IsPrintable}
