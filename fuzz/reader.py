@@ -17,10 +17,14 @@ LINES = {
     "mw": [8, 64, "bytes"],
     "in": [8, "bytes"],
     "sz": [8, 16, 16],
+    "st": [8, "bytes"],
 }
 
-# What stands behind them in version 2.
+# What stands behind them from version 2 on, and the words that only later versions have.
 ADDED = {"slot": ["identity"]}
+SINCE = {"st": 3}
+
+VERSIONS = {"vreplay 1": 1, "vreplay 2": 2, "vreplay 3": 3}
 
 CHOICES = {"win": ["b", "c"], "wid": ["1", "2", "4"], "mode": ["rw", "ro"]}
 
@@ -28,7 +32,7 @@ CHOICES = {"win": ["b", "c"], "wid": ["1", "2", "4"], "mode": ["rw", "ro"]}
 def fault_of(text):
     """The first line with a fault and its kind, as (line, kind), or none where `text` (bytes) is a trace."""
     rest, line, had_event = text.decode("latin-1"), 0, False
-    version = 1 if rest.startswith("vreplay 1\n") else 2
+    version = VERSIONS.get(rest.partition("\n")[0])
     while rest or line < 2:
         line += 1
         cut = rest.find("\n")
@@ -45,13 +49,13 @@ def fault_of(text):
 def fault_in(text, line, had_event, version):
     """The kind of fault of one line, or none."""
     if line == 1:
-        return None if text in ("vreplay 1", "vreplay 2") else "Header"
+        return None if text in VERSIONS else "Header"
     word, *fields = text.split(" ")
-    if word not in LINES or (word == "cache") != (line == 2):
+    if word not in LINES or (word == "cache") != (line == 2) or version < SINCE.get(word, 1):
         return "Word"
     if word == "slot" and had_event:
         return "Order"
-    kinds = LINES[word] + (ADDED.get(word, []) if version == 2 else [])
+    kinds = LINES[word] + (ADDED.get(word, []) if version > 1 else [])
     if len(fields) != len(kinds):
         return "Fields"
     spelled = dict(zip(kinds, fields))

@@ -18,7 +18,7 @@ class Scene:
     def __init__(self, seed, offered):
         self.seed, dice = seed, random.Random(seed)
         names = random.Random(f"identities {seed}")
-        self.version = names.choice([1, 2])
+        self.version = names.choice([1, 2, 3])
         self.cache = dice.choice(CACHES)
         self.guests, start = [], dice.randrange(3)
         for _ in range(dice.randrange(*self.GUESTS)):
@@ -76,5 +76,5 @@ class Scene:
 
 def slot_line(slot, version):
     mode = "ro" if slot.read_only else "rw"
-    identity = f" {slot.identity.hex()}" if version == 2 else ""
+    identity = f" {slot.identity.hex()}" if version > 1 else ""
     return f"slot {slot.base:x} {slot.length:x} {slot.start:x} {slot.count:x} {mode} {slot.columns:x} {slot.rows:x}{identity}"

@@ -121,8 +121,9 @@ def version():
 
 
 EVERY_LINE = "each line ends with a line feed, and the first two are there"
-FIRST_LINE = 'the first line is "vreplay 1" or "vreplay 2"'
+FIRST_LINE = 'the first line is "vreplay 1", "vreplay 2" or "vreplay 3"'
 WORDS = "a line begins with slot, r, w, mr, mw, in or sz"
+WORDS_3 = "a line begins with slot, r, w, mr, mw, in, sz or st"
 NUMBER = "is lower case hexadecimal digits without zeros in front, of {} bits at most, as 1f"
 BYTES = "bytes are two lower case hexadecimal digits each, as 4142, or - for none"
 IDENTITY = "an identity is 20 bytes by two lower case hexadecimal digits each, so 40 digits"
@@ -135,7 +136,7 @@ TEXTS = [
     (ONE_SLOT, ""),
     (b"", f'line 1: {EVERY_LINE}; found ""'),
     (b"vreplay 1\ncache 1\nr 0 c 00", f'line 3: {EVERY_LINE}; found "r 0 c 00"'),
-    (b"vreplay 3\n", f'line 1: {FIRST_LINE}; found "vreplay 3"'),
+    (b"vreplay 4\n", f'line 1: {FIRST_LINE}; found "vreplay 4"'),
     (b'\x7fELF"\\\r\n', f'line 1: {FIRST_LINE}; found "\\x7fELF\\"\\\\\\x0d"'),
     (b"vreplay 1\nslot 0 1000 0 1 rw 50 19\n",
      'line 2: the second line is the cache\'s, as "cache 8"; found "slot 0 1000 0 1 rw 50 19"'),
@@ -163,10 +164,15 @@ TEXTS = [
     (b"vreplay 2\ncache 1\nslot 0 1000 0 1 wr 50 19 -\n", 'line 3: a slot is rw or ro; found "wr"'),
     (b"vreplay 2\ncache 1\nslot 0 1000 0 1 wr 50 019 -\n", f'line 3: a number of rows {NUMBER.format(16)}; found "019"'),
     (b"vreplay 2\ncache 1\nin 0 6c7\n", f'line 3: {BYTES}; found "6c7"'),
+    # a restore, which version 3 alone has
+    (b"vreplay 2\ncache 1\nst 0 4b\n", f'line 3: {WORDS}; found "st 0 4b"'),
+    (b"vreplay 3\ncache 1\nrestore 0 4b\n", f'line 3: {WORDS_3}; found "restore 0 4b"'),
+    (b"vreplay 3\ncache 1\nst 0\n", 'line 3: st has 2 fields after it, each after one space, as "st 0 4b414c59"; found "st 0"'),
+    (b"vreplay 3\ncache 1\nst 0 4B\n", f'line 3: {BYTES}; found "4B"'),
     (f"vreplay 2\ncache 1\nslot 0 1000 0 9 rw 50 19 {NAMED}\n".encode(),
      "slot 0 (line 3): an extent passes the end of the image"),
     (b"vreplay 1\ncache 1\n" + b"slot 0 1000 0 0 rw 0 0\n" * 17,
-     "the trace's board: in version 1 it has sixteen slots at most, in version 2 sixty-four"),
+     "the trace's board: in version 1 it has sixteen slots at most, in later versions sixty-four"),
     (b"vreplay 2\ncache 1\n", "the trace's board: a board needs a slot"),
 ]
 
@@ -200,7 +206,7 @@ LINES = [
 # Traces that are refused, each with its last line: each kind of fault of a trace and of its board.
 FAULTS = [
     (b"vreplay 1", "fault trace 1 Cut"),
-    (b"vreplay 3\ncache 1\n", "fault trace 1 Header"),
+    (b"vreplay 4\ncache 1\n", "fault trace 1 Header"),
     (b"vreplay 1\n\xff\xfe\n", "fault trace 2 Word"),
     (b"vreplay 1\ncache 1\nx\n", "fault trace 3 Word"),
     (b"vreplay 1\ncache 1\nslot 0 1000 0 8 rw 50 19\nr 0 c 008 4\nslot\n", "fault trace 5 Order"),

@@ -13,8 +13,8 @@ use std::alloc::Allocator;
 use std::fmt::{Display, Formatter};
 use std::{fmt, io};
 use trace::{
-    FaultKind, TraceFault, VERSION_1, VERSION_2, field_at_fault, fields_after, first_word, line_of,
-    version_of,
+    FaultKind, TraceFault, VERSION_1, VERSION_2, VERSION_3, field_at_fault, fields_after,
+    first_word, line_of, version_of,
 };
 
 /// One line for a person.
@@ -179,7 +179,7 @@ impl Display for Advice<'_> {
             Advice::Board(fault, slot) => write_board(f, *fault, *slot),
             Advice::ManySlots => write!(
                 f,
-                "the trace's board: in version 1 it has sixteen slots at most, in version 2 sixty-four"
+                "the trace's board: in version 1 it has sixteen slots at most, in later versions sixty-four"
             ),
             Advice::Failed(name, count, first, slot) => {
                 write!(f, "{name:?}: {count} failed of its calls, first ")?;
@@ -259,9 +259,10 @@ fn write_line<W: fmt::Write>(
     write!(f, "line {number}: ")?;
     let wanted = match fault.kind {
         FaultKind::Cut => "each line ends with a line feed, and the first two are there",
-        FaultKind::Header => "the first line is \"vreplay 1\" or \"vreplay 2\"",
+        FaultKind::Header => "the first line is \"vreplay 1\", \"vreplay 2\" or \"vreplay 3\"",
         FaultKind::Word if number == 2 => "the second line is the cache's, as \"cache 8\"",
-        FaultKind::Word => "a line begins with slot, r, w, mr, mw, in or sz",
+        FaultKind::Word if version < VERSION_3 => "a line begins with slot, r, w, mr, mw, in or sz",
+        FaultKind::Word => "a line begins with slot, r, w, mr, mw, in, sz or st",
         FaultKind::Order => "slots stand before all events",
         FaultKind::Fields => return write_fields(f, line, version),
         kind => return write_field(f, kind, line, version),

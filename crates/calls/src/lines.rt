@@ -17,6 +17,7 @@ pub fn example_of(version: u8, word: Word) -> (&'static str, &'static str) {
         Word::MemWrite => ("mw", "0 80000ffe 4142"),
         Word::Input => ("in", "0 6c730a"),
         Word::Resize => ("sz", "0 50 19"),
+        Word::Restore => ("st", "0 4b414c59"),
     }
 }
 

@@ -86,7 +86,7 @@ static bool next_line(const char **at, const char *end, struct field *line)
     return true;
 }
 
-/* The identity of a guest: a field of version 2, and in version 1 always the same. */
+/* The identity of a guest: a field from version 2 on, and in version 1 always the same. */
 static bool read_identity(const struct field *field, struct guest *guest)
 {
     enum { LEN = sizeof guest->identity };
@@ -124,9 +124,10 @@ bool read_setup(const char *text, size_t len, struct trace *trace)
     size_t most;
     uint64_t value;
     *trace = (struct trace){.events = text, .end = text + len};
-    if (!next_line(&trace->events, trace->end, &line) || (!is(line, "vreplay 1") && !is(line, "vreplay 2")))
+    if (!next_line(&trace->events, trace->end, &line) ||
+        (!is(line, "vreplay 1") && !is(line, "vreplay 2") && !is(line, "vreplay 3")))
         return false;
-    bool named = is(line, "vreplay 2");
+    bool named = !is(line, "vreplay 1");
     if (!next_line(&trace->events, trace->end, &line) || split(line.at, line.len, fields, 9) != 2 ||
         !is(fields[0], "cache") || !number(fields[1], UINT32_MAX, &value))
         return false;

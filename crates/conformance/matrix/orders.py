@@ -412,9 +412,9 @@ def capacities():
                                   ("of_no_number_and_cut", "cache g", "Cut", True),
                                   ("of_another_word_and_cut", "caches 1", "Cut", True)):
         yield Head(f"line_2_{name}", "Two faults of line 2: the kind that stands first.", ["vreplay 1", line], f"2 {kind}", cut)
-    for name, line, kind, cut in (("and_line_2", "vreplay 3", "Header", False),):
+    for name, line, kind, cut in (("and_line_2", "vreplay 4", "Header", False),):
         yield Head(f"line_1_{name}", "Faults of lines 1 and 2: the first line's.", [line, "cache g"], f"1 {kind}", cut)
-    yield Head("line_1_cut_and_another_version", "A cut line 1 comes before its version.", ["vreplay 3"], "1 Cut", True)
+    yield Head("line_1_cut_and_another_version", "A cut line 1 comes before its version.", ["vreplay 4"], "1 Cut", True)
 
 
 class Head(Text):

@@ -28,6 +28,10 @@ class ImageFails(Exception):
     """A call of the image that failed."""
 
 
+class NoSnapshot(Exception):
+    """Bytes that are no snapshot which the slot takes up."""
+
+
 class Memory:
     def __init__(self, base, length):
         self.base, self.bytes = base, bytearray(length)
@@ -150,6 +154,36 @@ class Chain:
                 part = new[:max(0, count - place)]
                 self.memory.put(at + place, part)
                 new, place = new[len(part):], max(0, place - count)
+
+
+class Snapshot:
+    """The bytes of a snapshot, read from left to right."""
+
+    def __init__(self, content):
+        self.rest = content
+
+    def take(self, count):
+        found, self.rest = self.rest[:count], self.rest[count:]
+        if len(found) != count:
+            raise NoSnapshot
+        return found
+
+    def value(self, count):
+        return int.from_bytes(self.take(count), "little")
+
+    def choice(self, values):
+        found = self.value(1)
+        if found not in values:
+            raise NoSnapshot
+        return found
+
+    def only(self, expected):
+        """The next field must have this value."""
+        if self.take(len(expected)) != expected:
+            raise NoSnapshot
+
+    def only_value(self, count, expected):
+        self.only(expected.to_bytes(count, "little"))
 
 
 def descriptor(memory, at):
@@ -311,6 +345,25 @@ class Queue:
         self.place = 0
         self.ready = True
 
+    def restore(self, snapshot, window, memory):
+        self.number, self.areas = snapshot.value(4), [snapshot.value(8) for _ in range(3)]
+        if snapshot.choice([0, 1]):
+            self.restore_place(snapshot, window, memory)
+
+    def restore_place(self, snapshot, window, memory):
+        """A queue that was ready is made ready, and a service of it can come so far."""
+        place, left, passed = (snapshot.value(2) for _ in range(3))
+        if window.status & FEATURES_OK:
+            self.make_ready(memory, window.negotiated())
+        if not self.ready:
+            raise NoSnapshot
+        most = 2 * self.number - 1
+        if self.packed and (place > most or passed > most):
+            raise NoSnapshot
+        if (left or not self.packed) and passed + left > self.number:
+            raise NoSnapshot
+        self.place = place
+
 
 class Window:
     def __init__(self, kind, offered):
@@ -345,6 +398,25 @@ class Window:
 
     def queue(self):
         return self.queues[self.queue_sel] if self.queue_sel < len(self.queues) else None
+
+    def restored(self, snapshot, memory):
+        """The window of a snapshot."""
+        new = Window(self.kind, self.offered)
+        snapshot.only_value(8, self.offered_bits())
+        new.status, new.driver_features = snapshot.value(1), snapshot.value(8)
+        new.device_sel, new.driver_sel, new.queue_sel, _ = (snapshot.value(4) for _ in range(4))
+        if new.status & 0x30:
+            raise NoSnapshot
+        if new.status & FEATURES_OK and not new.may_accept():
+            raise NoSnapshot
+        for queue in [*new.queues, Queue(0)][:2]:
+            queue.restore(snapshot, new, memory)
+        new.interrupts, new.generation = snapshot.choice(range(4)), snapshot.value(4)
+        return new
+
+    def may_accept(self):
+        offered = self.offered_bits()
+        return self.driver_features | offered == offered and self.driver_features & 1 << FEATURE["version_1"]
 
     def read(self, offset):
         if offset == 0x000:
@@ -474,6 +546,28 @@ class Slot:
             return self.notify(window, value & 0xffff if told else value)
         self.windows[window].write(offset, value, self.memory)
         return b""
+
+    # --- snapshots
+
+    def restore(self, content):
+        """Takes up a snapshot; where it can't, nothing changes."""
+        snapshot = Snapshot(content)
+        snapshot.only(b"KALYUBOS")
+        snapshot.only_value(4, 1)
+        snapshot.only_value(8, self.memory.base)
+        snapshot.only_value(8, len(self.memory.bytes))
+        snapshot.only_value(8, self.count)
+        snapshot.only_value(1, int(self.read_only))
+        snapshot.only(self.identity)
+        cols, rows = snapshot.value(2), snapshot.value(2)
+        windows = {window: self.windows[window].restored(snapshot, self.memory) for window in "bc"}
+        count = snapshot.value(4)
+        if count > 4096:
+            raise NoSnapshot
+        pending = snapshot.take(count)
+        if snapshot.rest:
+            raise NoSnapshot
+        self.windows, self.pending, self.cols, self.rows = windows, pending, cols, rows
 
     # --- services
 
@@ -688,7 +782,15 @@ def resized(slot, cols, rows):
     return "done", b""
 
 
-REPLIES = {"r": read, "w": write, "mr": memory_read, "mw": memory_write, "in": typed, "sz": resized}
+def restored(slot, content):
+    try:
+        slot.restore(bytes_of(content))
+    except NoSnapshot:
+        return "badstate", b""
+    return "done", b""
+
+
+REPLIES = {"r": read, "w": write, "mr": memory_read, "mw": memory_write, "in": typed, "sz": resized, "st": restored}
 
 
 def replay(text, content, fails=(), lacks=(), fault_of=None):

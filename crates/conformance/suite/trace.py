@@ -82,6 +82,9 @@ class Event:
     def say_sz(self, columns, rows):
         return f"gets a console of {int(columns, 16)} by {int(rows, 16)}"
 
+    def say_st(self, data):
+        return f"is restored from {bytes_in(data)} bytes"
+
 
 def bytes_in(field):
     return 0 if field == "-" else len(field) // 2
@@ -95,7 +98,7 @@ def place(window, offset):
     return f"{REGISTERS.get(offset, f'offset {offset:03x}')} of its {WINDOWS[window]} window"
 
 
-COUNTS = {"r": 5, "w": 6, "mr": 4, "mw": 4, "in": 3, "sz": 4}
+COUNTS = {"r": 5, "w": 6, "mr": 4, "mw": 4, "in": 3, "sz": 4, "st": 3}
 
 
 def events_of(text):
@@ -127,8 +130,8 @@ def features_of(text, replies):
 
     They are the features that a driver takes or asks for (DriverFeatures), those that a device shows (the expected
     answers of DeviceFeatures), and those whose configuration fields are touched. Others are no bits: `offer`, all
-    offered features are read; `vendor`, VendorID is; `resize` and `input`, the host does that; `guests`, there are
-    more than one; `ro`, a slot is read-only.
+    offered features are read; `vendor`, VendorID is; `resize`, `input` and `restore`, the host does that; `guests`,
+    there are more than one; `ro`, a slot is read-only.
     """
     found = set()
     slots = slots_of(text)
@@ -151,6 +154,8 @@ def features_in(event, reply, windows):
         return {"input"}
     if event.word == "sz":
         return {"resize", "size"}
+    if event.word == "st":
+        return {"restore"}
     if event.word not in ("r", "w") or event.fields[2] not in WINDOWS:
         return set()
     name, offset, width = event.fields[2], int(event.fields[3], 16), event.fields[4]

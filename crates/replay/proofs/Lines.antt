@@ -16,7 +16,7 @@ use Rattle.trace.specs.Refusals.{IsFine, RefusesLine}
 use Rattle.trace.specs.Events.{BeginsWithEvent, TakesEvent}
 use Rattle.replay.specs.Running.{HasRoomFor, RunsLine, RunsSaid}
 use Rattle.trace.specs.Said.{said_fields}
-use Rattle.trace.specs.Text.{Content, ended, event_fields, event_line, front_text, joined, text, trace_lines}
+use Rattle.trace.specs.Text.{Content, ended, event_fields, event_line, front_text, joined, text, trace_lines, word_for}
 use Rattle.trace.proofs.Entries.{cut_event, entered_event}
 use Rattle.replay.proofs.Pieces.{sends_no_run, sends_run_of, sends_runs}
 use Rattle.trace.proofs.Printed.{joined_append, text_is}
@@ -24,35 +24,36 @@ use Rattle.trace.proofs.Saying.{meant}
 use Rattle.trace.proofs.Signs.{Above, lines_of-joined}
 use Rattle.trace.proofs.Sofar.{Fits, Sofar, is_refused, push_event}
 use Rattle.trace.proofs.Unique.{no_fault, one_trace, same_event_fields}
+use Rattle.trace.proofs.Versions.{word_of_3}
 
 -- ---- a trace of these events alone
 
 abbrev alone : {A : Type 0} → List (Event A) → Content A
-alone events = record { version = 2; cache = 0; slots = []; events = events }
+alone events = record { version = 3; cache = 0; slots = []; events = events }
 
 alone_fits : {A : Type 0} (events : List (Event A)) → All IsFine events → Fits (alone events)
 alone_fits events fine = record {
   range = record { cache = omega arith; slots = All-nil SlotInRange; events = λ k d lt. (fine k d lt).fits };
-  printable = record { version = inr refl; slots = All-nil (IsPrintableSlot 2); events = λ k d lt. (fine k d lt).printable };
+  printable = record { version = inr (inr refl); slots = All-nil (IsPrintableSlot 3); events = λ k d lt. (fine k d lt).printable; words = λ k d lt. word_of_3 (word_for (get_or events k d).what) };
 }
 
 -- lines are those of one list of events
 pub one_text : {A : Type 0} (ds es : List (Event A)) (lines : List ℕ) → AreLinesOf ds lines → AreLinesOf es lines → ds ≡ es
 one_text ds es lines hd he =
-    let same = ap (λ (x : List ℕ). (front_text 2 0 ++ joined []) ++ x) (sym hd.spelled ∙ he.spelled) in
+    let same = ap (λ (x : List ℕ). (front_text 3 0 ++ joined []) ++ x) (sym hd.spelled ∙ he.spelled) in
     ap (λ c. c.events) (one_trace (alone ds) (alone es) (alone_fits ds hd.fine) (alone_fits es he.fine) (sym (text_is (alone ds)) ∙ same ∙ text_is (alone es)))
 
 -- ---- the line of an event
 
 above : {A : Type 0} (e : Event A) → IsFine e → Above 10 (event_line e)
-above e fine = (entered_event 2 e fine).entry.unbroken
+above e fine = (entered_event 3 e fine (word_of_3 (word_for e.what))).entry.unbroken
 
 -- lines cut after the first
 first_cut : (l : List ℕ) (ls : List (List ℕ)) → Above 10 l → lines_of (joined (l ∷ ls)) ≡ l ∷ lines_of (joined ls)
 first_cut l ls h = ap lines_of (joined_append (l ∷ []) ls) ∙ lines_of-joined (l ∷ []) (joined ls) (h, tt)
 
 -- it is refused in no way: it would be a fault of a text of two such lines
-refused_not : {A : Type 0} (e : Event A) (fault : FaultKind) → IsFine e → fault ≢ kind.NoMemory → RefusesLine 2 true (event_line e) fault → ⊥
+refused_not : {A : Type 0} (e : Event A) (fault : FaultKind) → IsFine e → fault ≢ kind.NoMemory → RefusesLine 3 true (event_line e) fault → ⊥
 refused_not {A} e fault fine known h =
     let one : Content A = alone (e ∷ []) in
     let two : Content A = alone (e ∷ e ∷ []) in
@@ -66,7 +67,7 @@ refused_not {A} e fault fine known h =
     no_fault (text two) two 4 fault (alone_fits (e ∷ e ∷ []) all) refl
     (is_refused (text two) one 4 rest so true (event_line e) (joined []) fault (first_cut (event_line e) [] (above e fine)) (λ _. omega arith) (λ no'. absurd cc) h known)
 
-never_refused : {A : Type 0} (e : Event A) → IsFine e → (fault : FaultKind) → RefusesLine 2 true (event_line e) fault → ⊥
+never_refused : {A : Type 0} (e : Event A) → IsFine e → (fault : FaultKind) → RefusesLine 3 true (event_line e) fault → ⊥
 never_refused e fine kind.Cut h = refused_not e kind.Cut fine (λ is. cc) h
 never_refused e fine kind.Header h = refused_not e kind.Header fine (λ is. cc) h
 never_refused e fine kind.Word h = refused_not e kind.Word fine (λ is. cc) h

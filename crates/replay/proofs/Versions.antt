@@ -1,5 +1,5 @@
 -- Two traces that differ in their version alone are replayed alike.
-use Rattle.std.proofs.Common.{◌≡◌, ℕ, List, Option, Some, Result, Ok, Err, refl, sym, subst, arith, inl, inr}
+use Rattle.std.proofs.Common.{◌≡◌, ◌≤◌, ℕ, List, Option, Some, Result, Ok, Err, refl, sym, subst, arith, inl, inr}
 use Rattle.std.specs.Prelude.{All}
 use Rattle.sector_cache.specs.Disk.{Disk}
 use Rattle.board.specs.declared.event.Event.{Event}
@@ -13,26 +13,24 @@ use Rattle.trace.specs.Printable.{IsPrintable}
 use Rattle.replay.specs.Limits.{IsSmallMemory}
 use Rattle.replay.specs.Replay.{AfterRun, HasTooMany, Plays, RefusesBoard, RefusesBoardOf, RefusesTrace, Replays}
 use Rattle.trace.specs.Reading.{IsTraceOf}
-use Rattle.trace.specs.Text.{Content, as_version_2, text}
+use Rattle.trace.specs.Text.{Content, as_version, text}
+use Rattle.trace.specs.Version.{IsVersion}
 use Rattle.trace.proofs.Sofar.{Fits}
 use Rattle.trace.proofs.Unique.{no_fault, one_trace, text_clean}
-
--- a trace that has a text has one in version 2
-pub fits_version_2 : {A : Type 0} (t : Content A) → IsPrintable t → IsPrintable (as_version_2 t)
-fits_version_2 t h = record { version = inr refl; slots = λ k d lt one. absurd (omega arith); events = h.events }
+use Rattle.trace.proofs.Versions.{first_is_1, fits_later}
 
 -- it has a text, and its version doesn't refuse its slots
 pub record MayReplay {A : Type 0} (t : Content A) : Type 0 where
   pub fits : Fits t
   pub few : ¬ HasTooMany t
 
-pub as_version_2_may : {A : Type 0} (t : Content A) → MayReplay t → MayReplay (as_version_2 t)
-as_version_2_may t h = record {
+pub as_version_may : {A : Type 0} (version : ℕ) (t : Content A) → IsVersion version → t.version ≤ version → MayReplay t → MayReplay (as_version version t)
+as_version_may version t one_of le h = record {
   fits = record {
     range = record { cache = h.fits.range.cache; slots = h.fits.range.slots; events = h.fits.range.events };
-    printable = fits_version_2 t h.fits.printable;
+    printable = fits_later version t one_of le h.fits.printable;
   };
-  few = λ many. absurd (omega (arith, many.version));
+  few = λ many. h.few (record { version = first_is_1 t.version version h.fits.printable.version le many.version; many = many.many });
 }
 
 is_trace : {A : Type 0} (t : Content A) → Fits t → IsTraceOf (text t) t

@@ -1,4 +1,4 @@
--- What a trace of versions 1 and 2 may describe, where a board may have more.
+-- What a trace may describe, where a board may have more.
 use Rattle.std.specs.Prelude.{ℕ, ◌^◌, ◌≤◌, nat_lt, if◌then◌else◌}
 use Rattle.board.specs.declared.spec.SlotSpec.{SlotSpec}
 

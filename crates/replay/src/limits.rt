@@ -1,4 +1,4 @@
-//! What a trace of versions 1 and 2 may describe, where a board may have more.
+//! What a trace may describe, where a board may have more.
 
 ghost use Rattle.std.specs.Prelude.{◌≡◌, map};
 ghost use Rattle.replay.specs.Limits.{asked_of_board};

@@ -135,6 +135,7 @@ fn answer<I: Image, A: Allocator + Copy>(
             write_memory(board, slot, addr, bytes_in(room, said.bytes))
         }
         EventKind::Input { .. } => input(board, slot, bytes_in(room, said.bytes)),
+        EventKind::Restore { .. } => restore(board, slot, bytes_in(room, said.bytes)),
         _ => board.step(&said.event, output),
     }
 }
@@ -174,6 +175,17 @@ fn input<I: Image, A: Allocator + Copy>(board: &mut Board<I, A>, slot: u8, bytes
 {
     match board.input(slot, bytes) {
         Some(taken) => Reply::Took(taken),
+        None => Reply::BadSlot,
+    }
+}
+
+// Restores a slot's devices from a snapshot.
+fn restore<I: Image, A: Allocator>(board: &mut Board<I, A>, slot: u8, bytes: &[u8]) -> Reply<A>
+    ensures { AnswersEvent I.disk board.old (record { slot = slot; what = EventKind.Restore bytes.now }) result [] board.new }
+{
+    match board.restore(slot, bytes) {
+        Some(Ok(())) => Reply::Done,
+        Some(Err(_)) => Reply::BadState,
         None => Reply::BadSlot,
     }
 }

@@ -24,7 +24,7 @@ pub record Good (version : ℕ) (text : List ℕ) (k : ℕ) : Type 0 where
   pub ended : IsEnded text k
   pub names : IsOfVersion text version
   pub first : k ≡ 1 → IsHeader (line_at text k)
-  pub word : 2 ≤ k → HasWord k (line_at text k)
+  pub word : 2 ≤ k → HasWord version k (line_at text k)
   pub order : first_field (line_at text k) ≡ spelled Slot → (j : ℕ) → 3 ≤ j → j < k → first_field (line_at text j) ≡ spelled Slot
   pub entry : 2 ≤ k → (word : Word) × Entered version (line_at text k) word
 
@@ -59,7 +59,7 @@ module _ (version : ℕ) (text : List ℕ) (k : ℕ) (g : Good version text k) w
   pub good_passes : (fault : FaultKind) → Passes text k fault
   good_passes kind.Cut = λ owed. g.ended
   good_passes kind.Header = λ end. g.first
-  good_passes kind.Word = λ end. g.word
+  good_passes kind.Word = λ end le v names. subst (λ (x : ℕ). HasWord x k (line_at text k)) (same_version version v text g.names names) (g.word le)
   good_passes kind.Order = λ end. g.order
   good_passes kind.Fields = λ end. good_counted
   good_passes kind.Number = λ end. good_said kind.Number
@@ -120,7 +120,7 @@ module _ (version : ℕ) (text k : List ℕ) (S E more : List (List ℕ)) (is : 
                     ended = end;
                     names = at_one;
                     first = λ one. absurd (omega arith);
-                    word = λ _. record { word = Cache; may = two; first = first_is version (line_at text j) Cache e };
+                    word = λ _. record { word = Cache; may = two; of_version = tt; first = first_is version (line_at text j) Cache e };
                     order = λ _ i low high. absurd (omega arith);
                     entry = λ _. (Cache, e);
                   }
@@ -133,7 +133,7 @@ module _ (version : ℕ) (text k : List ℕ) (S E more : List (List ℕ)) (is : 
                     ended = end;
                     names = at_one;
                     first = λ one. absurd (omega arith);
-                    word = λ _. record { word = Slot; may = late; first = first_is version (line_at text j) Slot e };
+                    word = λ _. record { word = Slot; may = late; of_version = tt; first = first_is version (line_at text j) Slot e };
                     order = λ _ i low high. first_is version (line_at text i) Slot (slot_there i low (omega arith));
                     entry = λ _. (Slot, e);
                   }
@@ -143,7 +143,7 @@ module _ (version : ℕ) (text k : List ℕ) (S E more : List (List ℕ)) (is : 
                     ended = end;
                     names = at_one;
                     first = λ one. absurd (omega arith);
-                    word = λ _. record { word = e.word; may = may_move e.word 3 j (omega arith) late e.may; first = first_is version (line_at text j) e.word e.entry };
+                    word = λ _. record { word = e.word; may = may_move e.word 3 j (omega arith) late e.may; of_version = e.of_version; first = first_is version (line_at text j) e.word e.entry };
                     order = λ is i low high. absurd (e.other (same_word e.word Slot (sym (first_is version (line_at text j) e.word e.entry) ∙ is)));
                     entry = λ _. (e.word, e.entry);
                   }

@@ -10,17 +10,17 @@ use Rattle.board.specs.declared.spec.SlotSpec.{SlotSpec}
 use Rattle.trace.specs.declared.fault.FaultKind.{FaultKind}
 use Rattle.trace.specs.declared.table.Field.TheVariants.{Identity}
 use Rattle.trace.specs.declared.word.Word.{Word}
-use Rattle.trace.specs.declared.word.Word.TheVariants.{Cache, Slot, Read, Write, MemRead, MemWrite, Input, Resize}
+use Rattle.trace.specs.declared.word.Word.TheVariants.{Cache, Slot, Read, Write, MemRead, MemWrite, Input, Resize, Restore}
 use Rattle.trace.specs.Cuts.{fields_of}
 use Rattle.trace.specs.Faults.{AllSay, AreAsMany, MayStand, order, fault_of}
 use Rattle.trace.specs.Printable.{KindInRange, IsPrintableKind, SlotInRange}
 use Rattle.trace.specs.Refusals.{IsFine}
 use Rattle.hexadecimal.specs.Spelling.{num, fixed, bytes}
 use Rattle.trace.specs.Spelling.{window, mode, width_digit}
-use Rattle.trace.specs.Text.{line, cache_fields, cache_line, slot_fields, slot_line, event_fields, event_line, what_fields}
-use Rattle.trace.specs.Version.{in_version_2}
+use Rattle.trace.specs.Text.{line, cache_fields, cache_line, slot_fields, slot_line, event_fields, event_line, what_fields, word_for}
+use Rattle.trace.specs.Version.{since_version_2}
 use Rattle.hexadecimal.specs.Fields.{IsNum, IsFixed}
-use Rattle.trace.specs.Words.{Shape, Value, Says, shape_of, shapes, spelled, width_among, IsWidth}
+use Rattle.trace.specs.Words.{Shape, Value, Says, shape_of, shapes, spelled, width_among, IsWidth, IsWordOf}
 use Rattle.trace.proofs.Signs.{bytes_digits}
 use Rattle.trace.proofs.Signs.{Above, AllAbove, above_tested, above_num, above_fixed, fields_of-line, above_line}
 
@@ -30,7 +30,7 @@ abbrev key : List ℕ → ℕ
 key xs = get_or xs 0 0 * 1000 + get_or xs 1 0
 
 abbrev word_at : ℕ → Word
-word_at n = cond (eqb n 99097) Cache (cond (eqb n 115108) Slot (cond (eqb n 114000) Read (cond (eqb n 119000) Write (cond (eqb n 109114) MemRead (cond (eqb n 109119) MemWrite (cond (eqb n 105110) Input Resize))))))
+word_at n = cond (eqb n 99097) Cache (cond (eqb n 115108) Slot (cond (eqb n 114000) Read (cond (eqb n 119000) Write (cond (eqb n 109114) MemRead (cond (eqb n 109119) MemWrite (cond (eqb n 105110) Input (cond (eqb n 115116) Restore Resize)))))))
 
 found : (w : Word) → word_at (key (spelled w)) ≡ w
 found Cache = refl
@@ -41,6 +41,7 @@ found MemRead = refl
 found MemWrite = refl
 found Input = refl
 found Resize = refl
+found Restore = refl
 
 -- a spelling is one word's
 pub same_word : (v w : Word) → spelled v ≡ spelled w → v ≡ w
@@ -55,6 +56,7 @@ above_word MemRead = above_tested 32 (spelled MemRead) refl
 above_word MemWrite = above_tested 32 (spelled MemWrite) refl
 above_word Input = above_tested 32 (spelled Input) refl
 above_word Resize = above_tested 32 (spelled Resize) refl
+above_word Restore = above_tested 32 (spelled Restore) refl
 
 -- ---- fields
 
@@ -118,19 +120,19 @@ entered_cache version n lt = entered version (cache_line n) Cache (num n ∷ [])
 
 -- the identity, where a version has it
 abbrev last_field : ℕ → SlotSpec → List (List ℕ)
-last_field version s = in_version_2 version (bytes s.identity ∷ [])
+last_field version s = since_version_2 version (bytes s.identity ∷ [])
 
-last_said : (has : Bool) (width : List ℕ) (s : SlotSpec) → SlotInRange s → EachSays (map (shape_of width) (if has then Identity ∷ [] else [])) (if has then bytes s.identity ∷ [] else [])
-last_said false width s h = tt
-last_said true width s h = ((s.identity, record { bytes_are = record { fits = h.identity; spelled = refl }; twenty = h.twenty }), tt)
+last_said : (has : Bool) (width : List ℕ) (s : SlotSpec) → SlotInRange s → EachSays (map (shape_of width) (if has then [] else Identity ∷ [])) (if has then [] else bytes s.identity ∷ [])
+last_said true width s h = tt
+last_said false width s h = ((s.identity, record { bytes_are = record { fits = h.identity; spelled = refl }; twenty = h.twenty }), tt)
 
-last_counted : (has : Bool) (width : List ℕ) (s : SlotSpec) → length (if has then bytes s.identity ∷ [] else []) ≡ length (map (shape_of width) (if has then Identity ∷ [] else []))
+last_counted : (has : Bool) (width : List ℕ) (s : SlotSpec) → length (if has then [] else bytes s.identity ∷ []) ≡ length (map (shape_of width) (if has then [] else Identity ∷ []))
 last_counted false width s = refl
 last_counted true width s = refl
 
-last_above : (has : Bool) (s : SlotSpec) → SlotInRange s → AllAbove 32 (if has then bytes s.identity ∷ [] else [])
-last_above false s h = tt
-last_above true s h = (bytes_digits s.identity h.identity, tt)
+last_above : (has : Bool) (s : SlotSpec) → SlotInRange s → AllAbove 32 (if has then [] else bytes s.identity ∷ [])
+last_above true s h = tt
+last_above false s h = (bytes_digits s.identity h.identity, tt)
 
 abbrev slot_rest : ℕ → SlotSpec → List (List ℕ)
 slot_rest version s =
@@ -138,16 +140,16 @@ slot_rest version s =
 
 slot_said : (version : ℕ) (s : SlotSpec) → SlotInRange s → EachSays (shapes version Slot (slot_rest version s)) (slot_rest version s)
 slot_said version s h =
-    (number 64 s.base h.base, (number 64 s.len h.len, (number 64 s.extent.start h.start, (number 64 s.extent.count h.count, ((s.read_only, refl), (number 16 s.cols h.cols, (number 16 s.rows h.rows, last_said (version == 2) (width_among (slot_rest version s)) s h)))))))
+    (number 64 s.base h.base, (number 64 s.len h.len, (number 64 s.extent.start h.start, (number 64 s.extent.count h.count, ((s.read_only, refl), (number 16 s.cols h.cols, (number 16 s.rows h.rows, last_said (version == 1) (width_among (slot_rest version s)) s h)))))))
 
 slot_above : (version : ℕ) (s : SlotSpec) → SlotInRange s → AllAbove 32 (slot_rest version s)
 slot_above version s h =
-    (above_num s.base, (above_num s.len, (above_num s.extent.start, (above_num s.extent.count, (above_mode s.read_only, (above_num s.cols, (above_num s.rows, last_above (version == 2) s h)))))))
+    (above_num s.base, (above_num s.len, (above_num s.extent.start, (above_num s.extent.count, (above_mode s.read_only, (above_num s.cols, (above_num s.rows, last_above (version == 1) s h)))))))
 
 pub entered_slot : (version : ℕ) (s : SlotSpec) → SlotInRange s → Entered version (slot_line version s) Slot
 unfolding slot_line
 entered_slot version s h =
-    entered version (slot_line version s) Slot (slot_rest version s) refl (omega (arith, last_counted (version == 2) (width_among (slot_rest version s)) s)) (slot_said version s h) (slot_above version s h)
+    entered version (slot_line version s) Slot (slot_rest version s) refl (omega (arith, last_counted (version == 1) (width_among (slot_rest version s)) s)) (slot_said version s h) (slot_above version s h)
 
 -- a value within a width, beside that width
 says_value : (width value : ℕ) → IsWidth width → value < 2 ^ (8 * width) → Says (Value (width_digit width)) (fixed (2 * width) value)
@@ -159,75 +161,92 @@ says_value width value wide within other h =
 pub record EnteredEvent (version : ℕ) (l : List ℕ) : Type 0 where
   pub word : Word
   pub may : MayStand 3 word
+  pub of_version : IsWordOf version word
   pub other : word ≢ Slot
   pub entry : Entered version l word
 
-entered_what : {A : Type 0} (version slot : ℕ) (w : EventKind A) → slot < 2 ^ 8 → KindInRange w → IsPrintableKind w → EnteredEvent version (line (what_fields slot w))
-entered_what version slot (what.Read kind offset width) lt range fine =
+entered_what : {A : Type 0} (version slot : ℕ) (w : EventKind A) → slot < 2 ^ 8 → KindInRange w → IsPrintableKind w → IsWordOf version (word_for w) → EnteredEvent version (line (what_fields slot w))
+entered_what version slot (what.Read kind offset width) lt range fine of =
     record {
       word = Read;
       may = omega arith;
+      of_version = of;
       other = λ e. absurd cc;
       entry =
           entered version _ Read (num slot ∷ window kind ∷ fixed 3 offset ∷ width_digit width ∷ []) refl refl
           (number 8 slot lt, ((kind, refl), ((offset, record { fits = fine.three_digits; spelled = refl }), ((width, record { fits = fine.wide; spelled = refl }), tt))))
           (above_num slot, (above_window kind, (above_fixed 3 offset, ((omega arith, tt), tt))));
     }
-entered_what version slot (what.Write kind offset width value) lt range fine =
+entered_what version slot (what.Write kind offset width value) lt range fine of =
     record {
       word = Write;
       may = omega arith;
+      of_version = of;
       other = λ e. absurd cc;
       entry =
           entered version _ Write (num slot ∷ window kind ∷ fixed 3 offset ∷ width_digit width ∷ fixed (2 * width) value ∷ []) refl refl
           (number 8 slot lt, ((kind, refl), ((offset, record { fits = fine.access.three_digits; spelled = refl }), ((width, record { fits = fine.access.wide; spelled = refl }), (says_value width value fine.access.wide fine.within, tt)))))
           (above_num slot, (above_window kind, (above_fixed 3 offset, ((omega arith, tt), (above_fixed (2 * width) value, tt)))));
     }
-entered_what version slot (what.MemRead addr len) lt range fine =
+entered_what version slot (what.MemRead addr len) lt range fine of =
     record {
       word = MemRead;
       may = omega arith;
+      of_version = of;
       other = λ e. absurd cc;
       entry =
           entered version _ MemRead (num slot ∷ num addr ∷ num len ∷ []) refl refl
           (number 8 slot lt, (number 64 addr range.from, (number 32 len range.size, tt)))
           (above_num slot, (above_num addr, (above_num len, tt)));
     }
-entered_what version slot (what.MemWrite addr bs) lt range fine =
+entered_what version slot (what.MemWrite addr bs) lt range fine of =
     record {
       word = MemWrite;
       may = omega arith;
+      of_version = of;
       other = λ e. absurd cc;
       entry =
           entered version _ MemWrite (num slot ∷ num addr ∷ bytes bs ∷ []) refl refl
           (number 8 slot lt, (number 64 addr range.from, ((bs, record { fits = range.each; spelled = refl }), tt)))
           (above_num slot, (above_num addr, (bytes_digits bs range.each, tt)));
     }
-entered_what version slot (what.Input bs) lt range fine =
+entered_what version slot (what.Input bs) lt range fine of =
     record {
       word = Input;
       may = omega arith;
+      of_version = of;
       other = λ e. absurd cc;
       entry =
           entered version _ Input (num slot ∷ bytes bs ∷ []) refl refl
           (number 8 slot lt, ((bs, record { fits = range.each; spelled = refl }), tt))
           (above_num slot, (bytes_digits bs range.each, tt));
     }
-entered_what version slot (what.Resize cols rows) lt range fine =
+entered_what version slot (what.Resize cols rows) lt range fine of =
     record {
       word = Resize;
       may = omega arith;
+      of_version = of;
       other = λ e. absurd cc;
       entry =
           entered version _ Resize (num slot ∷ num cols ∷ num rows ∷ []) refl refl
           (number 8 slot lt, (number 16 cols range.across, (number 16 rows range.down, tt)))
           (above_num slot, (above_num cols, (above_num rows, tt)));
     }
-entered_what version slot (what.Restore bs) lt range fine = absurd fine
+entered_what version slot (what.Restore bs) lt range fine of =
+    record {
+      word = Restore;
+      may = omega arith;
+      of_version = of;
+      other = λ e. absurd cc;
+      entry =
+          entered version _ Restore (num slot ∷ bytes bs ∷ []) refl refl
+          (number 8 slot lt, ((bs, record { fits = range.each; spelled = refl }), tt))
+          (above_num slot, (bytes_digits bs range.each, tt));
+    }
 
-pub entered_event : {A : Type 0} (version : ℕ) (e : Event A) → IsFine e → EnteredEvent version (event_line e)
+pub entered_event : {A : Type 0} (version : ℕ) (e : Event A) → IsFine e → IsWordOf version (word_for e.what) → EnteredEvent version (event_line e)
 unfolding event_line
-entered_event version e h = entered_what version e.slot e.what h.fits.slot h.fits.what h.printable
+entered_event version e h of = entered_what version e.slot e.what h.fits.slot h.fits.what h.printable of
 
 -- ---- the fields of a line that was made of them
 
@@ -254,7 +273,8 @@ cut_what slot (what.Input bs) range fine =
     fields_of-line (spelled Input) (num slot ∷ bytes bs ∷ []) (above_word Input, (above_num slot, (bytes_digits bs range.each, tt)))
 cut_what slot (what.Resize cols rows) range fine =
     fields_of-line (spelled Resize) (num slot ∷ num cols ∷ num rows ∷ []) (above_word Resize, (above_num slot, (above_num cols, (above_num rows, tt))))
-cut_what slot (what.Restore bs) range fine = absurd fine
+cut_what slot (what.Restore bs) range fine =
+    fields_of-line (spelled Restore) (num slot ∷ bytes bs ∷ []) (above_word Restore, (above_num slot, (bytes_digits bs range.each, tt)))
 
 pub cut_event : {A : Type 0} (e : Event A) → IsFine e → fields_of (event_line e) ≡ event_fields e
 unfolding event_line

@@ -6,7 +6,7 @@ use Rattle.trace.specs.declared.word.Word.{Word}
 use Rattle.trace.specs.declared.word.Word.TheVariants.{Slot}
 use Rattle.trace.specs.Faults.{AllSay, AreAsMany, MayStand, IsCleanBefore, IsEnded, IsFault, IsOfVersion, IsOwed, Passes, first_field, line_at, order, other_fields}
 use Rattle.trace.specs.Refusals.{RefusesFields}
-use Rattle.trace.specs.Words.{spelled, shapes}
+use Rattle.trace.specs.Words.{IsWordOf, spelled, shapes}
 use Rattle.trace.proofs.Clean.{same_version}
 use Rattle.trace.proofs.Entries.{same_word}
 
@@ -50,14 +50,14 @@ module _ (text : List ℕ) (k : ℕ) (late : 2 ≤ k) (clean : IsCleanBefore tex
   header_passes : Passes text k kind.Header
   header_passes _ one = absurd (omega arith)
 
-  -- none of the words that may stand begins it
-  pub word_fault : ((w : Word) → MayStand k w → first_field (line_at text k) ≡ spelled w → ⊥) → IsFault text k kind.Word
-  word_fault none =
+  -- none of the words of its version that may stand begins it
+  pub word_fault : (version : ℕ) → IsOfVersion text version → ((w : Word) → MayStand k w → IsWordOf version w → first_field (line_at text k) ≡ spelled w → ⊥) → IsFault text k kind.Word
+  word_fault version names none =
       record {
         numbered = omega arith;
         before = clean;
         earlier = earlier_by text k 3 (λ _. cut_passes) (λ _. header_passes) (λ lt. absurd (omega arith)) (λ lt. absurd (omega arith)) (λ lt. absurd (omega arith)) (λ lt. absurd (omega arith)) (λ lt. absurd (omega arith)) (λ lt. absurd (omega arith));
-        fails = λ p. let has = p end late in none has.word has.may has.first;
+        fails = λ p. let has = p end late version names in none has.word has.may has.of_version has.first;
       }
 
   -- a slot, where there is a line before it that isn't one
@@ -66,13 +66,13 @@ module _ (text : List ℕ) (k : ℕ) (late : 2 ≤ k) (clean : IsCleanBefore tex
       record {
         numbered = omega arith;
         before = clean;
-        earlier = earlier_by text k 4 (λ _. cut_passes) (λ _. header_passes) (λ _ _ _. record { word = Slot; may = third; first = is }) (λ lt'. absurd (omega arith)) (λ lt'. absurd (omega arith)) (λ lt'. absurd (omega arith)) (λ lt'. absurd (omega arith)) (λ lt'. absurd (omega arith));
+        earlier = earlier_by text k 4 (λ _. cut_passes) (λ _. header_passes) (λ _ _ _ _ _. record { word = Slot; may = third; of_version = tt; first = is }) (λ lt'. absurd (omega arith)) (λ lt'. absurd (omega arith)) (λ lt'. absurd (omega arith)) (λ lt'. absurd (omega arith)) (λ lt'. absurd (omega arith));
         fails = λ p. other (p end is j le lt);
       }
 
-  module _ (version : ℕ) (names : IsOfVersion text version) (w : Word) (may : MayStand k w) (is : first_field (line_at text k) ≡ spelled w) (ordered : Passes text k kind.Order) where
+  module _ (version : ℕ) (names : IsOfVersion text version) (w : Word) (may : MayStand k w) (of : IsWordOf version w) (is : first_field (line_at text k) ≡ spelled w) (ordered : Passes text k kind.Order) where
     word_passes : Passes text k kind.Word
-    word_passes _ _ = record { word = w; may = may; first = is }
+    word_passes _ _ u other = record { word = w; may = may; of_version = subst (λ (x : ℕ). IsWordOf x w) (same_version version u text names other) of; first = is }
 
     fields_pass : AreAsMany version w (other_fields (line_at text k)) → Passes text k kind.Fields
     fields_pass same = λ _ _ u other v first.

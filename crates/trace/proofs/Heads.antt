@@ -62,7 +62,7 @@ module _ (version : ℕ) (text rest : List ℕ) (one_of : IsVersion version) (wh
   fields_of_cache fault h known =
       let here : line_at text 2 ≡ h.line = at_two ∙ ap (λ (ls : List (List ℕ)). get_or ls 0 []) h.cut in
       let end : IsEnded text 2 = omega (arith, ap length headed, ap length h.cut, some_lines h.rest) in
-      fields_fault text 2 (omega arith) head_clean end version names_it Cache refl (ap first_field here ∙ h.first) (λ _ _ j low high. absurd (omega arith)) fault
+      fields_fault text 2 (omega arith) head_clean end version names_it Cache refl tt (ap first_field here ∙ h.first) (λ _ _ j low high. absurd (omega arith)) fault
       (subst (λ (l : List ℕ). RefusesFields version Cache (other_fields l) fault) (sym here) (h.refused version)) known
 
   pub second_fault : (fault : FaultKind) → RefusesSecond rest fault → fault ≢ kind.NoMemory → IsFault text 2 fault
@@ -70,7 +70,7 @@ module _ (version : ℕ) (text rest : List ℕ) (one_of : IsVersion version) (wh
   second_fault kind.Word h known =
       let here : line_at text 2 ≡ h.line = at_two ∙ ap (λ (ls : List (List ℕ)). get_or ls 0 []) h.cut in
       let end : IsEnded text 2 = omega (arith, ap length headed, ap length h.cut, some_lines h.rest) in
-      word_fault text 2 (omega arith) head_clean end (λ w may is. h.other (sym (ap first_field here) ∙ is ∙ ap spelled (only_cache w may)))
+      word_fault text 2 (omega arith) head_clean end version names_it (λ w may of is. h.other (sym (ap first_field here) ∙ is ∙ ap spelled (only_cache w may)))
   second_fault kind.Header h known = fields_of_cache kind.Header h known
   second_fault kind.Order h known = fields_of_cache kind.Order h known
   second_fault kind.Fields h known = fields_of_cache kind.Fields h known

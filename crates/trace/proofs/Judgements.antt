@@ -9,27 +9,29 @@ use Rattle.trace.specs.declared.fault.FaultKind.{FaultKind}
 use Rattle.trace.specs.declared.fault.FaultKind.TheVariants as kind
 use Rattle.trace.specs.declared.fault.TraceFault.{TraceFault}
 use Rattle.trace.specs.declared.read.said.Said.{Said}
+use Rattle.trace.specs.declared.word.Word.{Word}
 use Rattle.trace.specs.Cuts.{fields_of, lines_of}
 use Rattle.trace.specs.Faults.{IsFault, IsCleanBefore}
 use Rattle.trace.specs.Judging.{HaveRoom, IsJudged, JudgesLine, Judgement, bytes_len, said_len}
 use Rattle.trace.specs.Refusals.{IsFineSlot, RefusesLine, SaysEvent, SaysSlot, with_event, with_slot}
 use Rattle.trace.specs.Reading.{IsTraceFault}
 use Rattle.trace.specs.Said.{IsFineSaid, said_fields}
-use Rattle.trace.specs.Text.{Content, event_fields, event_line, joined, slot_fields}
+use Rattle.trace.specs.Text.{Content, event_fields, event_line, joined, slot_fields, word_for}
+use Rattle.trace.specs.Words.{IsWordOf}
 use Rattle.trace.proofs.Saying.{meant}
 use Rattle.trace.proofs.Signs.{line-fields_of}
 use Rattle.trace.proofs.Sofar.{Sofar, all_read, clean, event_read, is_cut, is_refused, length_joined, slot_read, taken}
 use Rattle.trace.proofs.Unique.{no_fault, one_trace, text_clean}
 
 -- a line that says an event was judged, and this is kept of how many bytes it spells
-counted_as : (A : Type 0) (begun : Bool) (line after : List ℕ) (longest longest_line : ℕ) (s : Said A) (old new : Judgement) → fields_of line ≡ said_fields s → IsFineSaid s
+counted_as : (A : Type 0) (begun : Bool) (line after : List ℕ) (longest longest_line : ℕ) (s : Said A) (old new : Judgement) → fields_of line ≡ said_fields s → IsFineSaid s → IsWordOf old.version (word_for s.event.what)
     → said_len s ≤ longest → old.longest ≤ longest → (1 ≤ old.longest_line → 1 ≤ longest_line) → new ≡ record old { longest = longest; longest_line = longest_line } → JudgesLine A begun line after old new
-counted_as A begun line after longest longest_line s old new is fine fits longer numbered e =
+counted_as A begun line after longest longest_line s old new is fine of fits longer numbered e =
     let it = meant s fine in
     let len = it.len in
     inr (record {
       event = it.event;
-      said = record { fields = is ∙ sym it.fields_are; fine = it.fine };
+      said = record { fields = is ∙ sym it.fields_are; fine = it.fine; of_version = subst (λ (w : Word). IsWordOf old.version w) (sym it.word) of };
       fits = rw e (omega arith);
       longer = rw e longer;
       numbered = rw e numbered;
@@ -37,16 +39,16 @@ counted_as A begun line after longest longest_line s old new is fine fits longer
     })
 
 -- the same, by whether it spells the most so far
-pub event_judged : (A : Type 0) (begun : Bool) (line after : List ℕ) (n : ℕ) (s : Said A) (old new : Judgement) → fields_of line ≡ said_fields s → IsFineSaid s → 1 ≤ n
+pub event_judged : (A : Type 0) (begun : Bool) (line after : List ℕ) (n : ℕ) (s : Said A) (old new : Judgement) → fields_of line ≡ said_fields s → IsFineSaid s → IsWordOf old.version (word_for s.event.what) → 1 ≤ n
     → new ≡ (if nat_lt old.longest (said_len s) then record old { longest = said_len s; longest_line = n } else old) → JudgesLine A begun line after old new
-event_judged A begun line after n s old new is fine numbered counted =
+event_judged A begun line after n s old new is fine of numbered counted =
     elim (cases_Bool (nat_lt old.longest (said_len s))) [
       | inl more ↦
           let lt = ltb-true old.longest (said_len s) more in
-          counted_as A begun line after (said_len s) n s old new is fine (omega arith) (omega arith) (λ _. numbered) (rw more at counted)
+          counted_as A begun line after (said_len s) n s old new is fine of (omega arith) (omega arith) (λ _. numbered) (rw more at counted)
       | inr same ↦
           let le = ltb-false old.longest (said_len s) same in
-          counted_as A begun line after old.longest old.longest_line s old new is fine le (omega arith) (λ h. h) (rw same at counted)
+          counted_as A begun line after old.longest old.longest_line s old new is fine of le (omega arith) (λ h. h) (rw same at counted)
     ]
 
 -- the lines so far are those of a trace, of which this is kept
@@ -114,13 +116,13 @@ slot_more A whole j k rest l after begun slot s cut test said =
     }
 
 event_more : (A : Type 0) (whole : List ℕ) (j : Judgement) (k longest longest_line : ℕ) (rest l after : List ℕ) (event : Event A) → JudgedSofar A whole j k rest → rest ≡ l ++ 10 ∷ after
-    → SaysEvent l event → bytes_len event.what ≤ longest → j.longest ≤ longest → 1 ≤ longest_line → JudgedSofar A whole (record j { longest = longest; longest_line = longest_line }) (k + 1) after
+    → SaysEvent j.version l event → bytes_len event.what ≤ longest → j.longest ≤ longest → 1 ≤ longest_line → JudgedSofar A whole (record j { longest = longest; longest_line = longest_line }) (k + 1) after
 unfolding event_line
 event_more A whole j k longest longest_line rest l after event s cut said fits longer numbered =
     let es = s.trace.events in
     record {
       trace = with_event s.trace event;
-      so = event_read whole s.trace k rest l after event s.so cut said.fields said.fine;
+      so = event_read whole s.trace k rest l after event s.so cut said.fields said.fine (subst (λ (v : ℕ). IsWordOf v (word_for event.what)) (sym s.version) said.of_version);
       version = s.version;
       cache = s.cache;
       slots = s.slots;

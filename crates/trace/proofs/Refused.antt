@@ -3,11 +3,11 @@ use Rattle.std.proofs.Common.{◌≡◌, ◌≢◌, ℕ, ◌≤◌, ◌⊎◌, [
 use Rattle.trace.specs.declared.fault.FaultKind.{FaultKind}
 use Rattle.trace.specs.declared.fault.FaultKind.TheVariants as kind
 use Rattle.trace.specs.declared.word.Word.{Word}
-use Rattle.trace.specs.declared.word.Word.TheVariants.{Cache, Slot, Read, Write, MemRead, MemWrite, Input, Resize}
+use Rattle.trace.specs.declared.word.Word.TheVariants.{Cache, Slot, Read, Write, MemRead, MemWrite, Input, Resize, Restore}
 use Rattle.trace.specs.Cuts.{fields_of}
 use Rattle.trace.specs.Faults.{MayStand, other_fields}
 use Rattle.trace.specs.Refusals.{RefusesFields, RefusesLine, RefusesAfterWord}
-use Rattle.trace.specs.Words.{spelled}
+use Rattle.trace.specs.Words.{IsWordOf, spelled}
 
 -- only `cache` stands in line 2, and the others in each line from the third on
 place_of : (w : Word) → (w ≡ Cache) ⊎ ((k : ℕ) → (MayStand k w → 3 ≤ k) × (3 ≤ k → MayStand k w))
@@ -19,6 +19,7 @@ place_of MemRead = inr (λ k. (λ h. h, λ h. h))
 place_of MemWrite = inr (λ k. (λ h. h, λ h. h))
 place_of Input = inr (λ k. (λ h. h, λ h. h))
 place_of Resize = inr (λ k. (λ h. h, λ h. h))
+place_of Restore = inr (λ k. (λ h. h, λ h. h))
 
 not_late : (k : ℕ) → 3 ≤ k → k ≡ 2 → ⊥
 not_late k late two = omega arith
@@ -40,24 +41,25 @@ only_cache w h = elim (place_of w) [ inl is ↦ is | inr place ↦ absurd (not_l
 
 -- ---- a line that is refused
 
-after : (version : ℕ) (begun : Bool) (line : List ℕ) (word : Word) (fault : FaultKind) (fields : List (List ℕ)) → MayStand 3 word → fields_of line ≡ spelled word ∷ fields → (begun ≡ true → word ≡ Slot → ⊥) → RefusesFields version word fields fault → RefusesAfterWord version begun line fault
-after version begun line word fault fields may is ordered h =
+after : (version : ℕ) (begun : Bool) (line : List ℕ) (word : Word) (fault : FaultKind) (fields : List (List ℕ)) → MayStand 3 word → IsWordOf version word → fields_of line ≡ spelled word ∷ fields → (begun ≡ true → word ≡ Slot → ⊥) → RefusesFields version word fields fault → RefusesAfterWord version begun line fault
+after version begun line word fault fields may of is ordered h =
     let rest : other_fields line ≡ fields = ap (drop 1) is in
     record {
       word = word;
       may = may;
+      of_version = of;
       first = ap (λ (fs : List (List ℕ)). get_or fs 0 []) is;
       ordered = ordered;
       refused = subst (λ (fs : List (List ℕ)). RefusesFields version word fs fault) (sym rest) h;
     }
 
-pub refused_after : (version : ℕ) (begun : Bool) (line : List ℕ) (word : Word) (fault : FaultKind) (fields : List (List ℕ)) → MayStand 3 word → fields_of line ≡ spelled word ∷ fields → (begun ≡ true → word ≡ Slot → ⊥) → RefusesFields version word fields fault → RefusesLine version begun line fault
-refused_after version begun line word kind.Cut fields may is ordered h = absurd h
-refused_after version begun line word kind.Header fields may is ordered h = absurd h
-refused_after version begun line word kind.Word fields may is ordered h = absurd h
-refused_after version begun line word kind.Order fields may is ordered h = absurd h
-refused_after version begun line word kind.Fields fields may is ordered h = after version begun line word kind.Fields fields may is ordered h
-refused_after version begun line word kind.Number fields may is ordered h = after version begun line word kind.Number fields may is ordered h
-refused_after version begun line word kind.Choice fields may is ordered h = after version begun line word kind.Choice fields may is ordered h
-refused_after version begun line word kind.Bytes fields may is ordered h = after version begun line word kind.Bytes fields may is ordered h
-refused_after version begun line word kind.NoMemory fields may is ordered h = absurd h
+pub refused_after : (version : ℕ) (begun : Bool) (line : List ℕ) (word : Word) (fault : FaultKind) (fields : List (List ℕ)) → MayStand 3 word → IsWordOf version word → fields_of line ≡ spelled word ∷ fields → (begun ≡ true → word ≡ Slot → ⊥) → RefusesFields version word fields fault → RefusesLine version begun line fault
+refused_after version begun line word kind.Cut fields may of is ordered h = absurd h
+refused_after version begun line word kind.Header fields may of is ordered h = absurd h
+refused_after version begun line word kind.Word fields may of is ordered h = absurd h
+refused_after version begun line word kind.Order fields may of is ordered h = absurd h
+refused_after version begun line word kind.Fields fields may of is ordered h = after version begun line word kind.Fields fields may of is ordered h
+refused_after version begun line word kind.Number fields may of is ordered h = after version begun line word kind.Number fields may of is ordered h
+refused_after version begun line word kind.Choice fields may of is ordered h = after version begun line word kind.Choice fields may of is ordered h
+refused_after version begun line word kind.Bytes fields may of is ordered h = after version begun line word kind.Bytes fields may of is ordered h
+refused_after version begun line word kind.NoMemory fields may of is ordered h = absurd h

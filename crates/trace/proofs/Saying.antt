@@ -9,7 +9,7 @@ use Rattle.trace.specs.Judging.{bytes_len, said_len}
 use Rattle.trace.specs.Printable.{IsPrintableKind, KindInRange}
 use Rattle.trace.specs.Refusals.{IsFine}
 use Rattle.trace.specs.Said.{IsFineSaid, IsFineWhat, IsPlain, said_fields, said_line, what_said}
-use Rattle.trace.specs.Text.{event_fields, event_line, line, what_fields}
+use Rattle.trace.specs.Text.{event_fields, event_line, line, what_fields, word_for}
 use Rattle.hexadecimal.proofs.ByteFields.{spelled_len}
 use Rattle.trace.proofs.Entries.{cut_event}
 
@@ -17,6 +17,7 @@ use Rattle.trace.proofs.Entries.{cut_event}
 pub record Meant {A : Type 0} (fields : List (List ℕ)) (s : Said A) : Type 0 where
   pub event : Event A
   pub fields_are : event_fields event ≡ fields
+  pub word : word_for event.what ≡ word_for s.event.what
   pub fine : IsFine event
   pub len : bytes_len event.what ≡ said_len s
 
@@ -24,12 +25,13 @@ record MeantWhat {A : Type 0} (slot : ℕ) (w : EventKind A) (field : List ℕ) 
   kind : EventKind A
   len : bytes_len kind ≡ length field / 2
   fields_are : what_fields slot kind ≡ what_said slot w field
+  word : word_for kind ≡ word_for w
   range : KindInRange kind
   printable : IsPrintableKind kind
 
 plain : {A : Type 0} (slot : ℕ) (w : EventKind A) (field : List ℕ) → IsPlain w field → bytes_len w ≡ 0 → what_fields slot w ≡ what_said slot w field → MeantWhat slot w field
 plain slot w field h none same =
-    record { kind = w; len = rw h.none none; fields_are = same; range = h.range; printable = h.printable }
+    record { kind = w; len = rw h.none none; fields_are = same; word = refl; range = h.range; printable = h.printable }
 
 by_what : {A : Type 0} (slot : ℕ) (w : EventKind A) (field : List ℕ) → IsFineWhat w field → MeantWhat slot w field
 by_what slot (event.Read kind offset width) field h = plain slot (event.Read kind offset width) field h refl refl
@@ -38,13 +40,16 @@ by_what slot (event.MemRead addr len) field h = plain slot (event.MemRead addr l
 by_what slot (event.MemWrite addr bs) field h =
     let spelled = h.bytes.said.0 in
     let is = h.bytes.said.1 in
-    record { kind = event.MemWrite addr spelled; fields_are = rw (← is.spelled) refl; len = spelled_len field spelled is; range = record { from = h.from; each = is.fits }; printable = tt }
+    record { kind = event.MemWrite addr spelled; fields_are = rw (← is.spelled) refl; word = refl; len = spelled_len field spelled is; range = record { from = h.from; each = is.fits }; printable = tt }
 by_what slot (event.Input bs) field h =
     let spelled = h.said.0 in
     let is = h.said.1 in
-    record { kind = event.Input spelled; fields_are = rw (← is.spelled) refl; len = spelled_len field spelled is; range = record { each = is.fits }; printable = tt }
+    record { kind = event.Input spelled; fields_are = rw (← is.spelled) refl; word = refl; len = spelled_len field spelled is; range = record { each = is.fits }; printable = tt }
 by_what slot (event.Resize cols rows) field h = plain slot (event.Resize cols rows) field h refl refl
-by_what slot (event.Restore bs) field h = absurd h.printable
+by_what slot (event.Restore bs) field h =
+    let spelled = h.said.0 in
+    let is = h.said.1 in
+    record { kind = event.Restore spelled; fields_are = rw (← is.spelled) refl; word = refl; len = spelled_len field spelled is; range = record { each = is.fits }; printable = tt }
 
 -- what is said is an event's
 pub meant : {A : Type 0} (s : Said A) → IsFineSaid s → Meant (said_fields s) s
@@ -53,6 +58,7 @@ meant s h =
     record {
       event = record { slot = s.event.slot; what = it.kind };
       fields_are = it.fields_are;
+      word = it.word;
       fine = record { fits = record { slot = h.slot; what = it.range }; printable = it.printable };
       len = it.len;
     }

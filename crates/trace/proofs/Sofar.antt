@@ -8,13 +8,17 @@ use Rattle.board.specs.declared.event.Event.{Event}
 use Rattle.board.specs.declared.spec.SlotSpec.{SlotSpec}
 use Rattle.trace.specs.declared.fault.FaultKind.{FaultKind}
 use Rattle.trace.specs.declared.fault.FaultKind.TheVariants as kind
+use Rattle.trace.specs.declared.read.said.Said.{Said}
+use Rattle.trace.specs.declared.word.Word.{Word}
 use Rattle.trace.specs.declared.word.Word.TheVariants.{Slot}
 use Rattle.trace.specs.Cuts.{fields_of, lines_of, is_line_feed}
 use Rattle.trace.specs.Faults.{IsCleanBefore, IsEnded, IsFault, IsOfVersion, Passes, line_at}
 use Rattle.trace.specs.Printable.{InRange, IsPrintable, EventInRange, IsPrintableKind, IsPrintableSlot, SlotInRange}
+use Rattle.trace.specs.Said.{said_fields}
 use Rattle.trace.specs.Version.{IsVersion}
-use Rattle.trace.specs.Refusals.{AddsLine, IsFine, IsFineSlot, RefusesLine, RefusesAfterWord, has_begun}
-use Rattle.trace.specs.Text.{Content, ended, header, joined, text, line, cache_fields, cache_line, slot_fields, slot_line, event_fields, event_line, trace_lines}
+use Rattle.trace.specs.Words.{IsWordOf}
+use Rattle.trace.specs.Refusals.{AddsLine, AddsSaid, IsFine, IsFineSlot, RefusesLine, RefusesAfterWord, has_begun}
+use Rattle.trace.specs.Text.{Content, ended, header, joined, text, line, cache_fields, cache_line, slot_fields, slot_line, event_fields, event_line, trace_lines, word_for}
 use Rattle.trace.proofs.Clean.{Good, IsSlotLine, good, good_passes, only_slots, one_event}
 use Rattle.trace.proofs.Entries.{EnteredEvent, entered_cache, entered_event, entered_slot, same_word}
 use Rattle.trace.proofs.Faulty.{cut_fault, fields_fault, order_fault, word_fault}
@@ -29,8 +33,8 @@ pub record Fits {A : Type 0} (c : Content A) : Type 0 where
 slot_lines : (version : ℕ) (slots : List SlotSpec) → All SlotInRange slots → All (IsSlotLine version) (map (slot_line version) slots)
 slot_lines version slots h = All-map (IsSlotLine version) (slot_line version) slots (All-weaker SlotInRange (λ s. IsSlotLine version (slot_line version s)) (entered_slot version) slots h)
 
-event_lines : {A : Type 0} (version : ℕ) (events : List (Event A)) → All EventInRange events → All (λ e. IsPrintableKind e.what) events → All (EnteredEvent version) (map event_line events)
-event_lines version events range fine = All-map (EnteredEvent version) event_line events (λ k d lt. entered_event version (get_or events k d) (record { fits = range k d lt; printable = fine k d lt }))
+event_lines : {A : Type 0} (version : ℕ) (events : List (Event A)) → All EventInRange events → All (λ e. IsPrintableKind e.what) events → All (λ e. IsWordOf version (word_for e.what)) events → All (EnteredEvent version) (map event_line events)
+event_lines version events range fine words = All-map (EnteredEvent version) event_line events (λ k d lt. entered_event version (get_or events k d) (record { fits = range k d lt; printable = fine k d lt }) (words k d lt))
 
 unbroken_slots : (version : ℕ) (ls : List (List ℕ)) → All (IsSlotLine version) ls → AllAbove 10 ls
 unbroken_slots version [] h = tt
@@ -45,7 +49,7 @@ pub unbroken : {A : Type 0} (c : Content A) → Fits c → AllAbove 10 (trace_li
 unfolding trace_lines
 unbroken c h =
     let cache = entered_cache c.version c.cache h.range.cache in
-    (above_header c.version, (cache.unbroken, above_lines (map (slot_line c.version) c.slots) (map event_line c.events) (unbroken_slots c.version (map (slot_line c.version) c.slots) (slot_lines c.version c.slots h.range.slots)) (unbroken_events c.version (map event_line c.events) (event_lines c.version c.events h.range.events h.printable.events))))
+    (above_header c.version, (cache.unbroken, above_lines (map (slot_line c.version) c.slots) (map event_line c.events) (unbroken_slots c.version (map (slot_line c.version) c.slots) (slot_lines c.version c.slots h.range.slots)) (unbroken_events c.version (map event_line c.events) (event_lines c.version c.events h.range.events h.printable.events h.printable.words))))
 
 pub some_lines : (text : List ℕ) → 0 < length (lines_of text)
 unfolding lines_of
@@ -72,7 +76,7 @@ module _ {A : Type 0} (text : List ℕ) (c : Content A) (k : ℕ) (rest : List �
   good_before j le lt =
       let count = s.count in
       good c.version text (cache_line c.cache) (map (slot_line c.version) c.slots) (map event_line c.events) (lines_of rest) parts (some_lines rest) s.fits.printable.version
-      (entered_cache c.version c.cache s.fits.range.cache) (slot_lines c.version c.slots s.fits.range.slots) (event_lines c.version c.events s.fits.range.events s.fits.printable.events) j le (omega (arith, slots_len, events_len))
+      (entered_cache c.version c.cache s.fits.range.cache) (slot_lines c.version c.slots s.fits.range.slots) (event_lines c.version c.events s.fits.range.events s.fits.printable.events s.fits.printable.words) j le (omega (arith, slots_len, events_len))
 
   pub clean : IsCleanBefore text k
   clean j le lt fault = good_passes c.version text j (good_before j le lt) fault
@@ -111,26 +115,26 @@ module _ {A : Type 0} (text : List ℕ) (c : Content A) (k : ℕ) (rest : List �
         | inl so ↦ absurd (r.ordered so (same_word r.word Slot (sym r.first ∙ slot)))
         | inr not_yet ↦
             only_slots c.version text (cache_line c.cache) (map (slot_line c.version) c.slots) (map event_line c.events) (lines_of rest) parts (some_lines rest) s.fits.printable.version
-            (entered_cache c.version c.cache s.fits.range.cache) (slot_lines c.version c.slots s.fits.range.slots) (event_lines c.version c.events s.fits.range.events s.fits.printable.events) (events_len ∙ none not_yet) j low (omega (arith, slots_len, events_len))
+            (entered_cache c.version c.cache s.fits.range.cache) (slot_lines c.version c.slots s.fits.range.slots) (event_lines c.version c.events s.fits.range.events s.fits.printable.events s.fits.printable.words) (events_len ∙ none not_yet) j low (omega (arith, slots_len, events_len))
       ]
 
   fault_after : (begun : Bool) (fault : FaultKind) → IsEnded text k → 2 ≤ k → (begun ≡ false → length c.events ≡ 0) → RefusesAfterWord c.version begun (line_at text k) fault → fault ≢ kind.NoMemory → IsFault text k fault
   fault_after begun fault end late none r known =
       let count = s.count in
-      fields_fault text k late clean end c.version names_it r.word (may_move r.word 3 k (omega arith) (omega arith) r.may) r.first (ordered begun fault end none r) fault r.refused known
+      fields_fault text k late clean end c.version names_it r.word (may_move r.word 3 k (omega arith) (omega arith) r.may) r.of_version r.first (ordered begun fault end none r) fault r.refused known
 
   refused : (begun : Bool) (fault : FaultKind) → IsEnded text k → 2 ≤ k → (begun ≡ true → 0 < length c.events) → (begun ≡ false → length c.events ≡ 0) → RefusesLine c.version begun (line_at text k) fault → fault ≢ kind.NoMemory → IsFault text k fault
   refused begun kind.Cut end late some none h known = fault_after begun kind.Cut end late none h known
   refused begun kind.Header end late some none h known = fault_after begun kind.Header end late none h known
   refused begun kind.Word end late some none h known =
       let count = s.count in
-      word_fault text k late clean end (λ w may is. h w (may_move w k 3 (omega arith) (omega arith) may) is)
+      word_fault text k late clean end c.version names_it (λ w may of is. h w (may_move w k 3 (omega arith) (omega arith) may) of is)
   refused begun kind.Order end late some none h known =
       let count = s.count in
       let begins = some h.0 in
       order_fault text k late clean end (omega arith) h.1 (3 + length (map (slot_line c.version) c.slots)) (omega arith) (omega (arith, slots_len))
       (one_event c.version text (cache_line c.cache) (map (slot_line c.version) c.slots) (map event_line c.events) (lines_of rest) parts (some_lines rest) s.fits.printable.version
-      (entered_cache c.version c.cache s.fits.range.cache) (slot_lines c.version c.slots s.fits.range.slots) (event_lines c.version c.events s.fits.range.events s.fits.printable.events) (omega (arith, events_len)))
+      (entered_cache c.version c.cache s.fits.range.cache) (slot_lines c.version c.slots s.fits.range.slots) (event_lines c.version c.events s.fits.range.events s.fits.printable.events s.fits.printable.words) (omega (arith, events_len)))
   refused begun kind.Fields end late some none h known = fault_after begun kind.Fields end late none h known
   refused begun kind.Number end late some none h known = fault_after begun kind.Number end late none h known
   refused begun kind.Choice end late some none h known = fault_after begun kind.Choice end late none h known
@@ -182,21 +186,21 @@ slot_read text c k rest l after s so cut is fine none =
           (push_slot c s none ∙ ap (λ (x : List ℕ). trace_lines c ++ x ∷ []) (sym (line-fields_of l (slot_fields c.version s) is)));
       fits = record {
         range = record { cache = so.fits.range.cache; slots = All-push SlotInRange c.slots s so.fits.range.slots fine.fits; events = so.fits.range.events };
-        printable = record { version = so.fits.printable.version; slots = All-push (IsPrintableSlot c.version) c.slots s so.fits.printable.slots fine.printable; events = so.fits.printable.events };
+        printable = record { version = so.fits.printable.version; slots = All-push (IsPrintableSlot c.version) c.slots s so.fits.printable.slots fine.printable; events = so.fits.printable.events; words = so.fits.printable.words };
       };
       count = omega (arith, length_push c.slots s);
     }
 
-pub event_read : {A : Type 0} (text : List ℕ) (c : Content A) (k : ℕ) (rest l after : List ℕ) (e : Event A) → Sofar text c k rest → rest ≡ l ++ 10 ∷ after → fields_of l ≡ event_fields e → IsFine e → Sofar text (record c { events = c.events ++ e ∷ [] }) (k + 1) after
+pub event_read : {A : Type 0} (text : List ℕ) (c : Content A) (k : ℕ) (rest l after : List ℕ) (e : Event A) → Sofar text c k rest → rest ≡ l ++ 10 ∷ after → fields_of l ≡ event_fields e → IsFine e → IsWordOf c.version (word_for e.what) → Sofar text (record c { events = c.events ++ e ∷ [] }) (k + 1) after
 unfolding event_line
-event_read text c k rest l after e so cut is fine =
+event_read text c k rest l after e so cut is fine of =
     let count = so.count in
     record {
       spelled = taken text (trace_lines c) (trace_lines (record c { events = c.events ++ e ∷ [] })) rest l after so.spelled cut
           (push_event c e ∙ ap (λ (x : List ℕ). trace_lines c ++ x ∷ []) (sym (line-fields_of l (event_fields e) is)));
       fits = record {
         range = record { cache = so.fits.range.cache; slots = so.fits.range.slots; events = All-push EventInRange c.events e so.fits.range.events fine.fits };
-        printable = record { version = so.fits.printable.version; slots = so.fits.printable.slots; events = All-push (λ x. IsPrintableKind x.what) c.events e so.fits.printable.events fine.printable };
+        printable = record { version = so.fits.printable.version; slots = so.fits.printable.slots; events = All-push (λ x. IsPrintableKind x.what) c.events e so.fits.printable.events fine.printable; words = All-push (λ x. IsWordOf c.version (word_for x.what)) c.events e so.fits.printable.words of };
       };
       count = omega (arith, length_push c.events e);
     }
@@ -211,7 +215,7 @@ begun_so text version cache middle l rest one_of first second is range =
     let e = line-fields_of l (cache_fields cache) is in
     record {
       spelled = first ∙ ap (λ (m : List ℕ). header version ++ 10 ∷ m) (second ∙ ap (λ (x : List ℕ). x ++ 10 ∷ rest) e) ∙ sym (two_lines (header version) (line (cache_fields cache)) rest);
-      fits = record { range = record { cache = range; slots = All-nil SlotInRange; events = λ k d lt. absurd (omega arith) }; printable = record { version = one_of; slots = All-nil (IsPrintableSlot version); events = λ k d lt. absurd (omega arith) } };
+      fits = record { range = record { cache = range; slots = All-nil SlotInRange; events = λ k d lt. absurd (omega arith) }; printable = record { version = one_of; slots = All-nil (IsPrintableSlot version); events = λ k d lt. absurd (omega arith); words = λ k d lt. absurd (omega arith) } };
       count = refl;
     }
 
@@ -222,7 +226,16 @@ pub entry_read : {A : Type 0} (text : List ℕ) (c d : Content A) (k : ℕ) (res
 entry_read text c d k rest l after so cut (inl adds) =
     subst (λ x. Sofar text x (k + 1) after) (sym adds.added) (slot_read text c k rest l after adds.slot so cut adds.said.fields adds.said.fine (none_begun c adds.said.early))
 entry_read text c d k rest l after so cut (inr adds) =
-    subst (λ x. Sofar text x (k + 1) after) (sym adds.added) (event_read text c k rest l after adds.event so cut adds.said.fields adds.said.fine)
+    subst (λ x. Sofar text x (k + 1) after) (sym adds.added) (event_read text c k rest l after adds.event so cut adds.said.fields adds.said.fine adds.said.of_version)
+
+-- what a line says was added
+pub said_added : {A : Type 0} (old : Content A) (l : List ℕ) (said : Said A) (events : List (Event A)) → fields_of l ≡ said_fields said → IsWordOf old.version (word_for said.event.what) → AddsSaid said old.events events → AddsLine old l (record old { events = events })
+said_added old l said events is of adds =
+    inr (record {
+      event = adds.event;
+      said = record { fields = is ∙ sym adds.fields; fine = adds.fine; of_version = subst (λ (w : Word). IsWordOf old.version w) (sym adds.word) of };
+      added = ap (λ es. record old { events = es }) adds.added;
+    })
 
 -- the next line's number stays below the text's length
 pub length_joined : (ls : List (List ℕ)) → length ls ≤ length (joined ls)

@@ -21,13 +21,14 @@ use Rattle.trace.specs.Refusals.{IsFine, IsFineSlot}
 use Rattle.trace.specs.Version.{IsVersion}
 use Rattle.hexadecimal.specs.Spelling.{bytes, fixed}
 use Rattle.trace.specs.Spelling.{mode, window}
-use Rattle.trace.specs.Text.{Content, cache_line, event_fields, event_line, slot_fields, slot_line, text, trace_lines, what_fields}
+use Rattle.trace.specs.Text.{Content, cache_line, event_fields, event_line, slot_fields, slot_line, text, trace_lines, what_fields, word_for}
 use Rattle.trace.specs.Words.{spelled}
 use Rattle.hexadecimal.proofs.ByteFields.{AreBytes, is_bytes}
 use Rattle.trace.proofs.Entries.{cut_cache, cut_event, cut_slot, entered_event, entered_slot, fits_digits, same_word}
 use Rattle.hexadecimal.proofs.Numbers.{same_fixed, same_num}
 use Rattle.trace.proofs.Signs.{lines_of-joined}
 use Rattle.trace.proofs.Sofar.{Fits, Sofar, clean, lines_left, next_is, unbroken}
+use Rattle.trace.proofs.Versions.{word_of_3}
 
 -- ---- fields
 
@@ -68,7 +69,10 @@ same_identity : (version : ℕ) (s t : SlotSpec) → IsVersion version → IsFin
 same_identity version s t one_of fs ft e =
     elim one_of [
       | inl one ↦ fs.printable one ∙ sym (ft.printable one)
-      | inr two ↦ same_bytes s.identity t.identity fs.fits.identity ft.fits.identity (field (slot_fields 2 s) (slot_fields 2 t) 8 (subst (λ (v : ℕ). slot_fields v s ≡ slot_fields v t) two e))
+      | inr more ↦ elim more [
+        | inl two ↦ same_bytes s.identity t.identity fs.fits.identity ft.fits.identity (field (slot_fields 2 s) (slot_fields 2 t) 8 (subst (λ (v : ℕ). slot_fields v s ≡ slot_fields v t) two e))
+        | inr three ↦ same_bytes s.identity t.identity fs.fits.identity ft.fits.identity (field (slot_fields 3 s) (slot_fields 3 t) 8 (subst (λ (v : ℕ). slot_fields v s ≡ slot_fields v t) three e))
+      ]
     ]
 
 same_slot_fields : (version : ℕ) (s t : SlotSpec) → IsVersion version → IsFineSlot version s → IsFineSlot version t → slot_fields version s ≡ slot_fields version t → s ≡ t
@@ -166,13 +170,22 @@ same_what m n (what.Resize a r) (what.Write l p x v') rv rw' fv fw e = absurd (o
 same_what m n (what.Resize a r) (what.MemRead b t) rv rw' fv fw e = absurd (omega (arith, ap sign e))
 same_what m n (what.Resize a r) (what.MemWrite b ys) rv rw' fv fw e = absurd (omega (arith, ap sign e))
 same_what m n (what.Resize a r) (what.Input ys) rv rw' fv fw e = absurd (omega (arith, ap sign e))
-same_what m n (what.Restore xs) w rv rw' fv fw e = absurd fv
-same_what m n (what.Read k o w) (what.Restore ys) rv rw' fv fw e = absurd fw
-same_what m n (what.Write k o w u) (what.Restore ys) rv rw' fv fw e = absurd fw
-same_what m n (what.MemRead a r) (what.Restore ys) rv rw' fv fw e = absurd fw
-same_what m n (what.MemWrite a xs) (what.Restore ys) rv rw' fv fw e = absurd fw
-same_what m n (what.Input xs) (what.Restore ys) rv rw' fv fw e = absurd fw
-same_what m n (what.Resize a r) (what.Restore ys) rv rw' fv fw e = absurd fw
+same_what m n (what.Restore xs) (what.Restore ys) rv rw' fv fw e =
+    let slot = same_num m n (ap (λ (fs : List (List ℕ)). get_or fs 1 []) e) in
+    let data' = same_bytes xs ys rv.each rw'.each (ap (λ (fs : List (List ℕ)). get_or fs 2 []) e) in
+    (slot, cc)
+same_what m n (what.Restore xs) (what.Read l p x) rv rw' fv fw e = absurd (omega (arith, ap sign e))
+same_what m n (what.Restore xs) (what.Write l p x v') rv rw' fv fw e = absurd (omega (arith, ap sign e))
+same_what m n (what.Restore xs) (what.MemRead b t) rv rw' fv fw e = absurd (omega (arith, ap sign e))
+same_what m n (what.Restore xs) (what.MemWrite b ys) rv rw' fv fw e = absurd (omega (arith, ap sign e))
+same_what m n (what.Restore xs) (what.Input ys) rv rw' fv fw e = absurd (omega (arith, ap sign e))
+same_what m n (what.Restore xs) (what.Resize b t) rv rw' fv fw e = absurd (omega (arith, ap sign e))
+same_what m n (what.Read k o w) (what.Restore ys) rv rw' fv fw e = absurd (omega (arith, ap sign e))
+same_what m n (what.Write k o w u) (what.Restore ys) rv rw' fv fw e = absurd (omega (arith, ap sign e))
+same_what m n (what.MemRead a r) (what.Restore ys) rv rw' fv fw e = absurd (omega (arith, ap sign e))
+same_what m n (what.MemWrite a xs) (what.Restore ys) rv rw' fv fw e = absurd (omega (arith, ap sign e))
+same_what m n (what.Input xs) (what.Restore ys) rv rw' fv fw e = absurd (omega (arith, ap sign e))
+same_what m n (what.Resize a r) (what.Restore ys) rv rw' fv fw e = absurd (omega (arith, ap sign e))
 
 pub same_event_fields : {A : Type 0} (d e : Event A) → IsFine d → IsFine e → event_fields d ≡ event_fields e → d ≡ e
 same_event_fields d e fd fe h =
@@ -188,7 +201,7 @@ same_event_line d e hd he h = same_event_fields d e hd he (sym (cut_event d hd) 
 -- a slot's line is no event's
 other_line : {A : Type 0} (version : ℕ) (s : SlotSpec) (e : Event A) → IsFineSlot version s → IsFine e → slot_line version s ≡ event_line e → ⊥
 other_line version s e hs he h =
-    let event = entered_event version e he in
+    let event = entered_event 3 e he (word_of_3 (word_for e.what)) in
     let slot = entered_slot version s hs.fits in
     let words : spelled Slot ≡ spelled event.word = ap (λ (fs : List (List ℕ)). get_or fs 0 []) (sym slot.cut ∙ ap fields_of h ∙ event.entry.cut) in
     event.other (sym (same_word Slot event.word words))

@@ -7,13 +7,13 @@ use Rattle.trace.specs.declared.table.Field.TheVariants.{Identity, Sectors}
 use Rattle.trace.specs.declared.value.FieldValue.{FieldValue}
 use Rattle.trace.specs.declared.value.FieldValue.TheVariants as value
 use Rattle.trace.specs.declared.word.Word.{Word}
-use Rattle.trace.specs.declared.word.Word.TheVariants.{Cache, Slot, Read, Write, MemRead, MemWrite, Input, Resize}
+use Rattle.trace.specs.declared.word.Word.TheVariants.{Cache, Slot, Read, Write, MemRead, MemWrite, Input, Resize, Restore}
 use Rattle.trace.specs.Printable.{IsWriteAccess}
 use Rattle.trace.specs.Spelling.{value_text}
 use Rattle.trace.specs.Values.{AreOf, IsOf, SaysValue, SayValues}
 use Rattle.trace.specs.Words.{AllRight, AreRight, IsWidth, Mode, Num, Offset, Says, Shape, Value, Width, Window, fields_in, shape_of, shapes, width_among}
 use Rattle.trace.proofs.Widths.{num_width}
-use Rattle.trace.proofs.Versions.{map_in_version_2}
+use Rattle.trace.proofs.Versions.{map_since_version_2}
 
 -- ---- the values so far
 
@@ -68,32 +68,34 @@ module _ (f : Field → Shape) (row : List Field) (vs : List FieldValue) (i : �
 
 -- ---- over the table
 
-last_few : (has : Bool) → length (if has then Identity ∷ [] else []) ≤ 1
+last_few : (has : Bool) → length (if has then [] else Identity ∷ []) ≤ 1
 last_few false = omega arith
 last_few true = omega arith
 
 pub at_most_eight : (version : ℕ) (word : Word) → length (fields_in version word) ≤ 8
 at_most_eight version Cache = omega arith
-at_most_eight version Slot = omega (arith, last_few (version == 2))
+at_most_eight version Slot = omega (arith, last_few (version == 1))
 at_most_eight version Read = omega arith
 at_most_eight version Write = omega arith
 at_most_eight version MemRead = omega arith
 at_most_eight version MemWrite = omega arith
 at_most_eight version Input = omega arith
 at_most_eight version Resize = omega arith
+at_most_eight version Restore = omega arith
 
 -- only a write's shapes depend on a width
 pub shapes_by : (version : ℕ) (word : Word) (width : List ℕ) (fields : List (List ℕ)) → (word ≡ Write → width ≡ width_among fields) → map (shape_of width) (fields_in version word) ≡ shapes version word fields
 shapes_by version Cache width fields same = refl
 shapes_by version Slot width fields same =
     ap (λ (last : List Shape). Num 64 ∷ Num 64 ∷ Num 64 ∷ Num 64 ∷ Mode ∷ Num 16 ∷ Num 16 ∷ last)
-    (map_in_version_2 (shape_of width) version (Identity ∷ []) ∙ sym (map_in_version_2 (shape_of (width_among fields)) version (Identity ∷ [])))
+    (map_since_version_2 (shape_of width) version (Identity ∷ []) ∙ sym (map_since_version_2 (shape_of (width_among fields)) version (Identity ∷ [])))
 shapes_by version Read width fields same = refl
 shapes_by version Write width fields same = ap (λ (by : List ℕ). Num 8 ∷ Window ∷ Offset ∷ Width ∷ Value by ∷ []) (same refl)
 shapes_by version MemRead width fields same = refl
 shapes_by version MemWrite width fields same = refl
 shapes_by version Input width fields same = refl
 shapes_by version Resize width fields same = refl
+shapes_by version Restore width fields same = refl
 
 -- the fields of an event are the same in each version
 pub same_right : (version other : ℕ) (word : Word) (fields : List (List ℕ)) → word ≢ Slot → AreRight version word fields → AreRight other word fields
@@ -105,6 +107,7 @@ same_right version other MemRead fields event h = h
 same_right version other MemWrite fields event h = h
 same_right version other Input fields event h = h
 same_right version other Resize fields event h = h
+same_right version other Restore fields event h = h
 
 -- ---- a write
 
@@ -126,7 +129,7 @@ within_width width n wide within =
       | inr more ↦ elim more [ inl two ↦ rw two (rw two at within) | inr four ↦ rw four (rw four at within) ]
     ]
 
-pub written : (vs : List FieldValue) → AreOf (shapes 2 Write (map value_text vs)) vs → IsWrite vs
+pub written : (vs : List FieldValue) → AreOf (shapes 3 Write (map value_text vs)) vs → IsWrite vs
 written vs h =
     let t0 = h.2.1.1 in
     let t1 = t0.2.1.1 in

@@ -1,11 +1,52 @@
--- What only version 2 has.
-use Rattle.std.proofs.Common.{◌≡◌, ◌==◌, ℕ, Bool, true, false, if◌then◌else◌, List, [], map, refl}
-use Rattle.trace.specs.Version.{in_version_2}
+-- What later versions have.
+use Rattle.std.proofs.Common.{◌≡◌, ◌==◌, ◌≤◌, ℕ, Bool, true, false, if◌then◌else◌, List, [], get_or, map, refl, arith, inl, inr}
+use Rattle.trace.specs.declared.word.Word.{Word}
+use Rattle.trace.specs.declared.word.Word.TheVariants.{Cache, Slot, Read, Write, MemRead, MemWrite, Input, Resize, Restore}
+use Rattle.trace.specs.Printable.{IsPrintable}
+use Rattle.trace.specs.Text.{Content, as_version, word_for}
+use Rattle.trace.specs.Version.{IsVersion, since_version_2}
+use Rattle.trace.specs.Words.{IsWordOf}
 
-map_if : {X Y : Type 0} (f : X → Y) (has : Bool) (xs : List X) → map f (if has then xs else []) ≡ (if has then map f xs else [])
+map_if : {X Y : Type 0} (f : X → Y) (has : Bool) (xs : List X) → map f (if has then [] else xs) ≡ (if has then [] else map f xs)
 map_if f false xs = refl
 map_if f true xs = refl
 
--- each of what only version 2 has
-pub map_in_version_2 : {X Y : Type 0} (f : X → Y) (version : ℕ) (xs : List X) → map f (in_version_2 version xs) ≡ in_version_2 version (map f xs)
-map_in_version_2 f version xs = map_if f (version == 2) xs
+-- each of what later versions have
+pub map_since_version_2 : {X Y : Type 0} (f : X → Y) (version : ℕ) (xs : List X) → map f (since_version_2 version xs) ≡ since_version_2 version (map f xs)
+map_since_version_2 f version xs = map_if f (version == 1) xs
+
+-- a word stays one of the later versions
+pub word_later : (v w : ℕ) (word : Word) → v ≤ w → IsWordOf v word → IsWordOf w word
+word_later v w Cache le h = tt
+word_later v w Slot le h = tt
+word_later v w Read le h = tt
+word_later v w Write le h = tt
+word_later v w MemRead le h = tt
+word_later v w MemWrite le h = tt
+word_later v w Input le h = tt
+word_later v w Resize le h = tt
+word_later v w Restore le h = omega arith
+
+-- version 3 has every word
+pub word_of_3 : (word : Word) → IsWordOf 3 word
+word_of_3 Cache = tt
+word_of_3 Slot = tt
+word_of_3 Read = tt
+word_of_3 Write = tt
+word_of_3 MemRead = tt
+word_of_3 MemWrite = tt
+word_of_3 Input = tt
+word_of_3 Resize = tt
+word_of_3 Restore = omega arith
+
+pub first_is_1 : (v w : ℕ) → IsVersion v → v ≤ w → w ≡ 1 → v ≡ 1
+first_is_1 v w one_of le e = elim one_of [ inl one ↦ one | inr more ↦ elim more [ inl two ↦ absurd (omega arith) | inr three ↦ absurd (omega arith) ] ]
+
+-- a trace that has a text has one in a later version
+pub fits_later : {A : Type 0} (version : ℕ) (t : Content A) → IsVersion version → t.version ≤ version → IsPrintable t → IsPrintable (as_version version t)
+fits_later version t one_of le h = record {
+  version = one_of;
+  slots = λ k d lt e. h.slots k d lt (first_is_1 t.version version h.version le e);
+  events = h.events;
+  words = λ k d lt. word_later t.version version (word_for (get_or t.events k d).what) le (h.words k d lt);
+}

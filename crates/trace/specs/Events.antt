@@ -6,12 +6,12 @@ use Rattle.trace.specs.Cuts.{fields_of, lines_of}
 use Rattle.trace.specs.Refusals.{RefusesLine}
 use Rattle.trace.specs.Said.{IsFineSaid, said_fields}
 
--- the first line of a text is that of an event: it is refused in no way
+-- the first line of a text is that of an event: in the version that has every word it is refused in no way
 pub record BeginsWithEvent (text : List ℕ) : Type 0 where
   pub line : List ℕ
   pub after : List ℕ
   pub cut : lines_of text ≡ line ∷ lines_of after
-  pub never : (fault : FaultKind) → ¬ RefusesLine 2 true line fault
+  pub never : (fault : FaultKind) → ¬ RefusesLine 3 true line fault
 
 -- that line was taken off, and says this
 pub record TakesEvent {A : Type 0} (text : List ℕ) (said : Said A) (after : List ℕ) : Type 0 where

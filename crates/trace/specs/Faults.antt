@@ -7,7 +7,7 @@ use Rattle.trace.specs.declared.word.Word.TheVariants.{Cache, Slot}
 use Rattle.trace.specs.Cuts.{lines_of, fields_of}
 use Rattle.trace.specs.Text.{header}
 use Rattle.trace.specs.Version.{IsVersion}
-use Rattle.trace.specs.Words.{Shape, Num, Offset, Window, Width, Value, Mode, Bytes, Identity, Says, spelled, shapes}
+use Rattle.trace.specs.Words.{IsWordOf, Shape, Num, Offset, Window, Width, Value, Mode, Bytes, Identity, Says, spelled, shapes}
 
 -- line k of a text, numbered from 1; a text ends before line k where nothing stands there
 abbrev pub line_at : List ℕ → ℕ → List ℕ
@@ -40,10 +40,11 @@ abbrev pub MayStand : ℕ → Word → Type 0
 MayStand k Cache = k ≡ 2
 MayStand k _ = 3 ≤ k
 
--- the line begins with a word that may stand in line k
-pub record HasWord (k : ℕ) (line : List ℕ) : Type 0 where
+-- the line begins with a word of a version that may stand in line k
+pub record HasWord (version k : ℕ) (line : List ℕ) : Type 0 where
   pub word : Word
   pub may : MayStand k word
+  pub of_version : IsWordOf version word
   pub first : first_field line ≡ spelled word
 
 -- the kind of fault that a field of a shape is where it says no value
@@ -96,7 +97,7 @@ pub record IsAtFault (fault : FaultKind) (shapes : List Shape) (fields : List (L
 abbrev pub Passes : List ℕ → ℕ → FaultKind → Type 0
 Passes text k kind.Cut = IsOwed text k → IsEnded text k
 Passes text k kind.Header = IsEnded text k → k ≡ 1 → IsHeader (line_at text k)
-Passes text k kind.Word = IsEnded text k → 2 ≤ k → HasWord k (line_at text k)
+Passes text k kind.Word = IsEnded text k → 2 ≤ k → (version : ℕ) → IsOfVersion text version → HasWord version k (line_at text k)
 Passes text k kind.Order = IsEnded text k → first_field (line_at text k) ≡ spelled Slot → (j : ℕ) → 3 ≤ j → j < k → first_field (line_at text j) ≡ spelled Slot
 Passes text k kind.Fields = IsEnded text k → 2 ≤ k → (version : ℕ) → IsOfVersion text version → (word : Word) → first_field (line_at text k) ≡ spelled word → AreAsMany version word (other_fields (line_at text k))
 Passes text k kind.NoMemory = ⊤

@@ -14,6 +14,7 @@ use Rattle.trace.specs.Text.{Content, event_line, joined}
 abbrev pub bytes_len : {A : Type 0} → EventKind A → ℕ
 bytes_len (event.MemWrite addr bs) = length bs
 bytes_len (event.Input bs) = length bs
+bytes_len (event.Restore bs) = length bs
 bytes_len _ = 0
 
 abbrev pub said_len : {A : Type 0} → Said A → ℕ
@@ -77,7 +78,7 @@ pub record JudgesSlot (begun : Bool) (line after : List ℕ) (old new : Judgemen
 
 pub record JudgesEvent (A : Type 0) (line : List ℕ) (old new : Judgement) : Type 0 where
   pub event : Event A
-  pub said : SaysEvent line event
+  pub said : SaysEvent old.version line event
   pub fits : bytes_len event.what ≤ new.longest
   pub longer : old.longest ≤ new.longest
   pub numbered : 1 ≤ old.longest_line → 1 ≤ new.longest_line

@@ -4,9 +4,9 @@ use Rattle.board.specs.declared.event.Event.{Event}
 use Rattle.board.specs.declared.event.EventKind.{EventKind}
 use Rattle.board.specs.declared.event.EventKind.TheVariants.{Read, Write, MemRead, MemWrite, Input, Resize, Restore}
 use Rattle.board.specs.declared.spec.SlotSpec.{SlotSpec}
-use Rattle.trace.specs.Text.{Content}
+use Rattle.trace.specs.Text.{Content, word_for}
 use Rattle.trace.specs.Version.{IsVersion, identity_in_version_1}
-use Rattle.trace.specs.Words.{IsWidth}
+use Rattle.trace.specs.Words.{IsWidth, IsWordOf}
 
 -- an access to a register that has a spelling: its offset has three digits, and its width is 1, 2 or 4
 pub record IsAccess (offset width : ℕ) : Type 0 where
@@ -18,7 +18,7 @@ pub record IsWriteAccess (offset width value : ℕ) : Type 0 where
   pub access : IsAccess offset width
   pub within : value < 2 ^ (8 * width)
 
--- what has a spelling; a restore has none in these versions
+-- what has a spelling
 abbrev pub IsPrintableKind : {A : Type 0} → EventKind A → Type 0
 IsPrintableKind (Read kind offset width) = IsAccess offset width
 IsPrintableKind (Write kind offset width value) = IsWriteAccess offset width value
@@ -26,17 +26,19 @@ IsPrintableKind (MemRead addr len) = ⊤
 IsPrintableKind (MemWrite addr bs) = ⊤
 IsPrintableKind (Input bs) = ⊤
 IsPrintableKind (Resize cols rows) = ⊤
-IsPrintableKind (Restore bs) = ⊥
+IsPrintableKind (Restore bs) = ⊤
 
 -- a slot that has a line in a version: version 1 leaves its identity out
 abbrev pub IsPrintableSlot : ℕ → SlotSpec → Type 0
 IsPrintableSlot version s = version ≡ 1 → s.identity ≡ identity_in_version_1
 
--- a trace that has a text: there is such a version, and each of its slots and events has a line
+-- a trace that has a text: there is such a version, and each of its slots and events has a line, whose word is of that
+-- version
 pub record IsPrintable {A : Type 0} (t : Content A) : Type 0 where
   pub version : IsVersion t.version
   pub slots : All (IsPrintableSlot t.version) t.slots
   pub events : All (λ e. IsPrintableKind e.what) t.events
+  pub words : All (λ e. IsWordOf t.version (word_for e.what)) t.events
 
 -- What the integers of a trace give by themselves, for a clause that speaks of every trace: in a clause
 -- a number has no upper bound.
@@ -58,7 +60,7 @@ pub record BytesInRange (addr : ℕ) (bs : List ℕ) : Type 0 where
   pub from : addr < 2 ^ 64
   pub each : All (λ b. b < 2 ^ 8) bs
 
-pub record InputInRange (bs : List ℕ) : Type 0 where
+pub record EachInRange (bs : List ℕ) : Type 0 where
   pub each : All (λ b. b < 2 ^ 8) bs
 
 pub record SizeInRange (cols rows : ℕ) : Type 0 where
@@ -70,9 +72,9 @@ KindInRange (Read kind offset width) = ⊤
 KindInRange (Write kind offset width value) = ⊤
 KindInRange (MemRead addr len) = RangeInRange addr len
 KindInRange (MemWrite addr bs) = BytesInRange addr bs
-KindInRange (Input bs) = InputInRange bs
+KindInRange (Input bs) = EachInRange bs
 KindInRange (Resize cols rows) = SizeInRange cols rows
-KindInRange (Restore bs) = ⊤
+KindInRange (Restore bs) = EachInRange bs
 
 pub record EventInRange {A : Type 0} (e : Event A) : Type 0 where
   pub slot : e.slot < 2 ^ 8

@@ -6,7 +6,7 @@ use Rattle.board.specs.declared.event.Event.{Event}
 use Rattle.trace.specs.Printable.{EventInRange, IsPrintableKind, IsPrintableSlot}
 use Rattle.trace.specs.Cuts.{lines_of, fields_of}
 use Rattle.trace.specs.Faults.{AllSay, AreAsMany, IsHeader, MayStand, first_field, other_fields}
-use Rattle.trace.specs.Text.{Content, header, cache_fields, slot_fields, event_fields}
+use Rattle.trace.specs.Text.{Content, header, cache_fields, slot_fields, event_fields, word_for}
 use Rattle.trace.specs.Printable.{SlotInRange}
 use Rattle.trace.specs.Version.{IsVersion}
 use Rattle.board.specs.declared.spec.SlotSpec.{SlotSpec}
@@ -16,7 +16,7 @@ use Rattle.trace.specs.declared.word.Word.{Word}
 use Rattle.trace.specs.declared.word.Word.TheVariants.{Cache, Slot}
 use Rattle.trace.specs.declared.read.said.Said.{Said}
 use Rattle.trace.specs.Said.{IsFineSaid, said_fields}
-use Rattle.trace.specs.Words.{spelled, shapes}
+use Rattle.trace.specs.Words.{IsWordOf, spelled, shapes}
 
 -- an event that its integers admit and that has a line
 pub record IsFine {A : Type 0} (e : Event A) : Type 0 where
@@ -33,17 +33,18 @@ RefusesFields version word fields kind.Bytes =
     AreAsMany version word fields × AllSay kind.Number (shapes version word fields) fields × AllSay kind.Choice (shapes version word fields) fields × (¬ AllSay kind.Bytes (shapes version word fields) fields)
 RefusesFields version word fields _ = ⊥
 
--- a line after the second is refused, where events may have begun before it: it has no word, or is a slot
+-- a line after the second is refused, where events may have begun before it: it has no word of the version, or is a slot
 -- after an event, or its fields are refused
 pub record RefusesAfterWord (version : ℕ) (begun : Bool) (line : List ℕ) (fault : FaultKind) : Type 0 where
   pub word : Word
   pub may : MayStand 3 word
+  pub of_version : IsWordOf version word
   pub first : first_field line ≡ spelled word
   pub ordered : begun ≡ true → word ≡ Slot → ⊥
   pub refused : RefusesFields version word (other_fields line) fault
 
 abbrev pub RefusesLine : ℕ → Bool → List ℕ → FaultKind → Type 0
-RefusesLine version begun line kind.Word = (word : Word) → MayStand 3 word → ¬ (first_field line ≡ spelled word)
+RefusesLine version begun line kind.Word = (word : Word) → MayStand 3 word → IsWordOf version word → ¬ (first_field line ≡ spelled word)
 RefusesLine version begun line kind.Order = (begun ≡ true) × (first_field line ≡ spelled Slot)
 RefusesLine version begun line fault = RefusesAfterWord version begun line fault
 
@@ -61,10 +62,10 @@ pub record IsFineSlot (version : ℕ) (s : SlotSpec) : Type 0 where
   pub fits : SlotInRange s
   pub printable : IsPrintableSlot version s
 
--- what was read has a line, and a slot comes before every event
+-- what was read has a line whose word is of the version, and a slot comes before every event
 abbrev pub IsFineEntry : {A : Type 0} → ℕ → Bool → Entry A → Type 0
 IsFineEntry version begun (entry.Slot s) = IsFineSlot version s × (begun ≡ true → ⊥)
-IsFineEntry version begun (entry.Event s) = IsFineSaid s
+IsFineEntry version begun (entry.Event s) = IsFineSaid s × IsWordOf version (word_for s.event.what)
 
 -- the first line is cut off, or isn't the header
 pub record IsOtherHead (text : List ℕ) : Type 0 where
@@ -128,10 +129,11 @@ pub record SaysSlot (version : ℕ) (begun : Bool) (line : List ℕ) (s : SlotSp
   pub fine : IsFineSlot version s
   pub early : begun ≡ true → ⊥
 
--- the line is that of an event
-pub record SaysEvent {A : Type 0} (line : List ℕ) (e : Event A) : Type 0 where
+-- the line is that of an event, whose word is of the version
+pub record SaysEvent {A : Type 0} (version : ℕ) (line : List ℕ) (e : Event A) : Type 0 where
   pub fields : fields_of line ≡ event_fields e
   pub fine : IsFine e
+  pub of_version : IsWordOf version (word_for e.what)
 
 -- the new trace is the old one with the slot that the line says, or with the event
 pub record AddsSlot {A : Type 0} (old : Content A) (line : List ℕ) (new : Content A) : Type 0 where
@@ -141,7 +143,7 @@ pub record AddsSlot {A : Type 0} (old : Content A) (line : List ℕ) (new : Cont
 
 pub record AddsEvent {A : Type 0} (old : Content A) (line : List ℕ) (new : Content A) : Type 0 where
   pub event : Event A
-  pub said : SaysEvent line event
+  pub said : SaysEvent old.version line event
   pub added : new ≡ with_event old event
 
 abbrev pub AddsLine : {A : Type 0} → Content A → List ℕ → Content A → Type 0
@@ -151,5 +153,6 @@ AddsLine old line new = AddsSlot old line new ⊎ AddsEvent old line new
 pub record AddsSaid {A : Type 0} (said : Said A) (old new : List (Event A)) : Type 0 where
   pub event : Event A
   pub fields : event_fields event ≡ said_fields said
+  pub word : word_for event.what ≡ word_for said.event.what
   pub fine : IsFine event
   pub added : new ≡ old ++ event ∷ []

@@ -3,7 +3,7 @@ use Rattle.std.specs.Prelude.{◌≡◌, ℕ, ◌^◌, ◌<◌, List, [], ◌∷
 use Rattle.board.specs.declared.event.EventKind.{EventKind}
 use Rattle.board.specs.declared.event.EventKind.TheVariants as what
 use Rattle.trace.specs.declared.read.said.Said.{Said}
-use Rattle.trace.specs.declared.word.Word.TheVariants.{MemWrite, Input}
+use Rattle.trace.specs.declared.word.Word.TheVariants.{MemWrite, Input, Restore}
 use Rattle.trace.specs.Printable.{IsPrintableKind, KindInRange}
 use Rattle.hexadecimal.specs.Spelling.{num}
 use Rattle.trace.specs.Text.{line, what_fields}
@@ -13,6 +13,7 @@ use Rattle.trace.specs.Words.{Bytes, Says, spelled}
 abbrev pub what_said : {A : Type 0} → ℕ → EventKind A → List ℕ → List (List ℕ)
 what_said slot (what.MemWrite addr bs) field = spelled MemWrite ∷ num slot ∷ num addr ∷ field ∷ []
 what_said slot (what.Input bs) field = spelled Input ∷ num slot ∷ field ∷ []
+what_said slot (what.Restore bs) field = spelled Restore ∷ num slot ∷ field ∷ []
 what_said slot w field = what_fields slot w
 
 abbrev pub said_fields : {A : Type 0} → Said A → List (List ℕ)
@@ -40,6 +41,7 @@ pub record IsPlain {A : Type 0} (w : EventKind A) (field : List ℕ) : Type 0 wh
 abbrev pub IsFineWhat : {A : Type 0} → EventKind A → List ℕ → Type 0
 IsFineWhat (what.MemWrite addr bs) field = AreSpelledAt addr bs field
 IsFineWhat (what.Input bs) field = AreSpelled bs field
+IsFineWhat (what.Restore bs) field = AreSpelled bs field
 IsFineWhat w field = IsPlain w field
 
 pub record IsFineSaid {A : Type 0} (s : Said A) : Type 0 where

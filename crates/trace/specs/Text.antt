@@ -7,10 +7,11 @@ use Rattle.board.specs.declared.event.EventKind.{EventKind}
 use Rattle.board.specs.declared.event.EventKind.TheVariants as what
 use Rattle.board.specs.declared.spec.SlotSpec.{SlotSpec}
 use Rattle.trace.specs.declared.trace.Trace.{Trace}
-use Rattle.trace.specs.declared.word.Word.TheVariants.{Cache, Slot, Read, Write, MemRead, MemWrite, Input, Resize}
+use Rattle.trace.specs.declared.word.Word.{Word}
+use Rattle.trace.specs.declared.word.Word.TheVariants.{Cache, Slot, Read, Write, MemRead, MemWrite, Input, Resize, Restore}
 use Rattle.hexadecimal.specs.Spelling.{num, fixed, bytes}
 use Rattle.trace.specs.Spelling.{window, width_digit, mode}
-use Rattle.trace.specs.Version.{in_version_2}
+use Rattle.trace.specs.Version.{since_version_2}
 use Rattle.trace.specs.Words.{spelled}
 
 -- a trace without where it lies in memory
@@ -38,7 +39,7 @@ cache_fields sectors = spelled Cache ∷ num sectors ∷ []
 abbrev pub slot_fields : ℕ → SlotSpec → List (List ℕ)
 slot_fields version s =
     spelled Slot ∷ num s.base ∷ num s.len ∷ num s.extent.start ∷ num s.extent.count ∷ mode s.read_only ∷ num s.cols ∷ num s.rows
-    ∷ in_version_2 version (bytes s.identity ∷ [])
+    ∷ since_version_2 version (bytes s.identity ∷ [])
 
 -- a read and a write of a register, a read and a write of memory
 abbrev pub read_fields : ℕ → DeviceKind → ℕ → ℕ → List (List ℕ)
@@ -61,7 +62,21 @@ input_fields slot bs = spelled Input ∷ num slot ∷ bytes bs ∷ []
 abbrev pub resize_fields : ℕ → ℕ → ℕ → List (List ℕ)
 resize_fields slot cols rows = spelled Resize ∷ num slot ∷ num cols ∷ num rows ∷ []
 
--- the fields of what a slot does; a restore has none
+-- a snapshot that a slot takes up
+abbrev pub restore_fields : ℕ → List ℕ → List (List ℕ)
+restore_fields slot bs = spelled Restore ∷ num slot ∷ bytes bs ∷ []
+
+-- the word of what a slot does
+abbrev pub word_for : {A : Type 0} → EventKind A → Word
+word_for (what.Read kind offset width) = Read
+word_for (what.Write kind offset width value) = Write
+word_for (what.MemRead addr len) = MemRead
+word_for (what.MemWrite addr bs) = MemWrite
+word_for (what.Input bs) = Input
+word_for (what.Resize cols rows) = Resize
+word_for (what.Restore bs) = Restore
+
+-- the fields of what a slot does
 abbrev pub what_fields : {A : Type 0} → ℕ → EventKind A → List (List ℕ)
 what_fields slot (what.Read kind offset width) = read_fields slot kind offset width
 what_fields slot (what.Write kind offset width value) = write_fields slot kind offset width value
@@ -69,7 +84,7 @@ what_fields slot (what.MemRead addr len) = mem_read_fields slot addr len
 what_fields slot (what.MemWrite addr bs) = mem_write_fields slot addr bs
 what_fields slot (what.Input bs) = input_fields slot bs
 what_fields slot (what.Resize cols rows) = resize_fields slot cols rows
-what_fields slot (what.Restore bs) = []
+what_fields slot (what.Restore bs) = restore_fields slot bs
 
 abbrev pub event_fields : {A : Type 0} → Event A → List (List ℕ)
 event_fields e = what_fields e.slot e.what
@@ -103,6 +118,6 @@ text t = joined (trace_lines t)
 abbrev pub front_text : ℕ → ℕ → List ℕ
 front_text version cache = ended (header version) ++ ended (cache_line cache)
 
--- the same trace as one of version 2
-abbrev pub as_version_2 : {A : Type 0} → Content A → Content A
-as_version_2 t = record t { version = 2 }
+-- the same trace as one of a version
+abbrev pub as_version : {A : Type 0} → ℕ → Content A → Content A
+as_version version t = record t { version = version }

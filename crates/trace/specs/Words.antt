@@ -1,13 +1,13 @@
 -- The table of a trace's lines: the word that each begins with, and what the fields after it say.
-use Rattle.std.specs.Prelude.{◌≡◌, ℕ, ◌*◌, ◌⊎◌, ⊤, Bool, List, [], ◌∷◌, codes, length, map, slice_index_or}
+use Rattle.std.specs.Prelude.{◌≡◌, ℕ, ◌*◌, ◌≤◌, ◌⊎◌, ⊤, Bool, List, [], ◌∷◌, codes, length, map, slice_index_or}
 use Rattle.mmio_window.specs.declared.device_kind.DeviceKind.{DeviceKind}
 use Rattle.trace.specs.declared.table.Field.{Field}
 use Rattle.trace.specs.declared.table.Field.TheVariants as field
 use Rattle.trace.specs.declared.word.Word.{Word}
-use Rattle.trace.specs.declared.word.Word.TheVariants.{Cache, Slot, Read, Write, MemRead, MemWrite, Input, Resize}
+use Rattle.trace.specs.declared.word.Word.TheVariants.{Cache, Slot, Read, Write, MemRead, MemWrite, Input, Resize, Restore}
 use Rattle.hexadecimal.specs.Fields.{IsBytesField, IsFixed, SpellsBytes, SpellsNumber}
 use Rattle.trace.specs.Spelling.{window, width_digit, mode}
-use Rattle.trace.specs.Version.{in_version_2}
+use Rattle.trace.specs.Version.{since_version_2}
 
 -- how many bytes a register access may have
 abbrev pub IsWidth : ℕ → Type 0
@@ -56,18 +56,28 @@ spelled MemRead = codes "mr"
 spelled MemWrite = codes "mw"
 spelled Input = codes "in"
 spelled Resize = codes "sz"
+spelled Restore = codes "st"
+
+-- the words of a version: a restore has one from version 3 on, and the others are in each
+abbrev pub IsWordOf : ℕ → Word → Type 0
+IsWordOf version Restore = 3 ≤ version
+IsWordOf version _ = ⊤
+
+abbrev pub IsInEach : Word → Type 0
+IsInEach word = (version : ℕ) → IsWordOf version word
 
 -- the fields after each word, in a version
 abbrev pub fields_in : ℕ → Word → List Field
 fields_in version Cache = field.Sectors ∷ []
 fields_in version Slot =
-    field.Base ∷ field.Size ∷ field.Start ∷ field.Count ∷ field.Mode ∷ field.Columns ∷ field.Rows ∷ in_version_2 version (field.Identity ∷ [])
+    field.Base ∷ field.Size ∷ field.Start ∷ field.Count ∷ field.Mode ∷ field.Columns ∷ field.Rows ∷ since_version_2 version (field.Identity ∷ [])
 fields_in version Read = field.Slot ∷ field.Window ∷ field.Offset ∷ field.Width ∷ []
 fields_in version Write = field.Slot ∷ field.Window ∷ field.Offset ∷ field.Width ∷ field.Value ∷ []
 fields_in version MemRead = field.Slot ∷ field.Address ∷ field.Length ∷ []
 fields_in version MemWrite = field.Slot ∷ field.Address ∷ field.Bytes ∷ []
 fields_in version Input = field.Slot ∷ field.Bytes ∷ []
 fields_in version Resize = field.Slot ∷ field.Columns ∷ field.Rows ∷ []
+fields_in version Restore = field.Slot ∷ field.Bytes ∷ []
 
 -- of the fields of a line, the one by which a value is read
 abbrev pub width_among : List (List ℕ) → List ℕ

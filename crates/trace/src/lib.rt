@@ -31,6 +31,6 @@ pub use read::{
 };
 pub use round_trip::read_back;
 pub use table::{Field, fields_after};
-pub use trace::{Trace, to_version_2};
-pub use version::{VERSION_1, VERSION_2, version_of};
+pub use trace::{Trace, to_version};
+pub use version::{VERSION_1, VERSION_2, VERSION_3, version_of};
 pub use word::Word;

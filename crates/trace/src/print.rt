@@ -6,9 +6,9 @@
 ghost use Rattle.std.specs.Prelude.{◌≡◌, ◌*◌, ◌^◌, ◌<◌, ◌↔◌, ◌++◌, ◌∷◌, All, IsTrue, IfOk, OnOk, map};
 ghost use Rattle.trace.specs.Printable.{InRange, IsAccess, IsPrintable, IsPrintableKind, IsPrintableSlot};
 ghost use Rattle.trace.specs.Spelling.{field_text};
-ghost use Rattle.trace.specs.Text.{content, text as text_of, ended, event_fields, event_line, front_text, joined, slot_line};
+ghost use Rattle.trace.specs.Text.{content, text as text_of, ended, event_fields, event_line, front_text, joined, slot_line, word_for};
 ghost use Rattle.trace.specs.Version.{IsVersion};
-ghost use Rattle.trace.specs.Words.{IsWidth, fields_in, spelled};
+ghost use Rattle.trace.specs.Words.{IsWidth, IsWordOf, fields_in, spelled};
 
 mod buffer;
 mod line;
@@ -23,27 +23,28 @@ use crate::print::range::in_range;
 pub use crate::print::records::{print_records, put_line, put_read};
 pub use crate::print::write::write_whole;
 use crate::trace::Trace;
-use crate::version::{VERSION_1, VERSION_2, header_of, identity_in_version_1};
-use crate::word::Word;
+use crate::version::{VERSION_1, VERSION_2, VERSION_3, header_of, identity_in_version_1};
+use crate::word::{Word, is_word_of, word_for};
 use board::{Event, EventKind, SlotSpec};
 use std::alloc::{AllocError, Allocator};
 
-/// Whether the trace has a text: its version is 1 or 2, in version 1 each slot has the identity of that version, the
-/// offset of each register access has three digits, its width is 1, 2 or 4, and a value that is written is within that
-/// width. Each trace that was read has one.
+/// Whether the trace has a text: its version is 1, 2 or 3, in version 1 each slot has the identity of that version, only
+/// version 3 has a restore, the offset of each register access has three digits, its width is 1, 2 or 4, and a value that
+/// is written is within that width. Each trace that was read has one.
 pub fn is_printable<A: Allocator>(trace: &Trace<A>) -> bool
     ensures { IsTrue result ↔ IsPrintable (content trace.now) }
 {
     is_version(trace.version)
         && slots_have_lines(trace.version, &trace.slots)
         && events_have_lines(&trace.events)
+        && events_have_words(trace.version, &trace.events)
 }
 
 // Whether there is such a version.
 fn is_version(version: u8) -> bool
     ensures { IsTrue result ↔ IsVersion version }
 {
-    version == VERSION_1 || version == VERSION_2
+    version == VERSION_1 || version == VERSION_2 || version == VERSION_3
 }
 
 // Whether each slot has a line in a version.
@@ -67,6 +68,20 @@ fn events_have_lines<A: Allocator>(events: &[Event<A>]) -> bool
     events.iter().all(|event| has_line(&event.what))
 }
 
+// Whether the version has the word of each event.
+fn events_have_words<A: Allocator>(version: u8, events: &[Event<A>]) -> bool
+    ensures { IsTrue result ↔ All (λ event. IsWordOf version (word_for event.what)) events.now }
+{
+    events.iter().all(|event| has_word(version, event))
+}
+
+// Whether the version has the word of an event.
+fn has_word<A: Allocator>(version: u8, event: &Event<A>) -> bool
+    ensures { IsTrue result ↔ IsWordOf version (word_for event.now.what) }
+{
+    is_word_of(version, word_for(&event.what))
+}
+
 // Whether what an event does has a line.
 fn has_line<A: Allocator>(what: &EventKind<A>) -> bool
     ensures { IsTrue result ↔ IsPrintableKind what.now }
@@ -82,8 +97,8 @@ fn has_line<A: Allocator>(what: &EventKind<A>) -> bool
         EventKind::MemRead { .. }
         | EventKind::MemWrite { .. }
         | EventKind::Input { .. }
-        | EventKind::Resize { .. } => true,
-        EventKind::Restore { .. } => false,
+        | EventKind::Resize { .. }
+        | EventKind::Restore { .. } => true,
     }
 }
 
@@ -162,7 +177,7 @@ fn push_front<A: Allocator>(out: &mut Vec<u8, A>, version: u8, cache: u32) -> Re
 }
 
 // Appends the line of a slot.
-#[tactic(auto, using(crate::proofs::Versions::map_in_version_2), unfolding(crate::specs::Text::slot_line))]
+#[tactic(auto, using(crate::proofs::Versions::map_since_version_2), unfolding(crate::specs::Text::slot_line))]
 fn push_slot<A: Allocator>(
     out: &mut Vec<u8, A>,
     version: u8,
@@ -184,21 +199,21 @@ fn push_slot<A: Allocator>(
     push_line(out, version, Word::Slot, &fields)
 }
 
-// Appends the line of an event, which is the same in each version.
+// Appends the line of an event, which is the same in each version that has its word.
 #[tactic(auto, unfolding(crate::specs::Text::event_line))]
 fn push_event<A: Allocator>(out: &mut Vec<u8, A>, event: &Event<A>) -> Result<(), AllocError>
     requires { IsPrintableKind event.now.what }
     ensures { OnOk result (out.new.items ≡ out.old.items ++ ended (event_line event.now)) }
 {
     let (word, fields) = event_says(event);
-    push_line(out, VERSION_2, word, &fields)
+    push_line(out, VERSION_3, word, &fields)
 }
 
 // The word of an event, and what the fields after it say.
 #[tactic(auto, using(crate::proofs::Widths::num_width))]
 fn event_says<A: Allocator>(event: &Event<A>) -> (Word, LineFields<'_>)
     requires { IsPrintableKind event.now.what }
-    ensures { spelled result.0 ∷ map (field_text result.1) (fields_in 2 result.0) ≡ event_fields event.now }
+    ensures { spelled result.0 ∷ map (field_text result.1) (fields_in 3 result.0) ≡ event_fields event.now }
 {
     let mut fields = LineFields {
         slot: event.slot,
@@ -239,6 +254,9 @@ fn event_says<A: Allocator>(event: &Event<A>) -> (Word, LineFields<'_>)
             (fields.columns, fields.rows) = (*cols, *rows);
             (Word::Resize, fields)
         }
-        EventKind::Restore { .. } => unreachable!(),
+        EventKind::Restore { bytes } => {
+            fields.bytes = bytes.as_slice();
+            (Word::Restore, fields)
+        }
     }
 }

@@ -133,15 +133,17 @@ fn add_line<A: Allocator + Copy>(
         RefusesLine trace.old.version (has_begun (content trace.old)) line.now fault) }
 {
     let begun = !trace.events.is_empty();
-    let added = match entry_of(alloc, trace.version, line, begun) {
-        Ok(Entry::Slot(slot)) => trace.slots.push(slot).is_ok(),
-        Ok(Entry::Event(said)) => add_event(alloc, &mut trace.events, said).is_ok(),
-        Err(fault) => return Err(fault),
-    };
-    if !added {
-        return Err(FaultKind::NoMemory);
+    match entry_of(alloc, trace.version, line, begun) {
+        Ok(Entry::Slot(slot)) => match trace.slots.push(slot) {
+            Ok(()) => Ok(()),
+            Err(_) => Err(FaultKind::NoMemory),
+        },
+        Ok(Entry::Event(said)) => match add_event(alloc, &mut trace.events, said) {
+            Ok(()) => Ok(()),
+            Err(_) => Err(FaultKind::NoMemory),
+        },
+        Err(fault) => Err(fault),
     }
-    Ok(())
 }
 
 // Adds the event that a line says.

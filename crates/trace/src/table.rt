@@ -3,7 +3,7 @@
 ghost use Rattle.std.specs.Prelude.{◌≡◌};
 ghost use Rattle.trace.specs.Words.{fields_in};
 
-use crate::version::VERSION_2;
+use crate::version::VERSION_1;
 use crate::word::Word;
 
 /// What a field after the first one says.
@@ -41,15 +41,14 @@ pub fn fields_after(version: u8, word: Word) -> &'static [Field]
     use Field::*;
     match word {
         Word::Cache => &[Sectors],
-        Word::Slot if version == VERSION_2 => {
-            &[Base, Size, Start, Count, Mode, Columns, Rows, Identity]
-        }
-        Word::Slot => &[Base, Size, Start, Count, Mode, Columns, Rows],
+        Word::Slot if version == VERSION_1 => &[Base, Size, Start, Count, Mode, Columns, Rows],
+        Word::Slot => &[Base, Size, Start, Count, Mode, Columns, Rows, Identity],
         Word::Read => &[Slot, Window, Offset, Width],
         Word::Write => &[Slot, Window, Offset, Width, Value],
         Word::MemRead => &[Slot, Address, Length],
         Word::MemWrite => &[Slot, Address, Bytes],
         Word::Input => &[Slot, Bytes],
         Word::Resize => &[Slot, Columns, Rows],
+        Word::Restore => &[Slot, Bytes],
     }
 }

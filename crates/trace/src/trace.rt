@@ -1,10 +1,10 @@
 //! What a trace is made of.
 
-ghost use Rattle.std.specs.Prelude.{◌≡◌, []};
-ghost use Rattle.trace.specs.Text.{as_version_2, content};
+ghost use Rattle.std.specs.Prelude.{◌≡◌, ◌≤◌, []};
+ghost use Rattle.trace.specs.Text.{as_version, content};
 ghost use Rattle.trace.specs.Printable.{IsPrintable};
+ghost use Rattle.trace.specs.Version.{IsVersion};
 
-use crate::version::VERSION_2;
 use board::{Event, SlotSpec};
 use std::alloc::{Allocator, Global};
 
@@ -12,7 +12,7 @@ use std::alloc::{Allocator, Global};
 #[derive(Drop)]
 #[derive_where(Debug)]
 pub struct Trace<A: Allocator = Global> {
-    /// The version of its text: 1 or 2.
+    /// The version of its text: 1, 2 or 3.
     pub version: u8,
     /// The capacity of the cache, in sectors.
     pub cache: u32,
@@ -36,13 +36,12 @@ impl<A: Allocator + Copy> Trace<A> {
     }
 }
 
-/// The same trace in version 2, in which each slot's line says the identity that the slot has. This takes no memory.
-pub fn to_version_2<A: Allocator>(trace: Trace<A>) -> Trace<A>
-    ensures same { content result ≡ as_version_2 (content trace) }
-    ensures printable { IsPrintable (content trace) → IsPrintable (content result) }
+/// The same trace in another version. In a later one it has a text where it had one before; from version 2 on each
+/// slot's line says the identity that the slot has. This takes no memory.
+#[tactic(auto, using(crate::proofs::Versions::fits_later))]
+pub fn to_version<A: Allocator>(trace: Trace<A>, version: u8) -> Trace<A>
+    ensures same { content result ≡ as_version version (content trace) }
+    ensures printable { IsVersion version → trace.version ≤ version → IsPrintable (content trace) → IsPrintable (content result) }
 {
-    Trace {
-        version: VERSION_2,
-        ..trace
-    }
+    Trace { version, ..trace }
 }

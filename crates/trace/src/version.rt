@@ -8,8 +8,11 @@ ghost use Rattle.trace.specs.Version.{IsVersion, identity_in_version_1};
 /// The version whose `slot` lines leave the identity out.
 pub const VERSION_1: u8 = 1;
 
-/// The version whose `slot` lines end in the identity.
+/// The first version whose `slot` lines end in the identity.
 pub const VERSION_2: u8 = 2;
+
+/// The version with restores, which has every word.
+pub const VERSION_3: u8 = 3;
 
 /// The identity of each slot of a version 1 trace.
 pub(crate) fn identity_in_version_1() -> [u8; 20]
@@ -27,6 +30,7 @@ pub fn version_of(line: &[u8]) -> Option<u8>
     match line {
         b"vreplay 1" => Some(VERSION_1),
         b"vreplay 2" => Some(VERSION_2),
+        b"vreplay 3" => Some(VERSION_3),
         _ => None,
     }
 }
@@ -38,6 +42,7 @@ pub(crate) fn header_of(version: u8) -> &'static [u8]
 {
     match version {
         VERSION_1 => b"vreplay 1",
-        _ => b"vreplay 2",
+        VERSION_2 => b"vreplay 2",
+        _ => b"vreplay 3",
     }
 }

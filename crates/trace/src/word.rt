@@ -1,8 +1,13 @@
 //! The words that lines begin with.
 
 ghost use Rattle.std.specs.Prelude.{◌≡◌, ◌≢◌, ◌↔◌, IsTrue, IfSome, IfNone};
-ghost use Rattle.trace.specs.Words.{spelled};
+ghost use Rattle.trace.specs.Text.{word_for};
+ghost use Rattle.trace.specs.Words.{IsWordOf, spelled};
 ghost use Rattle.trace.specs.declared.word.Word.{Word};
+
+use crate::version::VERSION_3;
+use board::EventKind;
+use std::alloc::Allocator;
 
 /// The first word of a line after the header. The second line has `Cache`, the later ones the others.
 #[derive(Clone, Copy, Debug, PartialEq, Eq)]
@@ -15,9 +20,10 @@ pub enum Word {
     MemWrite,
     Input,
     Resize,
+    Restore,
 }
 
-/// The word that a field is.
+/// The word that a field is in some version.
 pub(crate) fn word_of(field: &[u8]) -> Option<Word>
     ensures some { IfSome result (λ word. field.now ≡ spelled word) }
     ensures none { IfNone result ((word : Word) → field.now ≢ spelled word) }
@@ -29,9 +35,48 @@ pub(crate) fn word_of(field: &[u8]) -> Option<Word>
         b"mw" => Some(Word::MemWrite),
         b"in" => Some(Word::Input),
         b"sz" => Some(Word::Resize),
+        b"st" => Some(Word::Restore),
         b"slot" => Some(Word::Slot),
         b"cache" => Some(Word::Cache),
         _ => None,
+    }
+}
+
+/// The word of a version that a field is.
+pub(crate) fn word_in(version: u8, field: &[u8]) -> Option<Word>
+    ensures some { IfSome result (λ word. field.now ≡ spelled word) }
+    ensures of_version { IfSome result (IsWordOf version) }
+    ensures none { IfNone result ((word : Word) → IsWordOf version word → field.now ≢ spelled word) }
+{
+    let word = word_of(field)?;
+    if !is_word_of(version, word) {
+        return None;
+    }
+    Some(word)
+}
+
+/// Whether a version has the word.
+pub(crate) fn is_word_of(version: u8, word: Word) -> bool
+    ensures { IsTrue result ↔ IsWordOf version word }
+{
+    match word {
+        Word::Restore => version >= VERSION_3,
+        _ => true,
+    }
+}
+
+/// The word of what an event does.
+pub(crate) fn word_for<A: Allocator>(what: &EventKind<A>) -> Word
+    ensures { result ≡ word_for what.now }
+{
+    match what {
+        EventKind::Read { .. } => Word::Read,
+        EventKind::Write { .. } => Word::Write,
+        EventKind::MemRead { .. } => Word::MemRead,
+        EventKind::MemWrite { .. } => Word::MemWrite,
+        EventKind::Input { .. } => Word::Input,
+        EventKind::Resize { .. } => Word::Resize,
+        EventKind::Restore { .. } => Word::Restore,
     }
 }
 
@@ -46,6 +91,7 @@ pub(crate) fn spelling_of(word: Word) -> &'static [u8]
         Word::MemWrite => b"mw",
         Word::Input => b"in",
         Word::Resize => b"sz",
+        Word::Restore => b"st",
         Word::Slot => b"slot",
         Word::Cache => b"cache",
     }

@@ -76,7 +76,7 @@ impl Subject for Traces {
             "fronts" => self.fronts(answer),
             "slot" => self.slot(words, answer),
             "event" => self.event(words, answer),
-            "version_2" => self.version_2(answer),
+            "version" => self.version(words, answer),
             word => self.call_troubled(word, words, answer),
         }
     }

@@ -68,6 +68,7 @@ fn kind_in_range<A: Allocator>(what: &EventKind<A>)
             bytes_in_range(bytes.as_slice());
         }
         EventKind::Input { bytes } => bytes_in_range(bytes.as_slice()),
+        EventKind::Restore { bytes } => bytes_in_range(bytes.as_slice()),
         EventKind::Resize { cols, rows } => {
             let _cols = *cols;
             let _rows = *rows;

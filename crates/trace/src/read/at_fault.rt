@@ -26,7 +26,7 @@ pub fn field_at_fault(version: u8, line: &[u8], kind: FaultKind) -> Option<(Fiel
     first_at_fault(fields_after(version, word), rest, nth_field(rest, 3), kind)
 }
 
-/// The word that a line begins with.
+/// The word that a line begins with, in some version.
 pub fn first_word(line: &[u8]) -> Option<Word>
     ensures some { IfSome result (λ word. first_field line.now ≡ spelled word) }
     ensures none { IsNone result → (word : Word) → first_field line.now ≢ spelled word }

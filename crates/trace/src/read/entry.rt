@@ -13,7 +13,7 @@ use crate::read::cut::take_field;
 use crate::read::fields::{event_of, slot_of};
 use crate::read::frequent::frequent;
 use crate::read::said::Said;
-use crate::word::{Word, word_of};
+use crate::word::{Word, word_in};
 use board::SlotSpec;
 use std::alloc::Allocator;
 
@@ -55,7 +55,7 @@ pub(crate) fn by_fields<A: Allocator>(
     ensures err { IfErr result (λ fault. RefusesLine version begun line.now fault) }
 {
     let (first, rest) = take_field(line);
-    let Some(word) = word_of(first) else {
+    let Some(word) = word_in(version, first) else {
         return Err(FaultKind::Word);
     };
     match word {

@@ -11,7 +11,7 @@ use crate::read::cut::take_line;
 use crate::read::entry::{Entry, by_fields};
 use crate::read::frequent::frequent;
 use crate::read::said::Said;
-use crate::version::VERSION_2;
+use crate::version::VERSION_3;
 use std::alloc::Allocator;
 
 /// The event of the first line, and what follows that.
@@ -27,14 +27,14 @@ pub fn take_event<A: Allocator + Copy>(alloc: A, rest: &[u8]) -> (Said<'_, A>, &
 
 // The event that a line says.
 fn event_of<A: Allocator + Copy>(alloc: A, line: &[u8]) -> Said<'_, A>
-    requires { (fault : FaultKind) → ¬ RefusesLine 2 true line.now fault }
+    requires { (fault : FaultKind) → ¬ RefusesLine 3 true line.now fault }
     ensures fields { fields_of line.now ≡ said_fields result }
     ensures fine { IsFineSaid result }
 {
     if let Some(said) = frequent(alloc, line) {
         return said;
     }
-    match by_fields(alloc, VERSION_2, line, true) {
+    match by_fields(alloc, VERSION_3, line, true) {
         Ok(Entry::Event(said)) => said,
         _ => unreachable!(),
     }

@@ -9,9 +9,9 @@ ghost use Rattle.trace.specs.Refusals.{IsFineSlot};
 ghost use Rattle.trace.specs.Said.{IsFineSaid, said_fields};
 ghost use Rattle.hexadecimal.specs.Spelling.{bytes as bytes_field};
 ghost use Rattle.trace.specs.Spelling.{value_text};
-ghost use Rattle.trace.specs.Text.{cache_fields, slot_fields};
+ghost use Rattle.trace.specs.Text.{cache_fields, slot_fields, word_for};
 ghost use Rattle.trace.specs.Values.{AreOf};
-ghost use Rattle.trace.specs.Version.{IsVersion, identity_in_version_1, in_version_2};
+ghost use Rattle.trace.specs.Version.{IsVersion, identity_in_version_1, since_version_2};
 ghost use Rattle.trace.specs.Words.{AreRight, Identity as ByIdentity, shapes, spelled};
 
 use crate::read::said::Said;
@@ -19,7 +19,7 @@ use crate::read::values::values_of;
 use crate::value::FieldValue::{
     self, Identity, Mode, Number, Offset, Spelled, Value, Width, Window,
 };
-use crate::version::{VERSION_1, VERSION_2, identity_in_version_1};
+use crate::version::{VERSION_1, VERSION_3, identity_in_version_1};
 use crate::word::Word;
 use board::{EventKind, Extent, SlotSpec};
 use std::alloc::Allocator;
@@ -36,7 +36,7 @@ pub(crate) fn sectors_of(rest: Option<&[u8]>) -> Option<u32>
     Some(sectors as u32)
 }
 
-/// The event that the fields after a word say. They are the same in each version.
+/// The event that the fields after a word say. They are the same in each version that has it.
 pub(crate) fn event_of<A: Allocator>(
     alloc: A,
     word: Word,
@@ -45,10 +45,11 @@ pub(crate) fn event_of<A: Allocator>(
     requires not_cache { word ≢ Word.Cache }
     requires not_slot { word ≢ Word.Slot }
     ensures fields { IfSome result (λ e. said_fields e ≡ spelled word ∷ fields_left (option_copied rest.entry)) }
+    ensures word { IfSome result (λ e. word_for e.event.what ≡ word) }
     ensures fine { IfSome result IsFineSaid }
     ensures none { IfNone result ((version : ℕ) → ¬ AreRight version word (fields_left (option_copied rest.entry))) }
 {
-    let values = values_of(VERSION_2, word, rest)?;
+    let values = values_of(VERSION_3, word, rest)?;
     Some(said_of(alloc, word, &values))
 }
 
@@ -56,8 +57,9 @@ pub(crate) fn event_of<A: Allocator>(
 fn said_of<'a, A: Allocator>(alloc: A, word: Word, values: &[FieldValue<'a>]) -> Said<'a, A>
     requires not_cache { word ≢ Word.Cache }
     requires not_slot { word ≢ Word.Slot }
-    requires values { AreOf (shapes 2 word (map value_text values.now)) values.now }
+    requires values { AreOf (shapes 3 word (map value_text values.now)) values.now }
     ensures fields { said_fields result ≡ spelled word ∷ map value_text values.now }
+    ensures word { word_for result.event.what ≡ word }
     ensures fine { IsFineSaid result }
 {
     match word {
@@ -89,6 +91,12 @@ fn said_of<'a, A: Allocator>(alloc: A, word: Word, values: &[FieldValue<'a>]) ->
             let (cols, rows) = (cols as u16, rows as u16);
             Said::plain(slot as u8, EventKind::Resize { cols, rows })
         }
+        Word::Restore => {
+            let &[Number(slot), Spelled(bytes)] = values else {
+                unreachable!()
+            };
+            Said::restore(alloc, slot as u8, bytes)
+        }
         Word::Cache | Word::Slot => unreachable!(),
     }
 }
@@ -96,8 +104,9 @@ fn said_of<'a, A: Allocator>(alloc: A, word: Word, values: &[FieldValue<'a>]) ->
 // What those of a read of a register say.
 #[tactic(auto, using(crate::proofs::Widths::num_width))]
 fn read_of<'a, A: Allocator>(values: &[FieldValue<'a>]) -> Said<'a, A>
-    requires { AreOf (shapes 2 Word.Read (map value_text values.now)) values.now }
+    requires { AreOf (shapes 3 Word.Read (map value_text values.now)) values.now }
     ensures fields { said_fields result ≡ spelled Word.Read ∷ map value_text values.now }
+    ensures word { word_for result.event.what ≡ Word.Read }
     ensures fine { IsFineSaid result }
 {
     let &[Number(slot), Window(window), Offset(offset), Width(width)] = values else {
@@ -113,8 +122,9 @@ fn read_of<'a, A: Allocator>(values: &[FieldValue<'a>]) -> Said<'a, A>
 
 // What those of a write say, whose value is read by the width before it.
 fn write_of<'a, A: Allocator>(values: &[FieldValue<'a>]) -> Said<'a, A>
-    requires { AreOf (shapes 2 Word.Write (map value_text values.now)) values.now }
+    requires { AreOf (shapes 3 Word.Write (map value_text values.now)) values.now }
     ensures fields { said_fields result ≡ spelled Word.Write ∷ map value_text values.now }
+    ensures word { word_for result.event.what ≡ Word.Write }
     ensures fine { IsFineSaid result }
 {
     let &[
@@ -170,11 +180,11 @@ pub(crate) fn slot_of(version: u8, rest: Option<&[u8]>) -> Option<SlotSpec>
     })
 }
 
-// The identity that is a slot's last value in version 2, and that of each slot in version 1.
+// The identity that is a slot's last value from version 2 on, and that of each slot in version 1.
 fn last_identity(version: u8, last: &[FieldValue<'_>]) -> [u8; 20]
     requires version { IsVersion version }
-    requires values { AreOf (in_version_2 version (ByIdentity ∷ [])) last.now }
-    ensures last { in_version_2 version (bytes_field result ∷ []) ≡ map value_text last.now }
+    requires values { AreOf (since_version_2 version (ByIdentity ∷ [])) last.now }
+    ensures last { since_version_2 version (bytes_field result ∷ []) ≡ map value_text last.now }
     ensures range { All (λ b. b < 2 ^ 8) result }
     ensures twenty { length result ≡ 20 }
     ensures left_out { version ≡ 1 → result ≡ identity_in_version_1 }

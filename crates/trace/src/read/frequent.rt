@@ -7,7 +7,8 @@ ghost use Rattle.std.specs.Prelude.{◌≡◌, ◌++◌, ◌∷◌, ◌^◌, ◌
 ghost use Rattle.trace.specs.Said.{IsFineSaid, said_line};
 ghost use Rattle.hexadecimal.specs.Spelling.{fixed, num};
 ghost use Rattle.trace.specs.Spelling.{width_digit, window};
-ghost use Rattle.trace.specs.Words.{IsWidth, spelled};
+ghost use Rattle.trace.specs.Text.{word_for};
+ghost use Rattle.trace.specs.Words.{IsInEach, IsWidth, spelled};
 
 use crate::read::choice::{width_of, window_of};
 use crate::read::number::take_number;
@@ -22,6 +23,7 @@ use std::alloc::Allocator;
 pub(crate) fn frequent<A: Allocator>(alloc: A, line: &[u8]) -> Option<Said<'_, A>>
     ensures line { IfSome result (λ e. line.now ≡ said_line e) }
     ensures fine { IfSome result IsFineSaid }
+    ensures each { IfSome result (λ e. IsInEach (word_for e.event.what)) }
 {
     match line {
         [b'r', b' ', rest @ ..] => read_in(rest),
@@ -37,6 +39,7 @@ pub(crate) fn frequent<A: Allocator>(alloc: A, line: &[u8]) -> Option<Said<'_, A
 fn read_in<A: Allocator>(rest: &[u8]) -> Option<Said<'_, A>>
     ensures line { IfSome result (λ e. spelled Word.Read ++ 32 ∷ rest.now ≡ said_line e) }
     ensures fine { IfSome result IsFineSaid }
+    ensures each { IfSome result (λ e. IsInEach (word_for e.event.what)) }
 {
     let (slot, window, offset, width, rest) = access(rest)?;
     if !rest.is_empty() {
@@ -54,6 +57,7 @@ fn read_in<A: Allocator>(rest: &[u8]) -> Option<Said<'_, A>>
 fn write_in<A: Allocator>(rest: &[u8]) -> Option<Said<'_, A>>
     ensures line { IfSome result (λ e. spelled Word.Write ++ 32 ∷ rest.now ≡ said_line e) }
     ensures fine { IfSome result IsFineSaid }
+    ensures each { IfSome result (λ e. IsInEach (word_for e.event.what)) }
 {
     let (slot, window, offset, width, rest) = access(rest)?;
     let [b' ', value @ ..] = rest else {
@@ -73,6 +77,7 @@ fn write_in<A: Allocator>(rest: &[u8]) -> Option<Said<'_, A>>
 fn mem_read_in<A: Allocator>(rest: &[u8]) -> Option<Said<'_, A>>
     ensures line { IfSome result (λ e. spelled Word.MemRead ++ 32 ∷ rest.now ≡ said_line e) }
     ensures fine { IfSome result IsFineSaid }
+    ensures each { IfSome result (λ e. IsInEach (word_for e.event.what)) }
 {
     let (slot, addr, len) = place(rest)?;
     let len = number_u32(len)?;
@@ -83,6 +88,7 @@ fn mem_read_in<A: Allocator>(rest: &[u8]) -> Option<Said<'_, A>>
 fn mem_write_in<A: Allocator>(alloc: A, rest: &[u8]) -> Option<Said<'_, A>>
     ensures line { IfSome result (λ e. spelled Word.MemWrite ++ 32 ∷ rest.now ≡ said_line e) }
     ensures fine { IfSome result IsFineSaid }
+    ensures each { IfSome result (λ e. IsInEach (word_for e.event.what)) }
 {
     let (slot, addr, bytes) = place(rest)?;
     if !are_bytes(bytes) {

@@ -7,7 +7,7 @@ ghost use Rattle.board.specs.declared.event.EventKind.{EventKind};
 ghost use Rattle.trace.specs.Judging.{said_len};
 ghost use Rattle.trace.specs.Refusals.{IsFine};
 ghost use Rattle.trace.specs.Said.{IsFineSaid, said_fields};
-ghost use Rattle.trace.specs.Text.{event_fields};
+ghost use Rattle.trace.specs.Text.{event_fields, word_for};
 ghost use Rattle.hexadecimal.specs.Fields.{IsBytesField};
 ghost use Rattle.trace.specs.Words.{Says, Bytes as ByBytes};
 
@@ -65,6 +65,20 @@ impl<'a, A: Allocator> Said<'a, A> {
         }
     }
 
+    /// A restore from the snapshot that a field spells.
+    pub(crate) fn restore(alloc: A, slot: u8, bytes: &'a [u8]) -> Said<'a, A>
+        ensures event { result.event ≡ record { slot = slot; what = EventKind.Restore [] } }
+        ensures bytes { result.bytes.now ≡ bytes.now }
+    {
+        let what = EventKind::Restore {
+            bytes: Bytes::new(alloc),
+        };
+        Said {
+            event: Event { slot, what },
+            bytes,
+        }
+    }
+
     /// How many bytes it spells.
     pub fn spelled_len(&self) -> usize
         ensures { result ≡ said_len self.now }
@@ -76,6 +90,7 @@ impl<'a, A: Allocator> Said<'a, A> {
     pub fn into_event(self, alloc: A) -> Result<Event<A>, AllocError>
         requires { IsFineSaid self }
         ensures fields { IfOk result (λ e. event_fields e ≡ said_fields self.entry) }
+        ensures word { IfOk result (λ e. word_for e.what ≡ word_for self.entry.event.what) }
         ensures fine { IfOk result IsFine }
     {
         let slot = self.event.slot;
@@ -88,6 +103,11 @@ impl<'a, A: Allocator> Said<'a, A> {
             EventKind::Input { .. } => {
                 let bytes = owned(alloc, self.bytes)?;
                 let what = EventKind::Input { bytes };
+                Ok(Event { slot, what })
+            }
+            EventKind::Restore { .. } => {
+                let bytes = owned(alloc, self.bytes)?;
+                let what = EventKind::Restore { bytes };
                 Ok(Event { slot, what })
             }
             what => Ok(Event { slot, what }),

@@ -8,7 +8,7 @@ use crate::words::Words;
 use refusing::RefusingHeap;
 use std::alloc::{Allocator, Global};
 use std::str;
-use trace::{FaultKind, Trace, TraceFault, is_printable, print_trace, read_trace, to_version_2};
+use trace::{FaultKind, Trace, TraceFault, is_printable, print_trace, read_trace, to_version};
 
 impl Traces {
     // Another line in place of the nth.
@@ -87,9 +87,14 @@ impl Traces {
         }
     }
 
-    /// The text of the same trace in version 2 takes the text's place.
-    pub(super) fn version_2(&mut self, answer: &mut String) -> Result<(), Stuck> {
-        let trace = to_version_2(self.trace()?);
+    /// The text of the same trace in a version takes the text's place.
+    pub(super) fn version(
+        &mut self,
+        words: &mut Words<'_>,
+        answer: &mut String,
+    ) -> Result<(), Stuck> {
+        let version = words.u8();
+        let trace = to_version(self.trace()?, version);
         self.text = printed(self.alloc, &trace)?.ok_or(Stuck::Conditions)?;
         put_word(answer, "ok")
     }
