@@ -56,16 +56,24 @@ pub struct Budget {
 }
 
 impl Pending {
-    // What a call that answered this number told; a service that pauses is no error.
-    pub(crate) fn told(number: u32, told: ffi::Pending) -> Result<Pending, Error> {
+    // What a call told that doesn't pause.
+    pub(crate) fn of(told: ffi::Pending) -> Pending {
         let interrupts = Interrupts {
             block: told.block,
             console: told.console,
         };
-        let pending = Pending {
+        Pending {
             interrupts,
             output: told.output,
+            more: false,
+        }
+    }
+
+    // What a call that answered this number told; a service that pauses is no error.
+    pub(crate) fn told(number: u32, told: ffi::Pending) -> Result<Pending, Error> {
+        let pending = Pending {
             more: number == MORE,
+            ..Pending::of(told)
         };
         match number {
             MORE => Ok(pending),
@@ -157,7 +165,7 @@ impl Board {
         Ok(())
     }
 
-    // The handle, for the calls of a board whose disks the host serves.
+    // The handle, for the calls of other modules.
     pub(crate) fn handle(&mut self) -> &mut ffi::Handle {
         &mut self.handle
     }

@@ -17,10 +17,30 @@ pub enum Error {
     /// before it is served: this then waits for the slot.
     NoRoom(Pending),
     /// A service of the slot is paused; see [`Board::go_on`](crate::Board::go_on). Or the write waits for the slot's disk,
-    /// which the host serves; see [`HostedBoard::write`](crate::HostedBoard::write).
+    /// which the host serves; see [`HostedBoard::write`](crate::HostedBoard::write). So do a save and a restore.
     Busy,
     /// Nothing of the slot is in flight; see [`HostedBoard::complete`](crate::HostedBoard::complete).
     Idle,
+    /// The snapshot doesn't fit into the buffer; see [`Board::save_into`](crate::Board::save_into).
+    ShortBuffer,
+    /// A number that this crate doesn't know, of a newer library.
+    Other(u32),
+}
+
+/// Why a slot takes up no snapshot. Nothing changed.
+#[derive(Clone, Copy, Debug, PartialEq, Eq, Hash)]
+#[non_exhaustive]
+pub enum RestoreError {
+    /// The board has no such slot.
+    BadSlot,
+    /// A service of the slot is paused, or something of it is in flight.
+    Busy,
+    /// The bytes are no snapshot.
+    BadSnapshot,
+    /// The snapshot is of a slot with another memory, another disk or other devices.
+    OtherSlot,
+    /// The snapshot has a state that no driver can bring a window into.
+    BadState,
     /// A number that this crate doesn't know, of a newer library.
     Other(u32),
 }
@@ -66,7 +86,23 @@ impl Error {
             4 => Err(Error::BadRange),
             19 => Err(Error::Busy),
             21 => Err(Error::Idle),
+            26 => Err(Error::ShortBuffer),
             number => Err(Error::Other(number)),
+        }
+    }
+}
+
+impl RestoreError {
+    /// What the number of restore's answer says.
+    pub(crate) fn check(number: u32) -> Result<(), RestoreError> {
+        match number {
+            0 => Ok(()),
+            3 => Err(RestoreError::BadSlot),
+            19 => Err(RestoreError::Busy),
+            23 => Err(RestoreError::BadSnapshot),
+            24 => Err(RestoreError::OtherSlot),
+            25 => Err(RestoreError::BadState),
+            number => Err(RestoreError::Other(number)),
         }
     }
 }
@@ -139,8 +175,23 @@ impl fmt::Display for Error {
             }
             Error::Busy => f.write_str("a service of the slot is paused, or its disk is at work"),
             Error::Idle => f.write_str("nothing of the slot is in flight"),
+            Error::ShortBuffer => f.write_str("the buffer is shorter than the snapshot"),
             Error::Other(number) => write!(f, "the library answered {number}"),
         }
+    }
+}
+
+impl fmt::Display for RestoreError {
+    fn fmt(&self, f: &mut fmt::Formatter<'_>) -> fmt::Result {
+        use RestoreError::*;
+        f.write_str(match self {
+            BadSlot => "the board has no such slot",
+            Busy => "a service of the slot is paused, or its disk is at work",
+            BadSnapshot => "the bytes are no snapshot",
+            OtherSlot => "the slot has another memory, another disk or other devices",
+            BadState => "the snapshot has a state that no driver can bring a window into",
+            Other(number) => return write!(f, "the library answered {number}"),
+        })
     }
 }
 
@@ -171,4 +222,5 @@ impl fmt::Display for CreateError {
 }
 
 impl error::Error for Error {}
+impl error::Error for RestoreError {}
 impl error::Error for CreateError {}

@@ -150,6 +150,21 @@ unsafe extern "C" {
         console: *mut u8,
     ) -> u32;
     pub fn kalyubos_disturbed(board: *mut Handle, slot: u8, disturbed: *mut bool) -> u32;
+    pub fn kalyubos_saved_len(board: *mut Handle, slot: u8, len: *mut usize) -> u32;
+    pub fn kalyubos_save(
+        board: *mut Handle,
+        slot: u8,
+        into: *mut u8,
+        into_len: usize,
+        written: *mut usize,
+    ) -> u32;
+    pub fn kalyubos_restore(
+        board: *mut Handle,
+        slot: u8,
+        from: *const u8,
+        from_len: usize,
+        pending: *mut Pending,
+    ) -> u32;
     pub fn kalyubos_image_len(board: *mut Handle, len: *mut usize) -> u32;
     pub fn kalyubos_read_image(
         board: *mut Handle,

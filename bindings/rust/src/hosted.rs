@@ -1,7 +1,7 @@
 //! A board whose disks the host serves, and its calls.
 
 use crate::board::{Board, Interrupts, Pending, Window};
-use crate::error::{CreateError, Error};
+use crate::error::{CreateError, Error, RestoreError};
 use crate::ffi;
 use crate::operation::{Operation, Outcome, Run};
 use crate::slot::Slot;
@@ -161,6 +161,39 @@ impl HostedBoard {
     /// Moves out what a console put out, as [`Board::take_output`].
     pub fn take_output(&mut self, slot: u8, into: &mut [u8]) -> Result<usize, Error> {
         self.board.take_output(slot, into)
+    }
+
+    /// How many bytes a slot's snapshot has, as [`Board::saved_len`].
+    pub fn saved_len(&mut self, slot: u8) -> Result<usize, Error> {
+        self.board.saved_len(slot)
+    }
+
+    /// A slot's snapshot, as [`Board::save`].
+    ///
+    /// ```
+    /// use kalyubos::{Board, HostedBoard, Slot};
+    ///
+    /// let mut hosted = HostedBoard::new(&[Slot::new(0x8000_0000, 0x1_0000, 0..8)])?;
+    /// let devices = hosted.save(0)?;
+    ///
+    /// // A slot of the other kind takes it, where its disk has as many sectors.
+    /// let mut board = Board::new(&[Slot::new(0x8000_0000, 0x1_0000, 1..9)], &[0; 9 * 512], 1)?;
+    /// board.restore(0, &devices)?;
+    /// assert_eq!(board.save(0)?, devices);
+    /// # Ok::<(), Box<dyn std::error::Error>>(())
+    /// ```
+    pub fn save(&mut self, slot: u8) -> Result<Vec<u8>, Error> {
+        self.board.save(slot)
+    }
+
+    /// Writes a slot's snapshot to the front of a buffer, as [`Board::save_into`].
+    pub fn save_into(&mut self, slot: u8, into: &mut [u8]) -> Result<usize, Error> {
+        self.board.save_into(slot, into)
+    }
+
+    /// Puts a slot's devices into the state of a snapshot, as [`Board::restore`].
+    pub fn restore(&mut self, slot: u8, from: &[u8]) -> Result<Pending, RestoreError> {
+        self.board.restore(slot, from)
     }
 
     /// Both interrupt words of a slot.

@@ -7,10 +7,11 @@ mod ffi;
 mod hosted;
 mod identity;
 mod operation;
+mod saved;
 mod slot;
 
 pub use board::{Board, Budget, Interrupts, Pending, Window};
-pub use error::{CreateError, Error};
+pub use error::{CreateError, Error, RestoreError};
 pub use hosted::{HostedBoard, Served};
 pub use identity::{Identity, IdentityTooLong};
 pub use operation::{Kind, Operation, Outcome, Run};

@@ -1,0 +1,76 @@
+//! A guest's devices as bytes, and back.
+
+use crate::board::{Board, Pending};
+use crate::error::{Error, RestoreError};
+use crate::ffi;
+
+impl Board {
+    /// How many bytes a slot's snapshot has, until the next call for the slot. [`Error::Busy`]: a service of the slot is
+    /// paused, or something of it is in flight.
+    pub fn saved_len(&mut self, slot: u8) -> Result<usize, Error> {
+        let mut len = 0;
+        Error::check(unsafe { ffi::kalyubos_saved_len(self.handle(), slot, &mut len) })?;
+        Ok(len)
+    }
+
+    /// A slot's snapshot: what its two devices keep, the pending input, and the description of the slot.
+    ///
+    /// It has neither memory nor disk, nor the output that waits. Before it the host stops the guest's CPUs, brings a paused
+    /// service to its end, completes what is in flight, and takes the output. Then, with no call for the slot between, it
+    /// saves the devices, and copies the memory and the disk. [`Error::Busy`] as [`saved_len`](Board::saved_len).
+    ///
+    /// ```
+    /// use kalyubos::{Board, RestoreError, Slot};
+    ///
+    /// let slot = Slot::new(0x8000_0000, 0x1_0000, 0..2);
+    /// let mut first = Board::new(&[slot.clone()], &[0; 1024], 1)?;
+    /// first.input(0, b"ls")?;
+    /// let devices = first.save(0)?;
+    /// let (memory, disk) = (first.memory(0)?.to_vec(), first.image()?);
+    /// drop(first);
+    ///
+    /// let mut second = Board::new(&[slot], &disk, 8)?;
+    /// second.memory(0)?.copy_from_slice(&memory);
+    /// let pending = second.restore(0, &devices)?;
+    /// assert_eq!(pending.interrupts.console, 0);
+    ///
+    /// // Another slot's snapshot is refused.
+    /// let mut other = Board::new(&[Slot::new(0, 0x1000, 0..1)], &disk, 8)?;
+    /// assert_eq!(other.restore(0, &devices), Err(RestoreError::OtherSlot));
+    /// # Ok::<(), Box<dyn std::error::Error>>(())
+    /// ```
+    pub fn save(&mut self, slot: u8) -> Result<Vec<u8>, Error> {
+        let mut bytes = vec![0; self.saved_len(slot)?];
+        self.save_into(slot, &mut bytes)?;
+        Ok(bytes)
+    }
+
+    /// Writes a slot's [snapshot](Board::save) to the front of a buffer, and tells how many bytes it has; those behind them
+    /// stay. [`Error::ShortBuffer`]: it doesn't fit, and nothing is written.
+    pub fn save_into(&mut self, slot: u8, into: &mut [u8]) -> Result<usize, Error> {
+        let mut written = 0;
+        Error::check(unsafe {
+            ffi::kalyubos_save(
+                self.handle(),
+                slot,
+                into.as_mut_ptr(),
+                into.len(),
+                &mut written,
+            )
+        })?;
+        Ok(written)
+    }
+
+    /// Puts a slot's devices into the state of a [snapshot](Board::save) of a slot of the same description, of any board of
+    /// either kind, and tells what then waits. Memory and disk stay.
+    ///
+    /// Before it the host puts back the guest's memory and its disk. Behind it the host moves both lines by what is told,
+    /// makes a write again that was [`Error::NoRoom`], and starts the guest's CPUs.
+    pub fn restore(&mut self, slot: u8, from: &[u8]) -> Result<Pending, RestoreError> {
+        let mut told = ffi::Pending::default();
+        RestoreError::check(unsafe {
+            ffi::kalyubos_restore(self.handle(), slot, from.as_ptr(), from.len(), &mut told)
+        })?;
+        Ok(Pending::of(told))
+    }
+}
