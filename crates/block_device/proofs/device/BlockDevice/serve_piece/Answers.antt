@@ -17,5 +17,5 @@ returns-clause-sound g c =
     (serving_keeps_sound c.args.mem.now c.serve_queue-service.new.mem c.args.window.now 0 c.in-Some.queue.now c.serve_queue-service.new.queue
     c.requires.sound c.serve_queue-service.ensures.range (sym c.in-Some.ensures.value) c.serve_queue-service.ensures.made)
 
-pub returns-in_default-clause-touches : goal.returns-in_none-clause-touches
+pub returns-in_default-clause-touches : goal.returns-in_default-clause-touches
 returns-in_default-clause-touches g c = untouched c.args.self.now.extent
