@@ -132,9 +132,7 @@ impl<'h, B: Allocator> Guests<'h, B> {
             return put_word(answer, "none");
         };
         write!(answer, "{block:x} {console:x} ")?;
-        let mut bytes = first.to_vec(self.alloc)?;
-        bytes.extend_from_slice(second)?;
-        put_bytes(self.alloc, answer, &bytes)?;
+        put_waiting(self.alloc, answer, first, second)?;
         put_word(
             answer,
             if session.is_paused(slot) {
@@ -154,6 +152,18 @@ impl<'h, B: Allocator> Guests<'h, B> {
         let same = self.left.as_slice() == self.image.as_slice();
         put_word(answer, if same { "ok" } else { "another image" })
     }
+}
+
+// What waits of a slot's output, in two parts.
+fn put_waiting(
+    alloc: Global,
+    answer: &mut String,
+    first: &[u8],
+    second: &[u8],
+) -> Result<(), Stuck> {
+    let mut bytes = first.to_vec(alloc)?;
+    bytes.extend_from_slice(second)?;
+    put_bytes(alloc, answer, &bytes)
 }
 
 // What these calls promise isn't needed here, and is dear to prove of this heap.
@@ -222,19 +232,27 @@ fn put_value(answer: &mut String, value: Result<u32, Refusal>) -> Result<(), Stu
 // `ok`, or `more` where the service is paused, or the refusal.
 fn put_progress(answer: &mut String, progress: Result<Progress, Refusal>) -> Result<(), Stuck> {
     match progress {
-        Ok(Progress::More) => put_word(answer, "more"),
-        Ok(Progress::Done) => put_word(answer, "ok"),
+        Ok(progress) => put_word(answer, told(progress)),
         Err(why) => put_result(answer, Err(why)),
+    }
+}
+
+fn told(progress: Progress) -> &'static str {
+    match progress {
+        Progress::More => "more",
+        Progress::Done => "ok",
     }
 }
 
 // How many bytes were taken, and whether the service is paused.
 fn put_typed(answer: &mut String, typed: Result<Typed, Refusal>) -> Result<(), Stuck> {
-    if let Ok(typed) = typed {
-        let taken = typed.taken;
-        write!(answer, "{taken:x} ")?;
+    match typed {
+        Ok(Typed { taken, progress }) => {
+            let told = told(progress);
+            written(write!(answer, "{taken:x} {told}"))
+        }
+        Err(why) => put_result(answer, Err(why)),
     }
-    put_progress(answer, typed.map(|typed| typed.progress))
 }
 
 // The bytes that were read, or the refusal, behind which each is a dot still.

@@ -148,10 +148,16 @@ fn printed<A: Allocator>(alloc: A, trace: &Trace<A>) -> Result<Option<Vec<u8, A>
 // A text's fault; and where it is a trace, whether that has this text.
 fn verdict(alloc: Global, text: &[u8]) -> Result<String, Stuck> {
     match read_trace(alloc, text) {
-        Ok(trace) => match printed(alloc, &trace)? {
-            Some(found) if found.as_slice() == text => Ok(String::from_str(alloc, "ok")?),
-            _ => Ok(String::from_str(alloc, "another text")?),
-        },
+        Ok(trace) => beside_text(alloc, &trace, text),
         Err(TraceFault { line, kind }) => Ok(format!(in alloc; "{line} {kind:?}")?),
     }
+}
+
+// Whether a trace has this text.
+fn beside_text(alloc: Global, trace: &Trace, text: &[u8]) -> Result<String, Stuck> {
+    let told = match printed(alloc, trace)? {
+        Some(found) if found.as_slice() == text => "ok",
+        _ => "another text",
+    };
+    Ok(String::from_str(alloc, told)?)
 }
