@@ -1,17 +1,19 @@
 -- What comes of a text that is a trace's, once there is a board for it.
-use Rattle.std.proofs.Common.{◌≡◌, ◌∙◌, ℕ, ◌<◌, List, Option, Some, Result, Ok, Err, length, map, ap, subst, sym}
+use Rattle.std.proofs.Common.{◌≡◌, ◌∙◌, ℕ, ◌<◌, List, Option, Some, Result, Ok, Err, length, map, ap, subst, sym, inl, inr}
+use Rattle.std.proofs.KnownBytes.{Keeps-refl}
 use Rattle.std.specs.Prelude.{All}
 use Rattle.sector_cache.specs.Disk.{Disk}
 use Rattle.board.specs.declared.event.Event.{Event}
+use Rattle.board.specs.declared.fault.BoardFault.{BoardFault}
 use Rattle.board.specs.declared.spec.SlotSpec.{SlotSpec}
-use Rattle.board.specs.Fault.{IsAccepted}
+use Rattle.board.specs.Fault.{IsAccepted, Refuses}
 use Rattle.board.specs.Slot.{opened}
 use Rattle.board.specs.World.{BoardState}
 use Rattle.trace.specs.Judging.{AreLinesOf, IsJudged, Judgement}
 use Rattle.replay.specs.declared.fault.ReplayFault.{ReplayFault}
 use Rattle.replay.specs.declared.fault.ReplayFault.TheVariants.{Read, Trace, Board, Run, Write, NoMemory}
-use Rattle.replay.specs.Limits.{IsSmallMemory}
-use Rattle.replay.specs.Replay.{AfterRun, HasTooMany, Plays, Replays, front}
+use Rattle.replay.specs.Limits.{IsSmallMemory, asked_of_board}
+use Rattle.replay.specs.Replay.{AfterRun, HasTooMany, Plays, RefusesBoard, RefusesBoardOf, Replays, front}
 
 replays : {A I : Type 0} (disk : I → Disk) (input old new : Option (List ℕ)) (before after : I) (outcome : Result (Unit {0}) ReplayFault) → Plays A disk input old new before after outcome → Replays A disk input old new before after outcome
 replays disk input old new before after (Ok done) plays = plays
@@ -43,3 +45,27 @@ played {A} {I} disk text old new before after outcome j slots board is same made
           (subst (λ (n : ℕ). IsAccepted (disk before).sector_count slots n) (sym is.cache) accepted);
       ended = subst (λ (b : BoardState I). AfterRun disk is.trace.slots is.trace.events b.image after old new outcome) made run;
     })
+
+-- there is no board for the slots that were judged
+pub refused_board : {A I : Type 0} (disk : I → Disk) (text : List ℕ) (old : Option (List ℕ)) (before after : I) (fault : BoardFault) (j : Judgement) (slots : List SlotSpec)
+    → IsJudged A text j → slots ≡ j.slots → after ≡ before → RefusesBoardOf (disk before).sector_count (front A j.version j.cache slots) fault
+    → RefusesBoard A disk (Some text) old old before after fault
+refused_board disk text old before after fault j slots is same image refused =
+    let described : slots ≡ is.trace.slots = same ∙ sym is.slots in
+    let sectors = (disk before).sector_count in
+    record {
+      untouched = record { output = Keeps-refl old; image = image };
+      trace = is.trace;
+      read = is.read;
+      refused = elim refused [
+        | inl many ↦ inl (
+          record { version = is.version ∙ many.0.version; many = subst (λ (s : List SlotSpec). 16 < length s) described many.0.many },
+          many.1,
+        )
+        | inr own ↦ inr (
+          λ many. own.0 (record { version = sym is.version ∙ many.version; many = subst (λ (s : List SlotSpec). 16 < length s) (sym described) many.many }),
+          subst (λ (s : List SlotSpec). Refuses sectors (map asked_of_board s) is.trace.cache fault) described
+              (subst (λ (n : ℕ). Refuses sectors (map asked_of_board slots) n fault) (sym is.cache) own.1),
+        )
+      ];
+    }

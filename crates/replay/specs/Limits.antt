@@ -1,5 +1,5 @@
 -- What a trace may describe, where a board may have more.
-use Rattle.std.specs.Prelude.{ℕ, ◌^◌, ◌≤◌, nat_lt, if◌then◌else◌}
+use Rattle.std.specs.Prelude.{◌^◌, ◌≤◌, nat_lt, if◌then◌else◌}
 use Rattle.board.specs.declared.spec.SlotSpec.{SlotSpec}
 
 -- a guest's memory has at most 2^28 bytes
