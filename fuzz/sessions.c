@@ -9,6 +9,8 @@
  *     sessions TRACE IMAGE SEED    prints what was counted, or ends with 1 and the first event that was answered otherwise
  *     sessions                     prints the features that a board offers, as records: of both windows, and the high word
  *
+ * On the board of all guests a guest is saved now and then, a stranger uses its devices, and it is restored (saves.c).
+ *
  * What the host does beside the events follows from SEED and a guest's own answers: it takes output now and then, and
  * where there was no room it takes some and mostly makes the same write again. The heap is open to create and destroy
  * alone, and empty at the end.
@@ -20,6 +22,7 @@
 #include <string.h>
 
 #include "flights.h"
+#include "saves.h"
 #include "shut_heap.h"
 
 enum { SECTOR = 512, TAKEN_AT_ONCE = 1 << 16 };
@@ -85,6 +88,7 @@ static void check_busy(struct seat *seat)
     need(kalyubos_read(seat->board, seat->slot, 0, 0, 4, &value) == KALYUBOS_BUSY, "a read isn't busy", seat->slot);
     need(kalyubos_read_memory(seat->board, seat->slot, seat->guest->base, &byte, 1) == KALYUBOS_BUSY,
          "a read of memory isn't busy", seat->slot);
+    check_no_save(seat);
 }
 
 /* Goes on with a service until it ends, and lets an event of another guest be served before each piece. */
@@ -271,6 +275,7 @@ static void serve_another(void)
             act_for_nobody(&events[i]);
             return;
         }
+        save_by_chance(&seats[events[i].guest]);
         begin_part(&seats[events[i].guest]);
         act(&seats[events[i].guest], &events[i]);
         return;
@@ -393,6 +398,7 @@ static void add_counts(const struct counts *counts)
     total.operations += counts->operations;
     total.failures += counts->failures;
     total.waits += counts->waits;
+    total.saves += counts->saves;
 }
 
 static void release(struct seat *seat)
@@ -468,9 +474,10 @@ int main(int argc, char **argv)
     check_budgets(image);
     check_hosted(image);
     printf("%zu events, %" PRIu64 " pauses, %" PRIu64 " writes without room, %" PRIu64 " bytes taken, %" PRIu64
-           " operations, %" PRIu64 " of them failed, %" PRIu64 " writes that waited for a disk\n",
+           " operations, %" PRIu64 " of them failed, %" PRIu64 " writes that waited for a disk, %" PRIu64
+           " guests that were saved and restored\n",
            (BUDGETS_LEN + 1) * events_len, total.pauses, total.refused, total.taken, total.operations, total.failures,
-           total.waits);
+           total.waits, total.saves);
     free(begun);
     for (size_t i = 0; i < events_len; i++)
         free(events[i].bytes);

@@ -1,0 +1,86 @@
+#include <stdbool.h>
+#include <string.h>
+
+#include "flights.h"
+#include "saves.h"
+#include "shut_heap.h"
+
+enum { ROOM = 1 << 17, ONE_IN = 16 };
+static uint8_t saved[ROOM], again[ROOM];
+static size_t saved_len;
+
+/* The host's dice, which aren't the guest's: alone it is never saved, and its own must fall alike. */
+static uint64_t thrown(uint64_t below)
+{
+    static uint64_t state = 0x9e3779b97f4a7c15;
+    state ^= state << 13;
+    state ^= state >> 7;
+    state ^= state << 17;
+    return (state >> 11) % below;
+}
+
+static void save(const struct seat *seat, uint8_t *into, size_t *len)
+{
+    size_t told = 0;
+    need(kalyubos_saved_len(seat->board, seat->slot, &told) == KALYUBOS_DONE, "saved_len", seat->slot);
+    need(kalyubos_save(seat->board, seat->slot, into, ROOM, len) == KALYUBOS_DONE, "save", seat->slot);
+    need(*len == told, "a snapshot of another length", *len);
+}
+
+static void words_of(const struct seat *seat, uint8_t words[2])
+{
+    need(kalyubos_interrupts(seat->board, seat->slot, &words[0], &words[1]) == KALYUBOS_DONE, "interrupts", seat->slot);
+}
+
+/* Resets both windows, and leaves registers, queues, a size and typed bytes of its own there. It notifies nothing. */
+static void use_as_a_stranger(const struct seat *seat)
+{
+    static const uint16_t offsets[] = { 0x14, 0x24, 0x20, 0x30, 0x38, 0x44, 0x64, 0x70, 0x80, 0x84, 0x90, 0x94, 0xa0, 0xa4 };
+    struct kalyubos_pending pending;
+    uint8_t typed[64];
+    size_t took;
+    for (uint8_t window = KALYUBOS_BLOCK; window <= KALYUBOS_CONSOLE; window++) {
+        kalyubos_write(seat->board, seat->slot, window, 0x70, 4, 0, &pending);
+        for (uint64_t left = thrown(12); left != 0; left--) {
+            uint16_t offset = offsets[thrown(sizeof offsets / sizeof *offsets)];
+            kalyubos_write(seat->board, seat->slot, window, offset, 4, (uint32_t)thrown(16), &pending);
+        }
+        kalyubos_write(seat->board, seat->slot, window, 0x70, 4, 0, &pending); /* no queue is live when bytes are typed */
+    }
+    memset(typed, 's', sizeof typed);
+    kalyubos_input(seat->board, seat->slot, typed, thrown(sizeof typed), &took, &pending);
+    kalyubos_resize(seat->board, seat->slot, (uint16_t)thrown(300), (uint16_t)thrown(300), &pending);
+}
+
+void check_no_save(struct seat *seat)
+{
+    size_t len;
+    struct kalyubos_pending pending;
+    need(kalyubos_saved_len(seat->board, seat->slot, &len) == KALYUBOS_BUSY, "saved_len isn't busy", seat->slot);
+    need(kalyubos_save(seat->board, seat->slot, again, ROOM, &len) == KALYUBOS_BUSY, "a save isn't busy", seat->slot);
+    need(kalyubos_restore(seat->board, seat->slot, saved, saved_len, &pending) == KALYUBOS_BUSY, "a restore isn't busy",
+         seat->slot);
+}
+
+void save_by_chance(struct seat *seat)
+{
+    uint8_t before[2], behind[2];
+    struct kalyubos_pending pending;
+    size_t again_len;
+    if (thrown(ONE_IN) != 0)
+        return;
+    if (seat->disk != NULL && seat->disk->is_asked) {
+        check_no_save(seat);
+        return;
+    }
+    words_of(seat, before);
+    save(seat, saved, &saved_len);
+    use_as_a_stranger(seat);
+    need(kalyubos_restore(seat->board, seat->slot, saved, saved_len, &pending) == KALYUBOS_DONE, "restore", seat->slot);
+    words_of(seat, behind);
+    need(memcmp(before, behind, sizeof before) == 0, "other interrupts behind a restore", seat->slot);
+    need(pending.block == before[0] && pending.console == before[1], "a restore tells something else", seat->slot);
+    save(seat, again, &again_len);
+    need(again_len == saved_len && memcmp(again, saved, saved_len) == 0, "another snapshot", seat->slot);
+    seat->counts.saves++;
+}
