@@ -25,14 +25,14 @@ drop_push zero past v le = refl
 drop_push (suc t) [] v le = absurd (omega arith)
 drop_push (suc t) (p ∷ past) v le = drop_push t past v (omega arith)
 
+none_since : (t : ℕ) (left : List ℕ) → HadBeen (drop t []) left → ⊥
+none_since zero left had = had
+none_since (suc t) left had = had
+
 -- of what was there, or is the newest
 since_push : (t : ℕ) (past : List (Vec ℕ Global)) (v : Vec ℕ Global) (left : List ℕ) → HadBeen (drop t (past ++ v ∷ [])) left → HadBeen (drop t past) left ⊎ (left ≡ v.items)
 since_push zero past v left had = adds past v left had
-since_push (suc t) [] v left had = absurd (none t left had)
-  where
-    none : (t : ℕ) (left : List ℕ) → HadBeen (drop t ([] {A = Vec ℕ Global})) left → ⊥
-    none zero left had = had
-    none (suc t) left had = had
+since_push (suc t) [] v left had = absurd (none_since t left had)
 since_push (suc t) (p ∷ past) v left had = since_push t past v left had
 
 -- a write, before which what was there was recorded

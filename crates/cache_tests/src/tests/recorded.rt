@@ -61,9 +61,9 @@ impl BackingFile for RecordedFile {
     }
 
     fn write_to(&mut self, at: u64, from: &[u8]) -> io::Result<usize> {
-        if self.record().is_err() {
+        let Ok(()) = self.record() else {
             return Err(io::Error::from(ErrorKind::OutOfMemory));
-        }
+        };
         self.file.write_to(at, from)
     }
 

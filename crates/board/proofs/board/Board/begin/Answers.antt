@@ -1,5 +1,5 @@
 use Rattle.std.proofs.Common.{◌≡◌, ℕ, List, ◌≤◌, Option, Some, None, length, refl, sym, ◌∙◌, ap, subst, arith}
-use Rattle.std.specs.Prelude.{IsSomeAnd}
+use Rattle.std.specs.Prelude.{IsSomeAnd, slice_set}
 use Rattle.std.specs.List.{slice_get}
 use Rattle.std.proofs.lemmas.Option.{slice_get_past, slice_get_read, same_Some}
 use Rattle.board.specs.Slot.{BoardSlot, state_of}
@@ -89,4 +89,4 @@ returns-in_default-clause-touches g c =
 
 pub returns-clause-touches : goal.returns-clause-touches
 returns-clause-touches g c =
-    rw (← c.self.view_is) (touches_slot g.I.Image.moment g.I.Image.may_leave g.I.Image.left_since c.self.inside.slots.items _ c.args.slot c.in-Some.slot.now c.self.inside.cache c.begin-turn.new.cache (there g c) c.begin-turn.ensures.touches)
+    rw (← c.self.view_is) (touches_slot g.I.Image.moment g.I.Image.may_leave g.I.Image.left_since c.self.inside.slots.items (slice_set c.self.inside.slots.items c.args.slot c.begin-turn.new.self) c.args.slot c.in-Some.slot.now c.self.inside.cache c.begin-turn.new.cache (there g c) c.begin-turn.ensures.touches)
