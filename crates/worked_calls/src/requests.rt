@@ -46,12 +46,16 @@ fn device_of(start: u64, count: u64, read_only: bool) -> BlockDevice {
 fn put_request(answer: &mut String, request: Request) -> Result<(), Stuck> {
     match request {
         Request::Rejected(status) => written(write!(answer, "{status:?}")),
-        Request::Read { sector, count } => written(write!(answer, "read {sector:x} {count:x}")),
-        Request::Write { sector, count } => written(write!(answer, "write {sector:x} {count:x}")),
+        Request::Read { sector, count } => put_sectors(answer, "read", sector, count),
+        Request::Write { sector, count } => put_sectors(answer, "write", sector, count),
         Request::Flush => put_word(answer, "flush"),
         Request::GetId => put_word(answer, "get_id"),
         Request::WriteZeroes { segments } => written(write!(answer, "write_zeroes {segments:x}")),
     }
+}
+
+fn put_sectors(answer: &mut String, word: &str, sector: u64, count: u64) -> Result<(), Stuck> {
+    written(write!(answer, "{word} {sector:x} {count:x}"))
 }
 
 impl Subject for Requests {

@@ -207,11 +207,13 @@ fn answer_event<A: Allocator + Copy>(
             answer,
             session.write(slot, *window, *offset, *width, *value),
         ),
-        EventKind::MemRead { addr, len } => {
-            let mut bytes = vec![in alloc; b'.'; *len as usize]?;
-            let outcome = session.read_memory(slot, *addr, &mut bytes);
-            put_read(alloc, answer, outcome, &bytes)
-        }
+        EventKind::MemRead { addr, len } => read_memory(
+            alloc,
+            session,
+            slot,
+            (*addr, *len),
+            answer,
+        ),
         EventKind::MemWrite { addr, bytes } => {
             put_result(answer, session.write_memory(slot, *addr, bytes.as_slice()))
         }
@@ -219,6 +221,19 @@ fn answer_event<A: Allocator + Copy>(
         EventKind::Resize { cols, rows } => put_result(answer, session.resize(slot, *cols, *rows)),
         EventKind::Restore { bytes } => put_result(answer, session.restore(slot, bytes.as_slice())),
     }
+}
+
+// Reads so many bytes from an address on, over dots.
+fn read_memory<A: Allocator + Copy>(
+    alloc: Global,
+    session: &mut Session<A>,
+    slot: u8,
+    (addr, len): (u64, u32),
+    answer: &mut String,
+) -> Result<(), Stuck> {
+    let mut bytes = vec![in alloc; b'.'; len as usize]?;
+    let outcome = session.read_memory(slot, addr, &mut bytes);
+    put_read(alloc, answer, outcome, &bytes)
 }
 
 // What a register gave, or the refusal.
