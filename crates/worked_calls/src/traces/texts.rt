@@ -155,9 +155,11 @@ fn verdict(alloc: Global, text: &[u8]) -> Result<String, Stuck> {
 
 // Whether a trace has this text.
 fn beside_text(alloc: Global, trace: &Trace, text: &[u8]) -> Result<String, Stuck> {
-    let told = match printed(alloc, trace)? {
-        Some(found) if found.as_slice() == text => "ok",
-        _ => "another text",
+    let found = printed(alloc, trace)?;
+    let is_same = match &found {
+        Some(found) => found.as_slice() == text,
+        None => false,
     };
+    let told = if is_same { "ok" } else { "another text" };
     Ok(String::from_str(alloc, told)?)
 }
