@@ -1,13 +1,12 @@
 -- What a stop within an event leaves of the disks of other guests.
-use Rattle.std.proofs.Common.{◌≡◌, ◌⊎◌, inl, inr, ℕ, ◌+◌, ◌*◌, ◌<◌, ◌≤◌, List, ◌++◌, length, take, drop, Some, None, refl, sym, ◌∙◌, ap, subst, arith}
-use Rattle.std.specs.Prelude.{MatchOption}
+use Rattle.std.proofs.Common.{◌≡◌, ◌⊎◌, inl, inr, ℕ, ◌+◌, ◌*◌, ◌<◌, ◌≤◌, List, ◌++◌, length, take, drop, Some, refl, sym, ◌∙◌, ap, subst, arith}
 use Rattle.std.specs.List.{slice_get}
 use Rattle.std.proofs.lemmas.Bool.{cases_lt}
 use Rattle.std.proofs.lemmas.Bool.Decides.{nat_tests}
 use Rattle.std.proofs.lemmas.List.{take-append-drop}
 use Rattle.std.proofs.lemmas.Option.{slice_get_past}
 use Rattle.sector_cache.specs.Sector.{extent_of}
-use Rattle.sector_cache.specs.Stop.{BeginsAt, DiffersWithin, Only, TouchesNothing, TouchesOnly}
+use Rattle.sector_cache.specs.Stop.{BeginsAt, DiffersWithin, Only}
 use Rattle.sector_cache.proofs.Stops as stops
 use Rattle.block_device.specs.declared.extent.Extent.{Extent}
 use Rattle.block_device.specs.Extent.{TouchesExtent}
