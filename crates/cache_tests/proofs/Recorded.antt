@@ -1,8 +1,7 @@
 -- One more content joins those that a file of the tests has had.
-use Rattle.std.proofs.Common.{◌≡◌, ◌⊎◌, inl, inr, ⊎_elim, ℕ, zero, suc, ◌+◌, ◌≤◌, List, [], ◌∷◌, ◌++◌, length, drop, Vec, refl, sym, ◌∙◌, subst, arith, length-append}
+use Rattle.std.proofs.Common.{◌≡◌, ◌⊎◌, inl, inr, ⊎_elim, ℕ, zero, suc, ◌≤◌, List, [], ◌∷◌, ◌++◌, length, drop, Vec, refl, sym, ◌∙◌, subst, arith, length-append}
 use Rattle.std.specs.declared.alloc.Global.{Global}
 use Rattle.sector_cache.specs.Stop.{DiffersWithin, IsCut, Touches}
-use Rattle.sector_cache.proofs.Stops.{differs_none}
 use Rattle.cache_tests.specs.Past.{HadBeen, Since}
 
 keeps : (past : List (Vec ℕ Global)) (v : Vec ℕ Global) (left : List ℕ) → HadBeen past left → HadBeen (past ++ v ∷ []) left
