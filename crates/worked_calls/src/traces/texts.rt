@@ -78,7 +78,11 @@ impl Traces {
     }
 
     /// The text of the same trace in a version takes the text's place.
-    pub(super) fn version(&mut self, words: &mut Words<'_>, answer: &mut String) -> Result<(), Stuck> {
+    pub(super) fn version(
+        &mut self,
+        words: &mut Words<'_>,
+        answer: &mut String,
+    ) -> Result<(), Stuck> {
         let version = words.u8()?;
         let trace = to_version(self.trace()?, version);
         self.text = printed(self.alloc, &trace)?.ok_or(Stuck::Conditions)?;
