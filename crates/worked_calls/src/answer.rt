@@ -1,24 +1,21 @@
 //! How an answer is written.
 
 use crate::subject::Stuck;
-use std::alloc::Global;
+use std::alloc::{AllocError, Global};
 use std::fmt::Debug;
 
 /// Bytes, as two hexadecimal digits each: `-` for none.
 pub(crate) fn put_bytes(alloc: Global, answer: &mut String, bytes: &[u8]) -> Result<(), Stuck> {
     if bytes.is_empty() {
-        answer.push_str("-")?;
-        return Ok(());
+        return put_word(answer, "-");
     }
     let digits = hex::encode(alloc, bytes)?;
-    answer.push_str(digits.as_str())?;
-    Ok(())
+    put_word(answer, digits.as_str())
 }
 
 /// A number in hexadecimal.
 pub(crate) fn put_number(answer: &mut String, number: u64) -> Result<(), Stuck> {
-    write!(answer, "{number:x}")?;
-    Ok(())
+    written(write!(answer, "{number:x}"))
 }
 
 /// A number, or `none`.
@@ -41,15 +38,19 @@ pub(crate) fn put_result<E: Debug + Drop>(
 ) -> Result<(), Stuck> {
     match outcome {
         Ok(()) => put_word(answer, "ok"),
-        Err(refusal) => {
-            write!(answer, "{refusal:?}")?;
-            Ok(())
-        }
+        Err(refusal) => written(write!(answer, "{refusal:?}")),
     }
 }
 
 /// A word.
 pub(crate) fn put_word(answer: &mut String, word: &str) -> Result<(), Stuck> {
-    answer.push_str(word)?;
-    Ok(())
+    written(answer.push_str(word))
+}
+
+/// What came of writing a part of an answer.
+pub(crate) fn written(outcome: Result<(), AllocError>) -> Result<(), Stuck> {
+    match outcome {
+        Ok(()) => Ok(()),
+        Err(_) => Err(Stuck::NoMemory),
+    }
 }

@@ -3,11 +3,11 @@
 ghost use Rattle.std.specs.Prelude.{IfOk};
 ghost use Rattle.chain.specs.Buffers.{Good};
 
-use crate::answer::{put_bytes, put_number, put_result, put_word};
+use crate::answer::{put_bytes, put_number, put_result, put_word, written};
 use crate::memory::Memory;
 use crate::subject::{Stuck, Subject};
 use crate::words::Words;
-use chain::{Buffer, Chain};
+use chain::{Buffer, Chain, Fault, Segment};
 use guest_memory::GuestMemory;
 use indirect::{append_packed, append_split};
 use std::alloc::Global;
@@ -43,33 +43,29 @@ impl Chains {
             "lengths" => self.lengths(answer),
             "buffers" => put_buffers(answer, self.chain.buffers()),
             "split_table" | "packed_table" => self.append(word, words, answer),
-            "rest" | "part" | "read" | "write_at" => self.reach(word, words, answer),
-            _ => self.below.make(word, words, answer),
+            _ => self.reach(word, words, answer),
         }
     }
 
     // Pushes the same buffer so many times, until one is refused.
     fn push(&mut self, words: &mut Words<'_>, answer: &mut String) -> Result<(), Stuck> {
-        let count = words.u16()?;
-        let addr = words.u64()?;
-        let len = words.u32()?;
-        let writable = words.choice("w", "r")?;
-        for _ in 0..count {
-            let pushed = self.chain.push(&self.below.mem, addr, len, writable);
-            if pushed.is_err() {
-                return put_result(answer, pushed);
-            }
-        }
-        put_word(answer, "ok")
+        let count = words.u16();
+        let addr = words.u64();
+        let len = words.u32();
+        let writable = words.choice("w", "r");
+        let segment = Segment { addr, len };
+        let buffer = Buffer { segment, writable };
+        put_result(
+            answer,
+            push_some(&mut self.chain, &self.below.mem, count, buffer),
+        )
     }
 
     // How many buffers there are, and how many bytes that may be read and that may be written.
     fn lengths(&self, answer: &mut String) -> Result<(), Stuck> {
-        put_number(answer, self.chain.buffers().len() as u64)?;
-        put_word(answer, " ")?;
-        put_number(answer, self.chain.readable_len())?;
-        put_word(answer, " ")?;
-        put_number(answer, self.chain.writable_len())
+        let count = self.chain.buffers().len();
+        let (readable, writable) = (self.chain.readable_len(), self.chain.writable_len());
+        written(write!(answer, "{count:x} {readable:x} {writable:x}"))
     }
 
     // Appends the buffers of an indirect table.
@@ -79,8 +75,8 @@ impl Chains {
         words: &mut Words<'_>,
         answer: &mut String,
     ) -> Result<(), Stuck> {
-        let addr = words.u64()?;
-        let len = words.u32()?;
+        let addr = words.u64();
+        let len = words.u32();
         let mem = &self.below.mem;
         let appended = match word {
             "split_table" => append_split(mem, addr, len, &mut self.chain),
@@ -89,23 +85,19 @@ impl Chains {
         put_result(answer, appended)
     }
 
-    // Reads or writes the chain's bytes by their places.
+    // The calls that reach the chain's bytes by their places.
     fn reach(
         &mut self,
         word: &str,
         words: &mut Words<'_>,
         answer: &mut String,
     ) -> Result<(), Stuck> {
-        let from = words.u64()?;
         match word {
-            "rest" => self.rest(from, answer),
-            "part" => self.part(from, words.u64()?, words.u8()?, answer),
-            "read" => self.read(from, words.u16()?, answer),
-            _ => {
-                let bytes = words.bytes(self.below.alloc)?;
-                self.write_at(from, &bytes)?;
-                put_word(answer, "ok")
-            }
+            "rest" => self.rest(words.u64(), answer),
+            "part" => self.part(words.u64(), words.u64(), words.u8(), answer),
+            "read" => self.read(words.u64(), words.u16(), answer),
+            "write_at" => self.write_at(words, answer),
+            _ => self.below.make(word, words, answer),
         }
     }
 
@@ -145,15 +137,17 @@ impl Chains {
     }
 
     // Writes bytes from a writable place on.
-    fn write_at(&mut self, from: u64, bytes: &[u8]) -> Result<(), Stuck> {
+    fn write_at(&mut self, words: &mut Words<'_>, answer: &mut String) -> Result<(), Stuck> {
+        let from = words.u64();
+        let bytes = words.bytes(self.below.alloc)?;
         let mem = &mut self.below.mem;
         let chain = good_chain(mem, self.chain.buffers())?;
         let len = chain.writable_len();
         if from > len || bytes.len() as u64 > len - from {
             return Err(Stuck::Conditions);
         }
-        chain.write_at(mem, from, bytes);
-        Ok(())
+        chain.write_at(mem, from, &bytes);
+        put_word(answer, "ok")
     }
 }
 
@@ -172,6 +166,20 @@ pub(crate) fn good_chain(mem: &GuestMemory, buffers: &[Buffer]) -> Result<Chain,
     Ok(chain)
 }
 
+// Pushes the same buffer so many times, until one is refused.
+fn push_some(
+    chain: &mut Chain,
+    mem: &GuestMemory,
+    count: u16,
+    buffer: Buffer,
+) -> Result<(), Fault> {
+    let Segment { addr, len } = buffer.segment;
+    for _ in 0..count {
+        chain.push(mem, addr, len, buffer.writable)?;
+    }
+    Ok(())
+}
+
 /// Buffers one after another: the address, the length, and whether a device reads or writes them.
 fn put_buffers(answer: &mut String, buffers: &[Buffer]) -> Result<(), Stuck> {
     for buffer in buffers {
@@ -181,18 +189,15 @@ fn put_buffers(answer: &mut String, buffers: &[Buffer]) -> Result<(), Stuck> {
 }
 
 fn put_buffer(answer: &mut String, buffer: Buffer) -> Result<(), Stuck> {
-    if !answer.is_empty() {
-        put_word(answer, " ")?;
-    }
-    put_number(answer, buffer.segment.addr)?;
-    put_word(answer, "+")?;
-    put_number(answer, u64::from(buffer.segment.len))?;
-    put_word(answer, if buffer.writable { "w" } else { "r" })
+    let Segment { addr, len } = buffer.segment;
+    let space = if answer.is_empty() { "" } else { " " };
+    let end = if buffer.writable { "w" } else { "r" };
+    written(write!(answer, "{space}{addr:x}+{len:x}{end}"))
 }
 
 impl Subject for Chains {
     fn call(&mut self, words: &mut Words<'_>, answer: &mut String) -> Result<(), Stuck> {
-        let word = words.word()?;
+        let word = words.word();
         self.make(word, words, answer)
     }
 }

@@ -118,11 +118,9 @@ fn check_row<R: AllocGlobal, S: Subject, W: Write>(
         answer: expected,
     } = row;
     let mut words = Words::new(call);
-    let made = subject
-        .call(&mut words, &mut answer)
-        .and_then(|()| words.end());
+    let made = subject.call(&mut words, &mut answer);
     let found = answer.as_str();
-    match made {
+    match words.judge(made) {
         Ok(()) if found == expected => Ok(true),
         Ok(()) => {
             writeln!(

@@ -43,8 +43,8 @@ impl<'h> Consoles<'h> {
 
     // Types the same byte so many times.
     fn input(&mut self, words: &mut Words<'_>, answer: &mut String) -> Result<(), Stuck> {
-        let count = usize::from(words.u16()?);
-        let bytes = vec![in self.alloc; words.u8()?; count]?;
+        let count = usize::from(words.u16());
+        let bytes = vec![in self.alloc; words.u8(); count]?;
         put_number(answer, self.console.input(&bytes) as u64)
     }
 
@@ -56,19 +56,20 @@ impl<'h> Consoles<'h> {
         answer: &mut String,
     ) -> Result<(), Stuck> {
         match word {
-            "put16" => put_inside(answer, self.port.put16(words.u64()?, words.u16()?)),
+            "put16" => put_inside(answer, self.port.put16(words.u64(), words.u16())),
             "descriptor" => {
-                let at = words.u64()?;
-                put_inside(answer, self.port.descriptor(at, Descriptor::read(words)?))
+                let at = words.u64();
+                put_inside(answer, self.port.descriptor(at, Descriptor::read(words)))
             }
             "get16" => {
-                let number = self.port.mem().get_u16(words.u64()?);
+                let number = self.port.mem().get_u16(words.u64());
                 put_option(answer, number.map(u64::from))
             }
-            _ => {
-                self.port.write(words.u16()?, words.u32()?);
+            "write" => {
+                self.port.write(words.u16(), words.u32());
                 put_word(answer, "ok")
             }
+            _ => self.ask(word, words, answer),
         }
     }
 
@@ -77,26 +78,27 @@ impl<'h> Consoles<'h> {
         match word {
             "input" => self.input(words, answer),
             "resize" => {
-                self.console.resize(words.u16()?, words.u16()?);
+                self.console.resize(words.u16(), words.u16());
                 put_word(answer, "ok")
             }
             "emergency" => {
-                let done = self.console.emergency(words.u8()?, &mut self.out);
+                let done = self.console.emergency(words.u8(), &mut self.out);
                 put_result(answer, done)
             }
-            _ => {
+            "transmit" => {
                 let done = self.port.transmit(&mut self.console, &mut self.out);
                 put_result(answer, done)
             }
+            _ => Err(Stuck::Words),
         }
     }
 }
 
 impl Subject for Consoles<'_> {
     fn call(&mut self, words: &mut Words<'_>, answer: &mut String) -> Result<(), Stuck> {
-        match words.word()? {
+        match words.word() {
             "refuse_from" => {
-                self.heap.refuse_from(words.u64()?);
+                self.heap.refuse_from(words.u64());
                 put_word(answer, "ok")
             }
             "has_refused" => put_flag(answer, self.heap.has_refused()),
@@ -107,13 +109,7 @@ impl Subject for Consoles<'_> {
                 self.out = Vec::new(self.heap);
                 put_word(answer, "ok")
             }
-            word @ ("put16" | "descriptor" | "get16" | "write") => {
-                self.reach(word, words, answer)
-            }
-            word @ ("input" | "resize" | "emergency" | "transmit") => {
-                self.ask(word, words, answer)
-            }
-            _ => Err(Stuck::Words),
+            word => self.reach(word, words, answer),
         }
     }
 }

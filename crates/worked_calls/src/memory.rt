@@ -38,31 +38,44 @@ impl Memory {
             "holds" => self.holds(words, answer),
             "bytes" => self.bytes(words, answer),
             "write" => self.write(words, answer),
-            "put16" | "put32" | "put64" => self.put(word, words, answer),
-            "get16" | "get32" | "get64" => self.get(word, words, answer),
-            "descriptor" => {
-                let at = words.u64()?;
-                let descriptor = Descriptor::read(words)?;
-                put_inside(answer, put_descriptor(&mut self.mem, at, descriptor))
-            }
+            "descriptor" => self.descriptor(words, answer),
             "descriptors" => self.descriptors(words, answer),
+            _ => self.number(word, words, answer),
+        }
+    }
+
+    // Puts or gets a number.
+    fn number(
+        &mut self,
+        word: &str,
+        words: &mut Words<'_>,
+        answer: &mut String,
+    ) -> Result<(), Stuck> {
+        let addr = words.u64();
+        match word {
+            "put16" => put_inside(answer, self.mem.put_u16(addr, words.u16())),
+            "put32" => put_inside(answer, self.mem.put_u32(addr, words.u32())),
+            "put64" => put_inside(answer, self.mem.put_u64(addr, words.u64())),
+            "get16" => put_option(answer, self.mem.get_u16(addr).map(u64::from)),
+            "get32" => put_option(answer, self.mem.get_u32(addr).map(u64::from)),
+            "get64" => put_option(answer, self.mem.get_u64(addr)),
             _ => Err(Stuck::Words),
         }
     }
 
     // Makes another memory.
     fn replace(&mut self, words: &mut Words<'_>, answer: &mut String) -> Result<(), Stuck> {
-        self.mem = memory_of(self.alloc, words.u64()?, words.u64()?)?;
+        self.mem = memory_of(self.alloc, words.u64(), words.u64())?;
         put_word(answer, "ok")
     }
 
     fn holds(&self, words: &mut Words<'_>, answer: &mut String) -> Result<(), Stuck> {
-        put_flag(answer, self.mem.holds(words.u64()?, words.u64()?))
+        put_flag(answer, self.mem.holds(words.u64(), words.u64()))
     }
 
     // The bytes of a range, or none.
     fn bytes(&self, words: &mut Words<'_>, answer: &mut String) -> Result<(), Stuck> {
-        match self.mem.part(words.u64()?, words.u64()?) {
+        match self.mem.part(words.u64(), words.u64()) {
             Some(bytes) => put_bytes(self.alloc, answer, bytes),
             None => put_word(answer, "none"),
         }
@@ -70,7 +83,7 @@ impl Memory {
 
     // Writes bytes through a lent slice.
     fn write(&mut self, words: &mut Words<'_>, answer: &mut String) -> Result<(), Stuck> {
-        let addr = words.u64()?;
+        let addr = words.u64();
         let bytes = words.bytes(self.alloc)?;
         let len = bytes.len() as u64;
         if !self.mem.holds(addr, len) {
@@ -80,46 +93,28 @@ impl Memory {
         put_word(answer, "ok")
     }
 
-    // Puts a number.
-    fn put(&mut self, word: &str, words: &mut Words<'_>, answer: &mut String) -> Result<(), Stuck> {
-        let addr = words.u64()?;
-        let is_put = match word {
-            "put16" => self.mem.put_u16(addr, words.u16()?),
-            "put32" => self.mem.put_u32(addr, words.u32()?),
-            _ => self.mem.put_u64(addr, words.u64()?),
-        };
-        put_inside(answer, is_put)
+    // Puts a descriptor.
+    fn descriptor(&mut self, words: &mut Words<'_>, answer: &mut String) -> Result<(), Stuck> {
+        let at = words.u64();
+        let descriptor = Descriptor::read(words);
+        put_inside(answer, put_descriptor(&mut self.mem, at, descriptor))
     }
 
-    // Gets a number.
-    fn get(&self, word: &str, words: &mut Words<'_>, answer: &mut String) -> Result<(), Stuck> {
-        let addr = words.u64()?;
-        let number = match word {
-            "get16" => self.mem.get_u16(addr).map(u64::from),
-            "get32" => self.mem.get_u32(addr).map(u64::from),
-            _ => self.mem.get_u64(addr),
-        };
-        put_option(answer, number)
-    }
-
-    // Puts descriptors one behind another, of which each but the first has a last number that is greater by a step.
+    // Puts descriptors one behind another.
     fn descriptors(&mut self, words: &mut Words<'_>, answer: &mut String) -> Result<(), Stuck> {
-        let count = words.u16()?;
-        let step = words.u16()?;
-        let mut at = words.u64()?;
-        let mut descriptor = Descriptor::read(words)?;
-        let mut are_put = true;
-        for _ in 0..count {
-            are_put = put_descriptor(&mut self.mem, at, descriptor) && are_put;
-            descriptor.fourth = descriptor.fourth.wrapping_add(step);
-            at = at.wrapping_add(16);
-        }
-        put_inside(answer, are_put)
+        let count = words.u16();
+        let step = words.u16();
+        let at = words.u64();
+        let descriptor = Descriptor::read(words);
+        put_inside(
+            answer,
+            put_descriptors(&mut self.mem, count, step, at, descriptor),
+        )
     }
 
     // Tries to make a memory on the heap that may refuse.
     fn try_new(&self, words: &mut Words<'_>, answer: &mut String) -> Result<(), Stuck> {
-        match GuestMemory::new(&self.heap, words.u64()?, words.u64()?) {
+        match GuestMemory::new(&self.heap, words.u64(), words.u64()) {
             Ok(_) => put_word(answer, "ok"),
             Err(fault) => put_result(answer, Err(fault)),
         }
@@ -144,13 +139,13 @@ pub(crate) struct Descriptor {
 }
 
 impl Descriptor {
-    pub(crate) fn read(words: &mut Words<'_>) -> Result<Descriptor, Stuck> {
-        Ok(Descriptor {
-            addr: words.u64()?,
-            len: words.u32()?,
-            third: words.u16()?,
-            fourth: words.u16()?,
-        })
+    pub(crate) fn read(words: &mut Words<'_>) -> Descriptor {
+        Descriptor {
+            addr: words.u64(),
+            len: words.u32(),
+            third: words.u16(),
+            fourth: words.u16(),
+        }
     }
 }
 
@@ -164,6 +159,23 @@ pub(crate) fn put_descriptor(mem: &mut GuestMemory, at: u64, descriptor: Descrip
         && mem.put_u16(at.wrapping_add(14), descriptor.fourth)
 }
 
+// Puts so many descriptors one behind another, of which each but the first has a last number that is greater by a step.
+fn put_descriptors(
+    mem: &mut GuestMemory,
+    count: u16,
+    step: u16,
+    mut at: u64,
+    mut descriptor: Descriptor,
+) -> bool {
+    let mut are_put = true;
+    for _ in 0..count {
+        are_put = put_descriptor(mem, at, descriptor) && are_put;
+        descriptor.fourth = descriptor.fourth.wrapping_add(step);
+        at = at.wrapping_add(16);
+    }
+    are_put
+}
+
 /// `ok`, or `outside`.
 pub(crate) fn put_inside(answer: &mut String, is_inside: bool) -> Result<(), Stuck> {
     put_word(answer, if is_inside { "ok" } else { "outside" })
@@ -171,14 +183,14 @@ pub(crate) fn put_inside(answer: &mut String, is_inside: bool) -> Result<(), Stu
 
 impl Subject for Memory {
     fn call(&mut self, words: &mut Words<'_>, answer: &mut String) -> Result<(), Stuck> {
-        match words.word()? {
+        match words.word() {
             "new" => self.try_new(words, answer),
             "refuse_from" => {
-                self.heap.refuse_from(words.u64()?);
+                self.heap.refuse_from(words.u64());
                 put_word(answer, "ok")
             }
             "refuse_only" => {
-                self.heap.refuse_only(words.u64()?);
+                self.heap.refuse_only(words.u64());
                 put_word(answer, "ok")
             }
             "requests" => put_number(answer, self.heap.requests()),

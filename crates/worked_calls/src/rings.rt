@@ -1,6 +1,6 @@
 //! `rings`: a virtqueue of either kind over a guest's memory, and the four calls of its services.
 
-use crate::answer::{put_result, put_word};
+use crate::answer::{put_result, put_word, written};
 use crate::chains::Chains;
 use crate::subject::{Stuck, Subject};
 use crate::words::Words;
@@ -30,15 +30,15 @@ struct Setup {
 }
 
 impl Setup {
-    fn read(words: &mut Words<'_>) -> Result<Setup, Stuck> {
-        Ok(Setup {
-            size: words.u32()?,
-            descriptors: words.u64()?,
-            driver: words.u64()?,
-            device: words.u64()?,
-            indirect: words.choice("indirect", "-")?,
-            event_idx: words.choice("event_idx", "-")?,
-        })
+    fn read(words: &mut Words<'_>) -> Setup {
+        Setup {
+            size: words.u32(),
+            descriptors: words.u64(),
+            driver: words.u64(),
+            device: words.u64(),
+            indirect: words.choice("indirect", "-"),
+            event_idx: words.choice("event_idx", "-"),
+        }
     }
 
     /// A split queue of this kind, if there can be one.
@@ -85,7 +85,7 @@ impl Rings {
         words: &mut Words<'_>,
         answer: &mut String,
     ) -> Result<(), Stuck> {
-        let setup = Setup::read(words)?;
+        let setup = Setup::read(words);
         let mem = &self.below.below.mem;
         self.queue = match word {
             "split" => setup.split(mem),
@@ -111,13 +111,13 @@ impl Rings {
             "use" => {
                 let bytes = words.bytes(self.below.below.alloc)?;
                 let used = Used {
-                    len: words.u32()?,
-                    wrote: words.choice("wrote", "-")?,
+                    len: words.u32(),
+                    wrote: words.choice("wrote", "-"),
                 };
                 put_used(answer, use_next(queue, mem, &bytes, used)?)
             }
             "close" => put_close(answer, close(queue, mem)?),
-            _ => put_service(answer, queue, mem, words.u32()?),
+            _ => put_service(answer, queue, mem, words.u32()),
         }
     }
 }
@@ -231,18 +231,17 @@ fn put_taken(answer: &mut String, taken: Result<Option<Token>, Fault>) -> Result
 fn put_token(answer: &mut String, token: Token) -> Result<(), Stuck> {
     match token {
         Token::Split(split_ring::Token { place, head }) => {
-            write!(answer, "place {place:x} head {head:x}")?;
+            written(write!(answer, "place {place:x} head {head:x}"))
         }
         Token::Packed(packed_ring::Token { place, id, length }) => {
-            write!(answer, "place {place:x} id {id:x} length {length:x}")?;
+            written(write!(answer, "place {place:x} id {id:x} length {length:x}"))
         }
     }
-    Ok(())
 }
 
 impl Subject for Rings {
     fn call(&mut self, words: &mut Words<'_>, answer: &mut String) -> Result<(), Stuck> {
-        match words.word()? {
+        match words.word() {
             word @ ("split" | "packed") => self.set_up(word, words, answer),
             word @ ("open" | "take" | "use" | "close" | "service") => {
                 self.serve(word, words, answer)

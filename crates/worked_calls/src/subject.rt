@@ -42,9 +42,3 @@ impl<T: Drop> From<AllocFailed<T>> for Stuck {
         Stuck::NoMemory
     }
 }
-
-impl From<fmt::Error> for Stuck {
-    fn from(_error: fmt::Error) -> Stuck {
-        Stuck::NoMemory
-    }
-}

@@ -32,31 +32,24 @@ impl Traces {
         put_word(answer, "ok")
     }
 
+    fn put_bytes(&mut self, words: &mut Words<'_>, answer: &mut String) -> Result<(), Stuck> {
+        let bytes = words.bytes(self.alloc)?;
+        self.put(&bytes, answer)
+    }
+
     fn put_line(&mut self, words: &mut Words<'_>, answer: &mut String) -> Result<(), Stuck> {
-        self.text.extend_from_slice(words.rest()?.as_bytes())?;
+        self.text.extend_from_slice(words.rest().as_bytes())?;
         self.put(b"\n", answer)
     }
-}
 
-impl Subject for Traces {
-    fn call(&mut self, words: &mut Words<'_>, answer: &mut String) -> Result<(), Stuck> {
-        match words.word()? {
-            "begin" => {
-                self.text.clear();
-                put_word(answer, "ok")
-            }
-            "line" => self.put_line(words, answer),
-            "bytes" => {
-                let bytes = words.bytes(self.alloc)?;
-                self.put(&bytes, answer)
-            }
-            "replace" => self.replace(words, answer),
-            "shown" => self.shown(words, answer),
-            "read" => self.read(answer),
-            "fronts" => self.fronts(answer),
-            "slot" => self.slot(words, answer),
-            "event" => self.event(words, answer),
-            "version_2" => self.version_2(answer),
+    // A call in which something fails.
+    fn call_troubled(
+        &self,
+        word: &str,
+        words: &mut Words<'_>,
+        answer: &mut String,
+    ) -> Result<(), Stuck> {
+        match word {
             "read_growths" => self.read_growths(words, answer),
             "growths" => self.growths(words, answer),
             "images" => self.images(answer),
@@ -64,6 +57,27 @@ impl Subject for Traces {
             "rooms" => self.rooms(answer),
             "writes" => self.writes(words, answer),
             _ => Err(Stuck::Words),
+        }
+    }
+}
+
+impl Subject for Traces {
+    fn call(&mut self, words: &mut Words<'_>, answer: &mut String) -> Result<(), Stuck> {
+        match words.word() {
+            "begin" => {
+                self.text.clear();
+                put_word(answer, "ok")
+            }
+            "line" => self.put_line(words, answer),
+            "bytes" => self.put_bytes(words, answer),
+            "replace" => self.replace(words, answer),
+            "shown" => self.shown(words, answer),
+            "read" => self.read(answer),
+            "fronts" => self.fronts(answer),
+            "slot" => self.slot(words, answer),
+            "event" => self.event(words, answer),
+            "version_2" => self.version_2(answer),
+            word => self.call_troubled(word, words, answer),
         }
     }
 }

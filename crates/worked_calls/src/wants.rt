@@ -73,24 +73,24 @@ impl Wants {
 }
 
 impl Service {
-    fn read(words: &mut Words<'_>) -> Result<Service, Stuck> {
-        Ok(Service {
-            size: words.u16()?,
-            event_idx: words.choice("event_idx", "-")?,
-            numbers: (words.u16()?, words.u16()?),
-            from: words.u16()?,
-            passed: words.u16()?,
-        })
+    fn read(words: &mut Words<'_>) -> Service {
+        Service {
+            size: words.u16(),
+            event_idx: words.choice("event_idx", "-"),
+            numbers: (words.u16(), words.u16()),
+            from: words.u16(),
+            passed: words.u16(),
+        }
     }
 }
 
 impl Subject for Wants {
     fn call(&mut self, words: &mut Words<'_>, answer: &mut String) -> Result<(), Stuck> {
-        let wanted = match words.word()? {
-            "split" => self.split(Service::read(words)?)?,
-            "packed" => self.packed(Service::read(words)?)?,
-            _ => return Err(Stuck::Words),
+        let wanted = match words.word() {
+            "split" => self.split(Service::read(words)),
+            "packed" => self.packed(Service::read(words)),
+            _ => Err(Stuck::Words),
         };
-        put_flag(answer, wanted)
+        put_flag(answer, wanted?)
     }
 }

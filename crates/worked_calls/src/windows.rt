@@ -1,6 +1,6 @@
 //! `windows`: the registers of a device's window.
 
-use crate::answer::{put_number, put_word};
+use crate::answer::{put_number, put_word, written};
 use crate::subject::{Stuck, Subject};
 use crate::words::Words;
 use guest_memory::GuestMemory;
@@ -30,66 +30,69 @@ impl Windows {
     }
 
     // A new window that offers these features.
-    fn replace(&mut self, kind: DeviceKind, words: &mut Words<'_>) -> Result<(), Stuck> {
-        self.window = Window::new(kind, Features::from_bits_retain(words.u64()?));
-        Ok(())
+    fn replace(
+        &mut self,
+        kind: DeviceKind,
+        words: &mut Words<'_>,
+        answer: &mut String,
+    ) -> Result<(), Stuck> {
+        self.window = Window::new(kind, Features::from_bits_retain(words.u64()));
+        put_word(answer, "ok")
     }
 
     // Sets a byte of the configuration.
-    fn configure(&mut self, words: &mut Words<'_>) -> Result<(), Stuck> {
-        let at = usize::from(words.u16()?);
-        let byte = words.u8()?;
+    fn configure(&mut self, words: &mut Words<'_>, answer: &mut String) -> Result<(), Stuck> {
+        let at = usize::from(words.u16());
+        let byte = words.u8();
         if at >= CONFIGURATION_LEN {
             return Err(Stuck::Conditions);
         }
         self.config[at] = byte;
-        Ok(())
+        put_word(answer, "ok")
     }
 
     // Writes a register, and answers what is left for the device to do.
-    fn write(&mut self, words: &mut Words<'_>) -> Result<Action, Stuck> {
-        let offset = words.u16()?;
-        let width = words.u8()?;
-        let value = words.u32()?;
-        Ok(self.window.write(offset, width, value, &self.mem))
+    fn write(&mut self, words: &mut Words<'_>) -> Action {
+        let offset = words.u16();
+        let width = words.u8();
+        let value = words.u32();
+        self.window.write(offset, width, value, &self.mem)
     }
 
     // Reads a register.
-    fn read(&self, words: &mut Words<'_>) -> Result<u32, Stuck> {
-        let offset = words.u16()?;
-        let width = words.u8()?;
-        Ok(self.window.read(offset, width, &self.config))
+    fn read(&self, words: &mut Words<'_>) -> u32 {
+        let offset = words.u16();
+        let width = words.u8();
+        self.window.read(offset, width, &self.config)
     }
 }
 
 fn put_action(answer: &mut String, action: Action) -> Result<(), Stuck> {
     match action {
-        Action::Notify(queue) => write!(answer, "notify {queue:x}")?,
-        Action::Reset => answer.push_str("reset")?,
+        Action::Notify(queue) => written(write!(answer, "notify {queue:x}")),
+        Action::Reset => put_word(answer, "reset"),
         Action::ConfigWrite {
             offset,
             width,
             value,
-        } => write!(answer, "config {offset:x} {width:x} {value:x}")?,
-        Action::None => answer.push_str("nothing")?,
+        } => written(write!(answer, "config {offset:x} {width:x} {value:x}")),
+        Action::None => put_word(answer, "nothing"),
     }
-    Ok(())
 }
 
 impl Subject for Windows {
     fn call(&mut self, words: &mut Words<'_>, answer: &mut String) -> Result<(), Stuck> {
-        match words.word()? {
-            "block" => self.replace(DeviceKind::Block, words)?,
-            "console" => self.replace(DeviceKind::Console, words)?,
-            "configure" => self.configure(words)?,
-            "write" => return put_action(answer, self.write(words)?),
-            "read" => return put_number(answer, u64::from(self.read(words)?)),
+        match words.word() {
+            "block" => self.replace(DeviceKind::Block, words, answer),
+            "console" => self.replace(DeviceKind::Console, words, answer),
+            "configure" => self.configure(words, answer),
+            "write" => put_action(answer, self.write(words)),
+            "read" => put_number(answer, u64::from(self.read(words))),
             "negotiated" => {
                 let negotiated = self.window.negotiation().negotiated();
-                return put_number(answer, negotiated.bits());
+                put_number(answer, negotiated.bits())
             }
-            _ => return Err(Stuck::Words),
+            _ => Err(Stuck::Words),
         }
-        put_word(answer, "ok")
     }
 }

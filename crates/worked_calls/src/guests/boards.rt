@@ -4,7 +4,7 @@ ghost use Rattle.std.specs.Prelude.{All};
 ghost use Rattle.board.specs.Line.{HasInterruptWords};
 
 use super::Guests;
-use crate::answer::{put_flag, put_number, put_word};
+use crate::answer::{put_flag, put_number, put_word, written};
 use crate::subject::Stuck;
 use crate::words::Words;
 use board::{Board, BoardFault, Event, Image, Record, Refused, SlotSpec};
@@ -18,28 +18,27 @@ use trace::print_records;
 pub(super) type Made<'h, B> = Result<Board<ScriptedImage, &'h RefusingHeap<B>>, (BoardFault, bool)>;
 
 impl<'h, B: Allocator> Guests<'h, B> {
-    /// Makes a call of a board, if this word is one.
+    /// Makes a call of a board, or another one.
     pub(super) fn call_board(
         &mut self,
         word: &str,
         words: &mut Words<'_>,
         answer: &mut String,
-    ) -> Result<bool, Stuck> {
+    ) -> Result<(), Stuck> {
         match word {
-            "boards" => self.boards(words, answer)?,
-            "disturbed" => self.disturbed(words, answer)?,
-            "refuse_from" => self.refuse_from(words, answer)?,
-            "runs_alone" => self.runs(words, true, answer)?,
-            "runs_on" => self.runs(words, false, answer)?,
-            "record" => put_number(answer, size_of::<Record>() as u64)?,
-            _ => return Ok(false),
+            "boards" => self.boards(words, answer),
+            "disturbed" => self.disturbed(words, answer),
+            "refuse_from" => self.refuse_from(words, answer),
+            "runs_alone" => self.runs(words, true, answer),
+            "runs_on" => self.runs(words, false, answer),
+            "record" => put_number(answer, size_of::<Record>() as u64),
+            _ => self.call_snapshots(word, words, answer),
         }
-        Ok(true)
     }
 
     // From now on the nth request for memory of each event is refused, and those behind it.
     fn refuse_from(&mut self, words: &mut Words<'_>, answer: &mut String) -> Result<(), Stuck> {
-        self.refused = words.u64()?;
+        self.refused = words.u64();
         put_word(answer, "ok")
     }
 
@@ -66,14 +65,14 @@ impl<'h, B: Allocator> Guests<'h, B> {
         answer: &mut String,
     ) -> Result<(), Stuck> {
         self.board = None;
-        match self.made(words.u32()?)? {
+        match self.made(words.u32())? {
             Ok(board) => {
                 self.board = Some(board);
                 put_word(answer, "ok")
             }
             Err((why, same)) => {
-                write!(answer, "{why:?}")?;
-                put_word(answer, if same { "" } else { " and another image" })
+                let end = if same { "" } else { " and another image" };
+                written(write!(answer, "{why:?}{end}"))
             }
         }
     }
@@ -84,23 +83,39 @@ impl<'h, B: Allocator> Guests<'h, B> {
         event: Event<&'h RefusingHeap<B>>,
         answer: &mut String,
     ) -> Result<(), Stuck> {
-        let mut events = Vec::with_capacity(self.heap, 1)?;
-        events.push(event)?;
-        let board = self.board.as_mut().ok_or(Stuck::Conditions)?;
         let mut records = Vec::with_capacity(self.heap, 1)?;
-        self.heap.refuse_from(self.refused);
-        let is_done = run(board, &events, &mut records);
-        self.heap.refuse_from(0);
-        if !is_done {
+        if !self.run_one(event, &mut records)? {
             return Err(Stuck::NoMemory);
         }
         put_records(self.heap, &records, answer)
     }
 
+    // Handles it, and appends its record: whether there was room for that.
+    fn run_one(
+        &mut self,
+        event: Event<&'h RefusingHeap<B>>,
+        records: &mut Vec<Record<&'h RefusingHeap<B>>, &'h RefusingHeap<B>>,
+    ) -> Result<bool, Stuck>
+        requires { All HasInterruptWords records.old.items }
+        ensures { All HasInterruptWords records.new.items }
+    {
+        let mut events = Vec::with_capacity(self.heap, 1)?;
+        events.push(event)?;
+        let Some(board) = &mut self.board else {
+            return Err(Stuck::Conditions);
+        };
+        self.heap.refuse_from(self.refused);
+        let is_done = run(board, &events, records);
+        self.heap.refuse_from(0);
+        Ok(is_done)
+    }
+
     /// Whether a slot has met a refusal.
     fn disturbed(&self, words: &mut Words<'_>, answer: &mut String) -> Result<(), Stuck> {
-        let board = self.board.as_ref().ok_or(Stuck::Conditions)?;
-        match board.disturbed(words.u8()?) {
+        let Some(board) = &self.board else {
+            return Err(Stuck::Conditions);
+        };
+        match board.disturbed(words.u8()) {
             Some(flag) => put_flag(answer, flag),
             None => put_word(answer, "none"),
         }
@@ -109,7 +124,7 @@ impl<'h, B: Allocator> Guests<'h, B> {
     /// Makes the board with each request for memory refused, and those behind it: `ok` where each time it is refused for
     /// want of memory, the image comes back, and so does all memory; and where each slot takes some.
     fn boards(&self, words: &mut Words<'_>, answer: &mut String) -> Result<(), Stuck> {
-        let cache = words.u32()?;
+        let cache = words.u32();
         let used = self.local.used();
         let (_, requests) = self.refused_at(0, cache)?;
         for n in 1..=requests {

@@ -3,7 +3,7 @@
 ghost use Rattle.std.specs.Prelude.{◌≤◌, length};
 
 use super::Guests;
-use crate::answer::put_number;
+use crate::answer::{put_number, written};
 use crate::subject::Stuck;
 use crate::words::Words;
 use board::{Board, Event, Image, Record, Reply};
@@ -29,7 +29,7 @@ impl<'h, B: Allocator> Guests<'h, B> {
         alone: bool,
         answer: &mut String,
     ) -> Result<(), Stuck> {
-        let cache = words.u32()?;
+        let cache = words.u32();
         let ample = self.tried(cache, alone, 0)?;
         let (mut stops, mut lacks) = (0u64, 0u64);
         for n in 1..=ample.requests {
@@ -41,8 +41,7 @@ impl<'h, B: Allocator> Guests<'h, B> {
             stops = stops.saturating_add(u64::from(tried.has_stopped));
             lacks = lacks.saturating_add(found.unwrap_or(0));
         }
-        write!(answer, "{stops:x} stop, {lacks:x} without memory")?;
-        Ok(())
+        written(write!(answer, "{stops:x} stop, {lacks:x} without memory"))
     }
 
     // Runs the list with the nth request refused, and goes on from where it stops.

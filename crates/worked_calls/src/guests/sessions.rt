@@ -1,7 +1,7 @@
 //! A session, after whose making the heap refuses all.
 
 use super::Guests;
-use crate::answer::{put_bytes, put_number, put_result, put_word};
+use crate::answer::{put_bytes, put_number, put_result, put_word, written};
 use crate::subject::Stuck;
 use crate::words::Words;
 use board::{Event, EventKind};
@@ -13,31 +13,30 @@ use std::alloc::{Allocator, Global};
 const SHOWN: usize = 8;
 
 impl<'h, B: Allocator> Guests<'h, B> {
-    /// Makes a call of a session, if this word is one.
+    /// Makes a call of a session, or that of an event.
     pub(super) fn call_session(
         &mut self,
         word: &str,
         words: &mut Words<'_>,
         answer: &mut String,
-    ) -> Result<bool, Stuck> {
+    ) -> Result<(), Stuck> {
         match word {
-            "budget" => self.limit(words, answer)?,
-            "sessions" => self.sessions(words, answer)?,
-            "go_on" => self.go_on(words, answer)?,
-            "take" => self.take(words, answer)?,
-            "see" => self.see(words, answer)?,
-            "end" => self.end(answer)?,
-            "requests" => put_number(answer, self.heap.requests())?,
-            _ => return Ok(false),
+            "budget" => self.limit(words, answer),
+            "sessions" => self.sessions(words, answer),
+            "go_on" => self.go_on(words, answer),
+            "take" => self.take(words, answer),
+            "see" => self.see(words, answer),
+            "end" => self.end(answer),
+            "requests" => put_number(answer, self.heap.requests()),
+            _ => self.event(words.whole(), answer),
         }
-        Ok(true)
     }
 
     // Sets a limit of the budget: so many chains, or so many bytes.
     fn limit(&mut self, words: &mut Words<'_>, answer: &mut String) -> Result<(), Stuck> {
-        match words.word()? {
-            "chains" => self.budget.chains = Some(words.u32()?),
-            "bytes" => self.budget.bytes = Some(words.u64()?),
+        match words.word() {
+            "chains" => self.budget.chains = Some(words.u32()),
+            "bytes" => self.budget.bytes = Some(words.u64()),
             _ => return Err(Stuck::Words),
         }
         put_word(answer, "ok")
@@ -51,7 +50,7 @@ impl<'h, B: Allocator> Guests<'h, B> {
     ) -> Result<(), Stuck> {
         self.session = None;
         self.heap.refuse_from(0);
-        let made = self.session_of(words.u32()?);
+        let made = self.session_of(words.u32());
         self.heap.refuse_from(1);
         match made {
             Ok(session) => {
@@ -69,7 +68,7 @@ impl<'h, B: Allocator> Guests<'h, B> {
     /// Makes it with each request for memory refused, and those behind it: `ok` where each time it is refused for want of
     /// memory, and all memory comes back; and where each guest takes some.
     fn sessions(&mut self, words: &mut Words<'_>, answer: &mut String) -> Result<(), Stuck> {
-        let cache = words.u32()?;
+        let cache = words.u32();
         let used = self.local.used();
         let (_, requests) = self.session_refused(0, cache);
         for n in 1..=requests {
@@ -91,21 +90,27 @@ impl<'h, B: Allocator> Guests<'h, B> {
 
     /// Makes the call of an event.
     pub(super) fn call_event(&mut self, event: &Event, answer: &mut String) -> Result<(), Stuck> {
-        let session = self.session.as_mut().ok_or(Stuck::Conditions)?;
+        let Some(session) = &mut self.session else {
+            return Err(Stuck::Conditions);
+        };
         answer_event(self.alloc, session, event.slot, &event.what, answer)
     }
 
     /// Goes on with the paused service of a slot.
     fn go_on(&mut self, words: &mut Words<'_>, answer: &mut String) -> Result<(), Stuck> {
-        let session = self.session.as_mut().ok_or(Stuck::Conditions)?;
-        put_progress(answer, go_on(session, words.u8()?))
+        let Some(session) = &mut self.session else {
+            return Err(Stuck::Conditions);
+        };
+        put_progress(answer, go_on(session, words.u8()))
     }
 
     /// Takes as much of a slot's output as finds room: how many bytes, and the front of the room, at each place of which stood
     /// a dot.
     fn take(&mut self, words: &mut Words<'_>, answer: &mut String) -> Result<(), Stuck> {
-        let session = self.session.as_mut().ok_or(Stuck::Conditions)?;
-        let (slot, room) = (words.u8()?, words.u16()?);
+        let Some(session) = &mut self.session else {
+            return Err(Stuck::Conditions);
+        };
+        let (slot, room) = (words.u8(), words.u16());
         let mut bytes = vec![in self.alloc; b'.'; usize::from(room)]?;
         let Some(count) = take_output(session, slot, &mut bytes) else {
             return put_word(answer, "none");
@@ -116,8 +121,10 @@ impl<'h, B: Allocator> Guests<'h, B> {
 
     /// What can be seen of a slot: both interrupt words, what waits of its output, and whether a service of it is paused.
     fn see(&self, words: &mut Words<'_>, answer: &mut String) -> Result<(), Stuck> {
-        let session = self.session.as_ref().ok_or(Stuck::Conditions)?;
-        let slot = words.u8()?;
+        let Some(session) = &self.session else {
+            return Err(Stuck::Conditions);
+        };
+        let slot = words.u8();
         let (Some((block, console)), Some((first, second))) = (
             session.interrupts(slot),
             session.output(slot),
@@ -125,9 +132,7 @@ impl<'h, B: Allocator> Guests<'h, B> {
             return put_word(answer, "none");
         };
         write!(answer, "{block:x} {console:x} ")?;
-        let mut bytes = first.to_vec(self.alloc)?;
-        bytes.extend_from_slice(second)?;
-        put_bytes(self.alloc, answer, &bytes)?;
+        put_waiting(self.alloc, answer, first, second)?;
         put_word(
             answer,
             if session.is_paused(slot) {
@@ -140,10 +145,25 @@ impl<'h, B: Allocator> Guests<'h, B> {
 
     /// Ends the session and keeps its image: `ok` where that is as it was.
     fn end(&mut self, answer: &mut String) -> Result<(), Stuck> {
-        self.left = self.session.take().ok_or(Stuck::Conditions)?.into_image();
+        let Some(session) = self.session.take() else {
+            return Err(Stuck::Conditions);
+        };
+        self.left = session.into_image();
         let same = self.left.as_slice() == self.image.as_slice();
         put_word(answer, if same { "ok" } else { "another image" })
     }
+}
+
+// What waits of a slot's output, in two parts.
+fn put_waiting(
+    alloc: Global,
+    answer: &mut String,
+    first: &[u8],
+    second: &[u8],
+) -> Result<(), Stuck> {
+    let mut bytes = first.to_vec(alloc)?;
+    bytes.extend_from_slice(second)?;
+    put_bytes(alloc, answer, &bytes)
 }
 
 // What these calls promise isn't needed here, and is dear to prove of this heap.
@@ -187,11 +207,13 @@ fn answer_event<A: Allocator + Copy>(
             answer,
             session.write(slot, *window, *offset, *width, *value),
         ),
-        EventKind::MemRead { addr, len } => {
-            let mut bytes = vec![in alloc; b'.'; *len as usize]?;
-            let outcome = session.read_memory(slot, *addr, &mut bytes);
-            put_read(alloc, answer, outcome, &bytes)
-        }
+        EventKind::MemRead { addr, len } => read_memory(
+            alloc,
+            session,
+            slot,
+            (*addr, *len),
+            answer,
+        ),
         EventKind::MemWrite { addr, bytes } => {
             put_result(answer, session.write_memory(slot, *addr, bytes.as_slice()))
         }
@@ -201,13 +223,23 @@ fn answer_event<A: Allocator + Copy>(
     }
 }
 
+// Reads so many bytes from an address on, over dots.
+fn read_memory<A: Allocator + Copy>(
+    alloc: Global,
+    session: &mut Session<A>,
+    slot: u8,
+    (addr, len): (u64, u32),
+    answer: &mut String,
+) -> Result<(), Stuck> {
+    let mut bytes = vec![in alloc; b'.'; len as usize]?;
+    let outcome = session.read_memory(slot, addr, &mut bytes);
+    put_read(alloc, answer, outcome, &bytes)
+}
+
 // What a register gave, or the refusal.
 fn put_value(answer: &mut String, value: Result<u32, Refusal>) -> Result<(), Stuck> {
     match value {
-        Ok(value) => {
-            write!(answer, "{value:08x}")?;
-            Ok(())
-        }
+        Ok(value) => written(write!(answer, "{value:08x}")),
         Err(why) => put_result(answer, Err(why)),
     }
 }
@@ -215,19 +247,27 @@ fn put_value(answer: &mut String, value: Result<u32, Refusal>) -> Result<(), Stu
 // `ok`, or `more` where the service is paused, or the refusal.
 fn put_progress(answer: &mut String, progress: Result<Progress, Refusal>) -> Result<(), Stuck> {
     match progress {
-        Ok(Progress::More) => put_word(answer, "more"),
-        Ok(Progress::Done) => put_word(answer, "ok"),
+        Ok(progress) => put_word(answer, told(progress)),
         Err(why) => put_result(answer, Err(why)),
+    }
+}
+
+fn told(progress: Progress) -> &'static str {
+    match progress {
+        Progress::More => "more",
+        Progress::Done => "ok",
     }
 }
 
 // How many bytes were taken, and whether the service is paused.
 fn put_typed(answer: &mut String, typed: Result<Typed, Refusal>) -> Result<(), Stuck> {
-    if let Ok(typed) = typed {
-        let taken = typed.taken;
-        write!(answer, "{taken:x} ")?;
+    match typed {
+        Ok(Typed { taken, progress }) => {
+            let told = told(progress);
+            written(write!(answer, "{taken:x} {told}"))
+        }
+        Err(why) => put_result(answer, Err(why)),
     }
-    put_progress(answer, typed.map(|typed| typed.progress))
 }
 
 // The bytes that were read, or the refusal, behind which each is a dot still.

@@ -8,26 +8,27 @@ use board::{Board, Bytes, Event, EventKind, Image, RestoreFault};
 use std::alloc::{AllocError, Allocator};
 
 impl<'h, B: Allocator> Guests<'h, B> {
-    /// Makes a call of snapshots, if this word is one.
+    /// Makes a call of snapshots, or another one.
     pub(super) fn call_snapshots(
         &mut self,
         word: &str,
         words: &mut Words<'_>,
         answer: &mut String,
-    ) -> Result<bool, Stuck> {
+    ) -> Result<(), Stuck> {
         match word {
-            "save" => self.save(words, answer)?,
-            "restore" => self.restore(words, answer)?,
-            "restore_event" => self.restore_event(words, answer)?,
-            _ => return Ok(false),
+            "save" => self.save(words, answer),
+            "restore" => self.restore(words, answer),
+            "restore_event" => self.restore_event(words, answer),
+            _ => self.call_session(word, words, answer),
         }
-        Ok(true)
     }
 
     // The snapshot of a slot.
     fn save(&self, words: &mut Words<'_>, answer: &mut String) -> Result<(), Stuck> {
-        let board = self.board.as_ref().ok_or(Stuck::Conditions)?;
-        match saved(board, words.u8()?) {
+        let Some(board) = &self.board else {
+            return Err(Stuck::Conditions);
+        };
+        match saved(board, words.u8()) {
             Some(Ok(bytes)) => put_bytes(self.alloc, answer, &bytes),
             Some(Err(_)) => Err(Stuck::NoMemory),
             None => put_word(answer, "none"),
@@ -36,12 +37,14 @@ impl<'h, B: Allocator> Guests<'h, B> {
 
     // A slot takes up a snapshot.
     fn restore(&mut self, words: &mut Words<'_>, answer: &mut String) -> Result<(), Stuck> {
-        let slot = words.u8()?;
+        let slot = words.u8();
         let bytes = words.bytes(self.alloc)?;
-        if let Some(session) = self.session.as_mut() {
+        if let Some(session) = &mut self.session {
             return put_result(answer, session.restore(slot, &bytes));
         }
-        let board = self.board.as_mut().ok_or(Stuck::Conditions)?;
+        let Some(board) = &mut self.board else {
+            return Err(Stuck::Conditions);
+        };
         match restored(board, slot, &bytes) {
             Some(outcome) => put_result(answer, outcome),
             None => put_word(answer, "none"),
@@ -50,7 +53,7 @@ impl<'h, B: Allocator> Guests<'h, B> {
 
     // The event of that.
     fn restore_event(&mut self, words: &mut Words<'_>, answer: &mut String) -> Result<(), Stuck> {
-        let slot = words.u8()?;
+        let slot = words.u8();
         let from = words.bytes(self.alloc)?;
         if self.session.is_some() {
             let what = EventKind::Restore {

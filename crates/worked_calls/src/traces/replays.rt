@@ -12,7 +12,7 @@ use std::io::ErrorKind;
 impl Traces {
     /// Each request for memory is refused, alone or with all behind it, until a replay meets none: what the replays come to.
     pub(super) fn growths(&self, words: &mut Words<'_>, answer: &mut String) -> Result<(), Stuck> {
-        let lasts = !words.choice("alone", "on")?;
+        let lasts = !words.choice("alone", "on");
         let ample = self.replayed(NONE)?;
         let mut turns = Turns::new(self.alloc, false);
         for request in 1..u64::MAX {
@@ -25,14 +25,14 @@ impl Traces {
             if !found.has_refused {
                 break;
             }
-            turns.add(self.told(&found, &ample)?, answer)?;
+            self.tell(&found, &ample, &mut turns, answer)?;
         }
         turns.end(answer)
     }
 
     /// The reader fails once after each number of bytes.
     pub(super) fn readers(&self, words: &mut Words<'_>, answer: &mut String) -> Result<(), Stuck> {
-        let kind = match words.word()? {
+        let kind = match words.word() {
             "other" => ErrorKind::Other,
             "would_block" => ErrorKind::WouldBlock,
             "out_of_memory" => ErrorKind::OutOfMemory,
@@ -43,7 +43,7 @@ impl Traces {
         for len in 0..=self.text.len() {
             let read = Some((len, kind));
             let found = self.replayed(Trouble { read, ..NONE })?;
-            turns.add(self.told(&found, &ample)?, answer)?;
+            self.tell(&found, &ample, &mut turns, answer)?;
         }
         turns.end(answer)
     }
@@ -54,20 +54,18 @@ impl Traces {
         let mut turns = Turns::new(self.alloc, true);
         for room in 0..=ample.output.len() {
             let found = self.replayed(Trouble { room, ..NONE })?;
-            let is_full = found.output.len() == room;
-            let told = if is_full {
-                self.told(&found, &ample)?
+            if found.output.len() == room {
+                self.tell(&found, &ample, &mut turns, answer)?;
             } else {
-                String::from_str(self.alloc, "not full")?
-            };
-            turns.add(told, answer)?;
+                turns.add(String::from_str(self.alloc, "not full")?, answer)?;
+            }
         }
         turns.end(answer)
     }
 
     /// Each call of the writer fails, which takes so many bytes at a time.
     pub(super) fn writes(&self, words: &mut Words<'_>, answer: &mut String) -> Result<(), Stuck> {
-        let most = words.u32()? as usize;
+        let most = words.u32() as usize;
         let ample = self.replayed(NONE)?;
         let mut turns = Turns::new(self.alloc, true);
         for call in 0..u64::MAX {
@@ -77,12 +75,23 @@ impl Traces {
                 most,
                 ..NONE
             })?;
-            turns.add(self.told(&found, &ample)?, answer)?;
+            self.tell(&found, &ample, &mut turns, answer)?;
             if found.outcome.is_ok() {
                 break;
             }
         }
         turns.end(answer)
+    }
+
+    // One more replay, in words.
+    fn tell(
+        &self,
+        found: &Replayed,
+        ample: &Replayed,
+        turns: &mut Turns,
+        answer: &mut String,
+    ) -> Result<(), Stuck> {
+        turns.add(self.told(found, ample)?, answer)
     }
 
     /// Each call of the image fails: which of two guests sees it.

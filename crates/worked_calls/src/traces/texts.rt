@@ -2,7 +2,7 @@
 
 use super::Traces;
 use super::turns::Turns;
-use crate::answer::put_word;
+use crate::answer::{put_word, written};
 use crate::subject::Stuck;
 use crate::words::Words;
 use refusing::RefusingHeap;
@@ -17,8 +17,8 @@ impl Traces {
         words: &mut Words<'_>,
         answer: &mut String,
     ) -> Result<(), Stuck> {
-        let nth = words.u32()? as usize;
-        let line = words.rest()?.as_bytes();
+        let nth = words.u32() as usize;
+        let line = words.rest().as_bytes();
         let mut text = Vec::new(self.alloc);
         for (at, old) in self.text.split_inclusive(|byte| *byte == b'\n').enumerate() {
             if at.saturating_add(1) == nth {
@@ -34,10 +34,15 @@ impl Traces {
 
     /// The nth line.
     pub(super) fn shown(&self, words: &mut Words<'_>, answer: &mut String) -> Result<(), Stuck> {
-        let nth = words.u32()? as usize;
+        let nth = words.u32() as usize;
         let mut lines = self.text.split(|byte| *byte == b'\n');
-        let line = lines.nth(nth.saturating_sub(1)).ok_or(Stuck::Conditions)?;
-        put_word(answer, str::from_utf8(line).map_err(|_| Stuck::Conditions)?)
+        let Some(line) = lines.nth(nth.saturating_sub(1)) else {
+            return Err(Stuck::Conditions);
+        };
+        match str::from_utf8(line) {
+            Ok(line) => put_word(answer, line),
+            Err(_) => Err(Stuck::Conditions),
+        }
     }
 
     /// The text's fault. Where it is a trace, whether printing that gives the text.
@@ -56,25 +61,30 @@ impl Traces {
 
     // The text as a trace.
     fn trace(&self) -> Result<Trace, Stuck> {
-        read_trace(self.alloc, &self.text).map_err(|_| Stuck::Conditions)
+        match read_trace(self.alloc, &self.text) {
+            Ok(trace) => Ok(trace),
+            Err(_) => Err(Stuck::Conditions),
+        }
     }
 
     /// The nth slot, from 0 on.
     pub(super) fn slot(&self, words: &mut Words<'_>, answer: &mut String) -> Result<(), Stuck> {
-        let nth = words.u32()? as usize;
+        let nth = words.u32() as usize;
         let trace = self.trace()?;
-        let slot = trace.slots.get(nth).ok_or(Stuck::Conditions)?;
-        write!(answer, "{slot:?}")?;
-        Ok(())
+        match trace.slots.get(nth) {
+            Some(slot) => written(write!(answer, "{slot:?}")),
+            None => Err(Stuck::Conditions),
+        }
     }
 
     /// The nth event, from 0 on.
     pub(super) fn event(&self, words: &mut Words<'_>, answer: &mut String) -> Result<(), Stuck> {
-        let nth = words.u32()? as usize;
+        let nth = words.u32() as usize;
         let trace = self.trace()?;
-        let event = trace.events.get(nth).ok_or(Stuck::Conditions)?;
-        write!(answer, "{event:?}")?;
-        Ok(())
+        match trace.events.get(nth) {
+            Some(event) => written(write!(answer, "{event:?}")),
+            None => Err(Stuck::Conditions),
+        }
     }
 
     /// The text of the same trace in version 2 takes the text's place.
@@ -90,7 +100,7 @@ impl Traces {
         words: &mut Words<'_>,
         answer: &mut String,
     ) -> Result<(), Stuck> {
-        let alone = words.choice("alone", "on")?;
+        let alone = words.choice("alone", "on");
         let heap = RefusingHeap::new(self.alloc);
         let mut turns = Turns::new(self.alloc, false);
         for n in 1..u64::MAX {
@@ -133,10 +143,18 @@ fn printed<A: Allocator>(alloc: A, trace: &Trace<A>) -> Result<Option<Vec<u8, A>
 // A text's fault; and where it is a trace, whether that has this text.
 fn verdict(alloc: Global, text: &[u8]) -> Result<String, Stuck> {
     match read_trace(alloc, text) {
-        Ok(trace) => match printed(alloc, &trace)? {
-            Some(found) if found.as_slice() == text => Ok(String::from_str(alloc, "ok")?),
-            _ => Ok(String::from_str(alloc, "another text")?),
-        },
+        Ok(trace) => beside_text(alloc, &trace, text),
         Err(TraceFault { line, kind }) => Ok(format!(in alloc; "{line} {kind:?}")?),
     }
+}
+
+// Whether a trace has this text.
+fn beside_text(alloc: Global, trace: &Trace, text: &[u8]) -> Result<String, Stuck> {
+    let found = printed(alloc, trace)?;
+    let is_same = match &found {
+        Some(found) => found.as_slice() == text,
+        None => false,
+    };
+    let told = if is_same { "ok" } else { "another text" };
+    Ok(String::from_str(alloc, told)?)
 }

@@ -1,5 +1,6 @@
 //! Answers of one call after another.
 
+use crate::answer::written;
 use crate::subject::Stuck;
 use std::alloc::Global;
 
@@ -37,14 +38,12 @@ impl Turns {
         if self.count == 0 {
             return Ok(());
         }
-        if !answer.is_empty() {
-            answer.push_str(", ")?;
-        }
+        let Turns { last, count, .. } = self;
+        let separator = if answer.is_empty() { "" } else { ", " };
         if self.counts {
-            let count = self.count;
-            write!(answer, "{count:x} x ")?;
+            written(write!(answer, "{separator}{count:x} x {last}"))
+        } else {
+            written(write!(answer, "{separator}{last}"))
         }
-        answer.push_str(self.last.as_str())?;
-        Ok(())
     }
 }
