@@ -20,6 +20,4 @@ mod operation;
 mod pending;
 mod registers;
 mod saved;
-#[cfg(test)]
-mod tests;
 mod version;
