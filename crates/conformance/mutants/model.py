@@ -871,7 +871,8 @@ def record_of(slots, word, fields):
 
 def hosted_record_of(slots, word, fields):
     """A record, and behind it the operation that began with its event."""
-    slot = dict(enumerate(slots)).get(int(fields[0], 16))
+    number = int(fields[0], 16)
+    slot = slots[number] if number < len(slots) else None
     before = slot and slot.flight
     record = record_of(slots, word, fields)
     began = slot and slot.flight is not before and slot.flight
