@@ -869,13 +869,18 @@ def record_of(slots, word, fields):
     return f"{number:x} {reply} {spelled(output)} {slot.windows['b'].interrupts} {slot.windows['c'].interrupts}"
 
 
+def flight_of(slots, fields):
+    """What is in flight of the slot that an event names, or none."""
+    named = slots[int(fields[0], 16):]
+    return named[0].flight if named else None
+
+
 def hosted_record_of(slots, word, fields):
     """A record, and behind it the operation that began with its event."""
-    number = int(fields[0], 16)
-    slot = slots[number] if number < len(slots) else None
-    before = slot and slot.flight
+    before = flight_of(slots, fields)
     record = record_of(slots, word, fields)
-    began = slot and slot.flight is not before and slot.flight
+    now = flight_of(slots, fields)
+    began = now if now is not before else None
     return f"{record} {began or '-'}"
 
 
