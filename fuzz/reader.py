@@ -10,6 +10,7 @@ KINDS = ["Cut", "Header", "Word", "Order", "Fields", "Number", "Choice", "Bytes"
 # The fields of each line behind its first word. A number says how many bits it may have.
 LINES = {
     "cache": [32],
+    "hosted": [],
     "slot": [64, 64, 64, 64, "mode", 16, 16],
     "r": [8, "win", "off", "wid"],
     "w": [8, "win", "off", "wid", "val"],
@@ -18,15 +19,19 @@ LINES = {
     "in": [8, "bytes"],
     "sz": [8, 16, 16],
     "st": [8, "bytes"],
+    "io": [8, "verdict"],
 }
+
+# The words that stand in line 2, and nowhere else.
+SECOND = ["cache", "hosted"]
 
 # What stands behind them from version 2 on, and the words that only later versions have.
 ADDED = {"slot": ["identity"]}
-SINCE = {"st": 3}
+SINCE = {"hosted": 3, "st": 3, "io": 3}
 
 VERSIONS = {"vreplay 1": 1, "vreplay 2": 2, "vreplay 3": 3}
 
-CHOICES = {"win": ["b", "c"], "wid": ["1", "2", "4"], "mode": ["rw", "ro"]}
+CHOICES = {"win": ["b", "c"], "wid": ["1", "2", "4"], "mode": ["rw", "ro"], "verdict": ["done", "failed"]}
 
 
 def fault_of(text):
@@ -51,7 +56,7 @@ def fault_in(text, line, had_event, version):
     if line == 1:
         return None if text in VERSIONS else "Header"
     word, *fields = text.split(" ")
-    if word not in LINES or (word == "cache") != (line == 2) or version < SINCE.get(word, 1):
+    if word not in LINES or (word in SECOND) != (line == 2) or version < SINCE.get(word, 1):
         return "Word"
     if word == "slot" and had_event:
         return "Order"

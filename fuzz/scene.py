@@ -2,27 +2,34 @@
 import random
 
 from guests import IDENTITY_TEXT, MEMORIES, SECTOR, Guest, Slot, live
+from host import Host
 
 BASES = [0x80000000, 0x80000000, 0, 0x40000000, (1 << 64) - 0x10000]
 CACHES = [1, 2, 3, 8, 65536]
 WILDNESS = [0, 0, 0.1, 0.4, 0.8]
 STRANGERS = ["r {} b 000 4", "w {} b 070 4 00000000", "w {} c 050 4 00000000", "mr {} 80000000 4", "mw {} 80000000 ff"]
 
+# The share of the traces whose disks the host serves, where there may be any, and how often the host of a guest is late.
+HOSTED, LATE = 1 / 3, 0.7
+
 
 class Scene:
-    """Two to four guests on one board, each with a run of the image's sectors for its disk."""
+    """Two to four guests on one board, each with a run of the image's sectors for its disk. Where the host serves the disks,
+    they begin with the bytes of these runs."""
 
     GUESTS = 2, 5
     DISKS = 2 * [0, 1, 2, 4, 8] + [130]
 
-    def __init__(self, seed, offered):
+    def __init__(self, seed, offered, may_be_hosted=False):
         self.seed, dice = seed, random.Random(seed)
-        names = random.Random(f"identities {seed}")
-        self.version = names.choice([1, 2, 3])
+        names, hosts = random.Random(f"identities {seed}"), random.Random(f"hosts {seed}")
+        self.is_hosted = may_be_hosted and hosts.random() < HOSTED
+        self.version = 3 if self.is_hosted else names.choice([1, 2, 3])
         self.cache = dice.choice(CACHES)
         self.guests, start = [], dice.randrange(3)
         for _ in range(dice.randrange(*self.GUESTS)):
             length, count = dice.choice(MEMORIES), dice.choice(self.DISKS)
+            count = hosts.choice([count, 8]) if self.is_hosted else count
             base = min(dice.choice(BASES), (1 << 64) - length)
             identity = IDENTITY_TEXT if self.version == 1 else names.randbytes(20)
             slot = Slot(base, length, start, count, dice.random() < 0.2, dice.randrange(200), dice.randrange(100), identity)
@@ -31,7 +38,10 @@ class Scene:
         self.image = dice.randbytes(SECTOR * (start + dice.randrange(2)))
         for guest in self.guests:
             first = SECTOR * guest.slot.start
-            self.live(guest, offered, self.image[first:first + SECTOR * guest.slot.count], dice.randrange(100, 350))
+            disk = self.image[first:first + SECTOR * guest.slot.count]
+            self.live(guest, offered, disk, dice.randrange(100, 350))
+            if self.is_hosted:
+                Host(guest, disk, hosts, hosts.random() < LATE).serve()
         self.lines = list(self.interleaved(dice))
 
     def live(self, guest, offered, disk, count):
@@ -61,7 +71,8 @@ class Scene:
 
     def text(self, version, cache, guests, events):
         slots = [slot_line(self.guests[guest].slot, version) for guest in guests]
-        return "\n".join([f"vreplay {version}", f"cache {cache:x}"] + slots + events) + "\n"
+        second = "hosted" if self.is_hosted else f"cache {cache:x}"
+        return "\n".join([f"vreplay {version}", second] + slots + events) + "\n"
 
     def event(self, guest, number, slot):
         word, fields = self.guests[guest].events[number]

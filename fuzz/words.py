@@ -221,4 +221,9 @@ FAULTS = [
     (b"vreplay 1\ncache 1\nslot 0 1000 0 9 rw 50 19\n", "fault board ExtentOutside"),
     (b"vreplay 1\ncache 1\nslot 0 1000 0 2 rw 50 19\nslot 0 1000 1 1 rw 50 19\n", "fault board ExtentsOverlap"),
     (b"vreplay 1\ncache 0\nslot 0 1000 0 8 rw 50 19\n", "fault board BadCapacity"),
+    (b"vreplay 2\nhosted\n", "fault trace 2 Word"),
+    (b"vreplay 3\nhosted 1\n", "fault trace 2 Fields"),
+    (f"vreplay 3\nhosted\nslot 80000000 1000 0 8 rw 50 19 {NAMED}\nio 0 ok\n".encode(), "fault trace 4 Choice"),
+    (b"vreplay 3\nhosted\n", "fault board NoSlots"),
+    (f"vreplay 3\nhosted\nslot 80000000 1000 0 80000000000000 rw 50 19 {NAMED}\n".encode(), "fault board ExtentOutside"),
 ]

@@ -32,9 +32,31 @@ struct setup {
     uint32_t cache;
     const uint64_t *fails; /* the numbers of the image's calls that fail, for a device with calls of an image */
     size_t fails_len;
+    bool hosted; /* the trace serves the disks: there is no image */
 };
 
 enum { BLOCK_WINDOW = 0, CONSOLE_WINDOW = 1 };
+
+/* An operation on a disk that the host serves, and where its bytes lie (docs/model.md#asking). */
+struct operation {
+    enum { IN, OUT, FLUSH, ZEROES } kind;
+    bool stable;
+    uint64_t start, len;
+    size_t runs_len;
+    struct run {
+        uint64_t at, len;
+    } runs[256];
+};
+
+/* What a device has besides where a trace may serve its disks. */
+struct hosting {
+    /* As `write` of a device. False, and nothing changed: it waits for what is in flight. */
+    bool (*write)(unsigned guest, unsigned window, unsigned offset, unsigned width, uint32_t value);
+    /* Says of what is in flight of a guest that it was done or that it failed. False: nothing is. */
+    bool (*complete)(unsigned guest, bool failed);
+    /* The operation that began with the guest's last write or completion. False: none did. */
+    bool (*asked)(unsigned guest, struct operation *operation);
+};
 
 /* The device. What a write or an input notifies is served before the call returns. */
 struct device {
@@ -53,6 +75,10 @@ struct device {
      */
     const char *(*make)(const struct setup *setup);
     void (*end)(void);
+    /* Takes up a snapshot; "done", or "badstate" or "busy" where nothing changed. Null: the device takes none. */
+    const char *(*restore)(unsigned guest, const uint8_t *bytes, size_t len);
+    /* Null: no trace may serve the disks. */
+    const struct hosting *hosting;
 };
 
 /* The device that run.c drives, and that fuzz.c compares with the C library of this repository. */

@@ -32,7 +32,7 @@ static bool begin(const struct device *one, const struct trace *trace, uint8_t *
 {
     for (size_t i = 0; i < IMAGE; i++)
         image[i] = (uint8_t)(0x10 + i / 512);
-    struct setup setup = {trace->guests, trace->guests_len, image, IMAGE, trace->cache, NULL, 0};
+    struct setup setup = {trace->guests, trace->guests_len, image, IMAGE, trace->cache, NULL, 0, trace->hosted};
     return !one->make(&setup);
 }
 
@@ -61,6 +61,10 @@ static void replay_both(struct trace *trace)
     struct event event;
     while (read_event(trace, &event)) {
         ours.len = theirs.len = 0;
+        if (event.kind == RESTORE && !device.restore) {
+            free(event.bytes);
+            continue;
+        }
         replay_event(&kalyubos, trace, &event, &ours);
         replay_event(&device, trace, &event, &theirs);
         compare(&ours, &theirs);
@@ -116,7 +120,7 @@ int LLVMFuzzerTestOneInput(const uint8_t *bytes, size_t len)
 {
     static uint8_t images[2][IMAGE];
     struct trace trace;
-    if (!read_setup((const char *)bytes, len, &trace))
+    if (!read_setup((const char *)bytes, len, &trace) || (trace.hosted && !device.hosting))
         return -1;
     for (size_t i = 0; i < trace.guests_len; i++)
         if (trace.guests[i].len > MOST_MEMORY)

@@ -1,10 +1,7 @@
 #!/usr/bin/env python3
-"""The model of a board whose disks the host serves, with a host that serves each operation at once: called as mutants/model.py.
+"""The model's board whose disks the host serves, with a host that serves each operation at once: called as mutants/model.py.
 
-It is that model, but for these rules:
-- A service of a disk ends behind each request that asked for the disk: it is closed, and the queue is looked at again.
-- A read that failed has the used len 0, or 1 where only the status is writable.
-- A write and a WRITE_ZEROES end by a flush where the driver didn't negotiate FLUSH, and else by none.
+The host has the image behind the cache, and works sector by sector; an operation fails at the first call that does.
 """
 import os
 import sys
@@ -12,60 +9,49 @@ import sys
 sys.dont_write_bytecode = True
 sys.path.insert(0, os.path.join(os.path.dirname(os.path.abspath(__file__)), "..", "mutants"))
 import model
+from model import SECTOR
 
 
-class HostedSlot(model.Slot):
+class ServedSlot(model.HostedSlot):
     def serve(self, window, index):
-        if window != "b":
-            return super().serve(window, index)
-        while self.look():
-            pass
-        return b""
+        output = super().serve(window, index)
+        while self.flight:
+            self.complete(self.is_done(self.flight))
+        return output
 
-    def look(self):
-        """One service, up to the first chain that asks for the disk; whether there was one."""
-        window = self.windows["b"]
-        queue, fault, self.has_asked = window.queues[0], False, False
+    def is_done(self, asked):
+        """Does an operation; whether no call failed."""
+        kind, _, stable = asked.kind.partition("-")
         try:
-            queue.open(self.memory)
-            while not self.has_asked:
-                chain = queue.take(self.memory)
-                if chain is None:
-                    break
-                self.is_write = False
-                queue.give(self.memory, chain, *self.request(chain))
-        except model.Fault:
-            fault = True
-        if queue.close(self.memory):
-            window.interrupts |= 1
-        if fault:
-            window.status |= model.NEEDS_RESET
-            window.interrupts |= 2
-        return self.has_asked
+            getattr(self, "do_" + kind)(asked)
+            if stable:
+                self.cache.flush()
+        except model.ImageFails:
+            return False
+        return True
 
-    def read_sectors(self, chain, sector, count):
-        self.has_asked = True
-        status, written = super().read_sectors(chain, sector, count)
-        return status, written if status == model.OK else 0
+    def sectors(self, start, length):
+        """The image's sectors of so many bytes of the disk."""
+        return range(self.start + start // SECTOR, self.start + (start + length) // SECTOR)
 
-    def write_sectors(self, content, sector):
-        self.has_asked = self.is_write = True
-        return super().write_sectors(content, sector)
+    def do_in(self, asked):
+        for number, sector in enumerate(self.sectors(asked.start, asked.length)):
+            asked.chain.write(number * SECTOR, self.cache.read(sector))
 
-    def write_zeroes(self, chain, size):
-        self.is_write, before = True, self.cache.image.calls
-        status = super().write_zeroes(chain, size)
-        self.has_asked = self.has_asked or self.cache.image.calls > before
-        return status
+    def do_out(self, asked):
+        content = b"".join(self.memory.part(at, count) for at, count in asked.runs)
+        for number, sector in enumerate(self.sectors(asked.start, asked.length)):
+            self.cache.write(sector, content[number * SECTOR:(number + 1) * SECTOR])
 
-    def flush(self):
-        self.has_asked = True
-        if self.is_write and "flush" in self.windows["b"].negotiated():
-            return model.OK
-        return super().flush()
+    def do_zeroes(self, asked):
+        for sector in [sector for at, count in asked.runs for sector in self.sectors(at, count)]:
+            self.cache.zero(sector)
+
+    def do_flush(self, asked):
+        self.cache.flush()
 
 
-model.Slot = HostedSlot
+model.Slot = ServedSlot
 
 if __name__ == "__main__":
     sys.exit(model.main(sys.argv[1:]))

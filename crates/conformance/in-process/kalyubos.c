@@ -23,6 +23,9 @@ static struct kalyubos board;
 static uint8_t *image;
 static size_t image_len;
 
+/* Whether the trace serves the disks, and whether the last write or completion of a guest began an operation. */
+static bool hosted, began;
+
 enum { OUTLET = 1 << 20 /* more than a guest of the scenarios puts out by one event */ };
 
 /* Ends the program where a call doesn't answer what it must. */
@@ -69,7 +72,8 @@ static uint32_t create(const struct kalyubos_slot *slots, const struct setup *se
 
 static void take_image(void)
 {
-    must(kalyubos_read_image(&board, 0, image, image_len));
+    if (!hosted)
+        must(kalyubos_read_image(&board, 0, image, image_len));
 }
 
 static uint32_t serve_disk(unsigned guest, uint32_t answer, const struct kalyubos_pending *pending)
@@ -94,7 +98,8 @@ static const char *make(const struct setup *setup)
     }
     image = setup->image;
     image_len = setup->image_len;
-    return name_of(create(slots, setup));
+    hosted = setup->hosted;
+    return name_of(hosted ? kalyubos_create_hosted(&board, slots, setup->guests_len) : create(slots, setup));
 }
 
 static void end(void)
@@ -160,10 +165,62 @@ static void resize(unsigned guest, uint16_t cols, uint16_t rows)
     must(kalyubos_resize(&board, (uint8_t)guest, cols, rows, &pending));
 }
 
+static const char *restore(unsigned guest, const uint8_t *bytes, size_t len)
+{
+    static const uint8_t none[1];
+    struct kalyubos_pending pending;
+    switch (kalyubos_restore(&board, (uint8_t)guest, bytes ? bytes : none, len, &pending)) {
+    case KALYUBOS_DONE: return "done";
+    case KALYUBOS_BUSY: return "busy";
+    default: return "badstate";
+    }
+}
+
+/* --- a trace that serves the disks */
+
+static bool write_hosted(unsigned guest, unsigned window, unsigned offset, unsigned width, uint32_t value)
+{
+    struct kalyubos_pending pending;
+    uint32_t answer = kalyubos_write(&board, (uint8_t)guest, (uint8_t)window, (uint16_t)offset, (uint8_t)width, value, &pending);
+    began = answer == KALYUBOS_IO;
+    take_output(guest);
+    if (answer == KALYUBOS_BUSY)
+        return false;
+    must(began ? KALYUBOS_DONE : answer);
+    return true;
+}
+
+static bool complete(unsigned guest, bool failed)
+{
+    struct kalyubos_pending pending;
+    uint32_t answer = kalyubos_completed(&board, (uint8_t)guest, failed, &pending);
+    began = answer == KALYUBOS_IO;
+    if (answer == KALYUBOS_IDLE)
+        return false;
+    must(began ? KALYUBOS_DONE : answer);
+    return true;
+}
+
+static bool asked(unsigned guest, struct operation *operation)
+{
+    struct kalyubos_operation found;
+    struct kalyubos_run runs[KALYUBOS_RUNS];
+    if (!began)
+        return false;
+    must(kalyubos_operation(&board, (uint8_t)guest, &found, runs, KALYUBOS_RUNS));
+    *operation = (struct operation){.stable = found.stable, .start = found.start, .len = found.len, .runs_len = found.runs};
+    operation->kind = found.kind == KALYUBOS_IN ? IN : found.kind == KALYUBOS_OUT ? OUT : found.kind == KALYUBOS_FLUSH ? FLUSH : ZEROES;
+    for (size_t i = 0; i < found.runs; i++)
+        operation->runs[i] = (struct run){runs[i].at, runs[i].len};
+    return true;
+}
+
+static const struct hosting hosting = {write_hosted, complete, asked};
+
 #ifdef OURS
 extern const struct device kalyubos;
 #define NAME kalyubos
 #else
 #define NAME device
 #endif
-const struct device NAME = {read, write, memory, input, resize, make, end};
+const struct device NAME = {read, write, memory, input, resize, make, end, restore, &hosting};

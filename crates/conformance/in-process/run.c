@@ -48,7 +48,7 @@ static bool replay(struct trace *trace)
     struct text record = {0};
     struct event event;
     while (trace->events < trace->end) {
-        if (!read_event(trace, &event))
+        if (!read_event(trace, &event) || (event.kind == RESTORE && !device.restore))
             return false;
         record.len = 0;
         replay_event(&device, trace, &event, &record);
@@ -100,7 +100,11 @@ int main(int argc, char **argv)
         fputs("the text isn't a trace, or has more guests than its version may have\n", stderr);
         return 77;
     }
-    struct setup setup = {trace.guests, trace.guests_len, image, image_len, trace.cache, fails, fails_len};
+    if (trace.hosted && !device.hosting) {
+        fputs("no trace may serve the device's disks\n", stderr);
+        return 77;
+    }
+    struct setup setup = {trace.guests, trace.guests_len, image, image_len, trace.cache, fails, fails_len, trace.hosted};
     const char *fault = device.make(&setup);
     if (fault) {
         printf("fault board %s\n", fault);
@@ -109,7 +113,7 @@ int main(int argc, char **argv)
     bool replayed = replay(&trace);
     device.end();
     if (!replayed) {
-        fputs("the text isn't a trace\n", stderr);
+        fputs("the text isn't a trace, or has a restore that the device can't be asked\n", stderr);
         return 77;
     }
     if (saved)

@@ -118,20 +118,29 @@ static bool read_guest(const struct field *fields, bool named, struct guest *gue
     return good;
 }
 
+/* Line 2: the cache's capacity, or in version 3 that the host serves the disks. */
+static bool read_disks(struct field line, bool hosted_may_be, struct trace *trace)
+{
+    struct field fields[9];
+    uint64_t value = 0;
+    trace->hosted = hosted_may_be && is(line, "hosted");
+    if (!trace->hosted && (split(line.at, line.len, fields, 9) != 2 || !is(fields[0], "cache") || !number(fields[1], UINT32_MAX, &value)))
+        return false;
+    trace->cache = (uint32_t)value;
+    return true;
+}
+
 bool read_setup(const char *text, size_t len, struct trace *trace)
 {
     struct field line, fields[9];
     size_t most;
-    uint64_t value;
     *trace = (struct trace){.events = text, .end = text + len};
     if (!next_line(&trace->events, trace->end, &line) ||
         (!is(line, "vreplay 1") && !is(line, "vreplay 2") && !is(line, "vreplay 3")))
         return false;
-    bool named = !is(line, "vreplay 1");
-    if (!next_line(&trace->events, trace->end, &line) || split(line.at, line.len, fields, 9) != 2 ||
-        !is(fields[0], "cache") || !number(fields[1], UINT32_MAX, &value))
+    bool named = !is(line, "vreplay 1"), third = is(line, "vreplay 3");
+    if (!next_line(&trace->events, trace->end, &line) || !read_disks(line, third, trace))
         return false;
-    trace->cache = (uint32_t)value;
     most = named ? MOST_GUESTS : 16;
     for (const char *at = trace->events; next_line(&at, trace->end, &line); trace->events = at) {
         if (line.len < 5 || memcmp(line.at, "slot ", 5))
@@ -213,6 +222,15 @@ static bool read_fields(const struct field *fields, size_t count, struct event *
         event->rows = (uint16_t)other;
         return true;
     }
+    if (is(fields[0], "st") && count == 3) {
+        event->kind = RESTORE;
+        return read_bytes(fields[2], event);
+    }
+    if (is(fields[0], "io") && count == 3 && (is(fields[2], "done") || is(fields[2], "failed"))) {
+        event->kind = COMPLETE;
+        event->failed = is(fields[2], "failed");
+        return true;
+    }
     return false;
 }
 
@@ -272,7 +290,17 @@ static void reply(const struct device *device, const struct trace *trace, const 
                  (unsigned)device->read(event->guest, event->window, event->offset, event->width));
         break;
     case WRITE:
-        device->write(event->guest, event->window, event->offset, event->width, event->value);
+        if (!trace->hosted)
+            device->write(event->guest, event->window, event->offset, event->width, event->value);
+        else if (!device->hosting->write(event->guest, event->window, event->offset, event->width, event->value))
+            strcpy(word, "busy");
+        break;
+    case RESTORE:
+        strcpy(word, device->restore(event->guest, event->bytes, event->len));
+        break;
+    case COMPLETE:
+        if (!trace->hosted || !device->hosting->complete(event->guest, event->failed))
+            strcpy(word, "idle");
         break;
     case MEMORY_READ:
         look(device, trace, event, record);
@@ -291,6 +319,27 @@ static void reply(const struct device *device, const struct trace *trace, const 
     append_word(record, word);
 }
 
+/* The operation that began with the event, or that none did. */
+static void append_asked(const struct device *device, const struct event *event, struct text *record)
+{
+    static const char *const kinds[] = {"in", "out", "flush", "zeroes"};
+    static struct operation operation;
+    char word[64];
+    bool may_ask = event->kind == WRITE || event->kind == COMPLETE;
+    if (!may_ask || !device->hosting->asked(event->guest, &operation)) {
+        append_word(record, " -");
+        return;
+    }
+    snprintf(word, sizeof word, " %s%s:%llx:%llx:%s", kinds[operation.kind], operation.stable ? "-stable" : "",
+             (unsigned long long)operation.start, (unsigned long long)operation.len, operation.runs_len ? "" : "-");
+    append_word(record, word);
+    for (size_t i = 0; i < operation.runs_len; i++) {
+        snprintf(word, sizeof word, "%s%llx+%llx", i ? "," : "", (unsigned long long)operation.runs[i].at,
+                 (unsigned long long)operation.runs[i].len);
+        append_word(record, word);
+    }
+}
+
 void replay_event(const struct device *device, const struct trace *trace, const struct event *event,
                   struct text *record)
 {
@@ -298,14 +347,17 @@ void replay_event(const struct device *device, const struct trace *trace, const 
     snprintf(word, sizeof word, "%x ", event->guest);
     append_word(record, word);
     if (event->guest >= trace->guests_len) {
-        append_word(record, "badslot - 0 0\n");
+        append_word(record, trace->hosted ? "badslot - 0 0 -\n" : "badslot - 0 0\n");
         return;
     }
     output.len = 0;
     reply(device, trace, event, record);
     append_word(record, " ");
     append_bytes(record, (const uint8_t *)output.at, output.len);
-    snprintf(word, sizeof word, " %x %x\n", (unsigned)device->read(event->guest, BLOCK_WINDOW, 0x060, 4),
+    snprintf(word, sizeof word, " %x %x", (unsigned)device->read(event->guest, BLOCK_WINDOW, 0x060, 4),
              (unsigned)device->read(event->guest, CONSOLE_WINDOW, 0x060, 4));
     append_word(record, word);
+    if (trace->hosted)
+        append_asked(device, event, record);
+    append_word(record, "\n");
 }

@@ -8,6 +8,7 @@ enum { MOST_GUESTS = 64 };
 
 /* What stands before a trace's events. */
 struct trace {
+    bool hosted;
     uint32_t cache;
     struct guest guests[MOST_GUESTS];
     size_t guests_len;
@@ -16,7 +17,8 @@ struct trace {
 
 /* One event, with its bytes in `bytes`. */
 struct event {
-    enum { READ, WRITE, MEMORY_READ, MEMORY_WRITE, INPUT, RESIZE } kind;
+    enum { READ, WRITE, MEMORY_READ, MEMORY_WRITE, INPUT, RESIZE, RESTORE, COMPLETE } kind;
+    bool failed;
     unsigned guest, window, offset, width;
     uint64_t address;
     uint32_t value;

@@ -32,6 +32,21 @@ class NoSnapshot(Exception):
     """Bytes that are no snapshot which the slot takes up."""
 
 
+class Busy(Exception):
+    """An event that waits for what is in flight."""
+
+
+class Asks(Exception):
+    """A request that asks for the disk which the host serves: its operation, and the chain that is then in flight."""
+
+    def __init__(self, kind, start=0, length=0, runs=()):
+        self.kind, self.start, self.length, self.runs, self.chain = kind, start, length, runs, None
+
+    def __str__(self):
+        runs = ",".join(f"{at:x}+{count:x}" for at, count in self.runs)
+        return f"{self.kind}:{self.start:x}:{self.length:x}:{runs or '-'}"
+
+
 class Memory:
     def __init__(self, base, length):
         self.base, self.bytes = base, bytearray(length)
@@ -146,6 +161,16 @@ class Chain:
 
     def room(self):
         return sum(count for _, count, write in self.buffers if write)
+
+    def runs(self, kind, place, count):
+        """Where so many bytes from `place` on lie, of the buffers with this flag: parts of buffers, none of them empty."""
+        found = []
+        for at, length, write in self.buffers:
+            if write == kind:
+                part = min(max(0, length - place), count)
+                found += [(at + place, part)] if part else []
+                place, count = max(0, place - length), count - part
+        return found
 
     def write(self, place, new):
         """Writes over the writable places from `place` on."""
@@ -596,12 +621,16 @@ class Slot:
                     queue.give(self.memory, chain, 0, False)
         except Fault:
             fault = True
+        self.close(window, queue, fault)
+        return output
+
+    def close(self, window, queue, fault):
+        """The end of a service."""
         if queue.close(self.memory):
             self.windows[window].interrupts |= 1
         if fault:
             self.windows[window].status |= NEEDS_RESET
             self.windows[window].interrupts |= 2
-        return output
 
     # --- block device
 
@@ -611,6 +640,10 @@ class Slot:
         if room == 0:
             return 0, False
         status, written = self.perform(chain, chain.front(16), chain.count(), room - 1)
+        return self.answer(chain, room, status, written)
+
+    def answer(self, chain, room, status, written):
+        """The used len, and that a byte was written: the status."""
         chain.write(room - 1, bytes([status]))
         return room if written == room - 1 else written, True
 
@@ -631,7 +664,7 @@ class Slot:
         if kind == IN:
             return self.read_sectors(chain, sector, size // SECTOR)
         if kind == OUT:
-            return self.write_sectors(chain.readable()[16:], sector), 0
+            return self.write_sectors(chain, sector, size // SECTOR), 0
         if kind == FLUSH:
             return self.flush(), 0
         if kind == WRITE_ZEROES:
@@ -650,7 +683,8 @@ class Slot:
             written += SECTOR
         return OK, written
 
-    def write_sectors(self, content, sector):
+    def write_sectors(self, chain, sector, count):
+        content = chain.readable()[16:]
         try:
             for at in range(0, len(content), SECTOR):
                 self.cache.write(self.start + sector + at // SECTOR, content[at:at + SECTOR])
@@ -668,6 +702,9 @@ class Slot:
             return UNSUPP
         if any(count > 65536 or sector + count > self.count for sector, count, _ in segments):
             return IOERR
+        return self.zero(segments)
+
+    def zero(self, segments):
         zeroed = [sector + one for sector, count, _ in segments for one in range(count)]
         try:
             for sector in zeroed:
@@ -682,6 +719,10 @@ class Slot:
         except ImageFails:
             return IOERR
         return OK
+
+    def complete(self, went_well):
+        """Whether something was in flight."""
+        return False
 
     # --- console
 
@@ -704,6 +745,76 @@ class Slot:
         window.generation = (window.generation + 1) % 2**32
         if window.status & DRIVER_OK:
             window.interrupts |= 2
+
+
+class HostedSlot(Slot):
+    """A slot whose disk the host serves: a chain that asks for it is in flight until the host says what came of it."""
+
+    flight = None
+
+    def serve(self, window, index):
+        if window == "c":
+            return super().serve(window, index)
+        if not self.flight:
+            self.look()
+        return b""
+
+    def look(self):
+        """A service up to the first chain that asks; its queue stays open then."""
+        try:
+            super().serve("b", 0)
+        except Asks as asked:
+            self.flight = asked
+
+    def complete(self, went_well):
+        if not self.flight:
+            return False
+        asked, chain, queue = self.flight, self.flight.chain, self.windows["b"].queues[0]
+        self.flight = None
+        room = chain.room()
+        status = OK if went_well else IOERR
+        found = room - 1 if asked.kind == "in" and went_well else 0
+        queue.give(self.memory, chain, *self.answer(chain, room, status, found))
+        self.close("b", queue, False)
+        self.look()
+        return True
+
+    # --- what waits
+
+    def write(self, window, offset, width, value):
+        if self.flight and window == "b" and offset in (0x044, 0x070):
+            raise Busy
+        return super().write(window, offset, width, value)
+
+    def restore(self, content):
+        if self.flight:
+            raise Busy
+        super().restore(content)
+
+    # --- what is asked
+
+    def request(self, chain):
+        try:
+            return super().request(chain)
+        except Asks as asked:
+            asked.chain = chain
+            raise
+
+    def stable(self):
+        return "" if "flush" in self.windows["b"].negotiated() else "-stable"
+
+    def read_sectors(self, chain, sector, count):
+        raise Asks("in", sector * SECTOR, count * SECTOR, chain.runs(WRITE, 0, count * SECTOR))
+
+    def write_sectors(self, chain, sector, count):
+        raise Asks("out" + self.stable(), sector * SECTOR, count * SECTOR, chain.runs(0, 16, count * SECTOR))
+
+    def flush(self):
+        raise Asks("flush")
+
+    def zero(self, segments):
+        runs = [(sector * SECTOR, count * SECTOR) for sector, count, _ in segments if count]
+        raise Asks("zeroes" + self.stable(), 0, 0, runs)
 
 
 class BadBoard(Exception):
@@ -733,6 +844,14 @@ def board_of(slots, capacity, image, lacks, most=64):
     return [Slot(fields, cache, lacks) for fields in slots]
 
 
+def hosted_board_of(slots, lacks):
+    """The slots of a board whose disks the host serves. They are judged as empty ones; a disk that is too large wants a sector of
+    an image that has none."""
+    judged = [[base, length, 0, int(count > 2**55 - 1), *rest] for base, length, _, count, *rest in slots]
+    board_of(judged, 1, Image(b"", ()), lacks)
+    return [HostedSlot(fields, None, lacks) for fields in slots]
+
+
 def bytes_of(field):
     return b"" if field == "-" else bytes.fromhex(field)
 
@@ -750,12 +869,30 @@ def record_of(slots, word, fields):
     return f"{number:x} {reply} {spelled(output)} {slot.windows['b'].interrupts} {slot.windows['c'].interrupts}"
 
 
+def flight_of(slots, fields):
+    """What is in flight of the slot that an event names, or none."""
+    named = slots[int(fields[0], 16):]
+    return named[0].flight if named else None
+
+
+def hosted_record_of(slots, word, fields):
+    """A record, and behind it the operation that began with its event."""
+    before = flight_of(slots, fields)
+    record = record_of(slots, word, fields)
+    now = flight_of(slots, fields)
+    began = now if now is not before else None
+    return f"{record} {began or '-'}"
+
+
 def read(slot, window, offset, width):
     return f"v:{slot.read(window, int(offset, 16), int(width)):08x}", b""
 
 
 def write(slot, window, offset, width, value):
-    return "done", slot.write(window, int(offset, 16), int(width), int(value, 16))
+    try:
+        return "done", slot.write(window, int(offset, 16), int(width), int(value, 16))
+    except Busy:
+        return "busy", b""
 
 
 def memory_read(slot, address, length):
@@ -787,10 +924,17 @@ def restored(slot, content):
         slot.restore(bytes_of(content))
     except NoSnapshot:
         return "badstate", b""
+    except Busy:
+        return "busy", b""
     return "done", b""
 
 
-REPLIES = {"r": read, "w": write, "mr": memory_read, "mw": memory_write, "in": typed, "sz": resized, "st": restored}
+def completed(slot, verdict):
+    return "done" if slot.complete(verdict == "done") else "idle", b""
+
+
+REPLIES = {"r": read, "w": write, "mr": memory_read, "mw": memory_write, "in": typed, "sz": resized, "st": restored,
+           "io": completed}
 
 
 def replay(text, content, fails=(), lacks=(), fault_of=None):
@@ -802,13 +946,13 @@ def replay(text, content, fails=(), lacks=(), fault_of=None):
     lines = [line.split(" ") for line in text.decode("ascii").split("\n")[:-1]]
     slots = [[field if field in ("rw", "ro") else int(field, 16) for field in line[1:8]]
              + [bytes.fromhex(field) for field in line[8:]] for line in lines if line[0] == "slot"]
-    most = 16 if lines[0][1] == "1" else 64
+    most, is_hosted = 16 if lines[0][1] == "1" else 64, lines[1] == ["hosted"]
     try:
-        board = board_of(slots, int(lines[1][1], 16), image, lacks, most)
+        board = hosted_board_of(slots, lacks) if is_hosted else board_of(slots, int(lines[1][1], 16), image, lacks, most)
     except BadBoard as refused:
         return f"fault board {refused}\n", 1, image
-    events = lines[2 + len(slots):]
-    return "".join(record_of(board, word, fields) + "\n" for word, *fields in events), 0, image
+    events, told = lines[2 + len(slots):], hosted_record_of if is_hosted else record_of
+    return "".join(told(board, word, fields) + "\n" for word, *fields in events), 0, image
 
 
 def main(words):

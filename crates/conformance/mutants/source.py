@@ -58,6 +58,9 @@ class Model:
     def with_function(self, function, text):
         """The names of a model in which this text is the function's."""
         names, own = self.names(), {}
-        exec(compile(textwrap.dedent(text), MODEL, "exec"), names, own)
-        function.of(names).__code__ = own[function.name].__code__
+        if function.owner:
+            text = f"class {function.owner}:\n" + textwrap.indent(textwrap.dedent(text), "    ")
+        exec(compile(text, MODEL, "exec"), names, own)
+        changed = vars(own[function.owner])[function.name] if function.owner else own[function.name]
+        function.of(names).__code__ = changed.__code__
         return names

@@ -85,6 +85,9 @@ class Event:
     def say_st(self, data):
         return f"is restored from {bytes_in(data)} bytes"
 
+    def say_io(self, verdict):
+        return f"has its disk's operation {verdict}"
+
 
 def bytes_in(field):
     return 0 if field == "-" else len(field) // 2
@@ -98,7 +101,7 @@ def place(window, offset):
     return f"{REGISTERS.get(offset, f'offset {offset:03x}')} of its {WINDOWS[window]} window"
 
 
-COUNTS = {"r": 5, "w": 6, "mr": 4, "mw": 4, "in": 3, "sz": 4, "st": 3}
+COUNTS = {"r": 5, "w": 6, "mr": 4, "mw": 4, "in": 3, "sz": 4, "st": 3, "io": 3}
 
 
 def events_of(text):
@@ -130,13 +133,15 @@ def features_of(text, replies):
 
     They are the features that a driver takes or asks for (DriverFeatures), those that a device shows (the expected
     answers of DeviceFeatures), and those whose configuration fields are touched. Others are no bits: `offer`, all
-    offered features are read; `vendor`, VendorID is; `resize`, `input` and `restore`, the host does that; `guests`,
-    there are more than one; `ro`, a slot is read-only.
+    offered features are read; `vendor`, VendorID is; `resize`, `input` and `restore`, the host does that; `hosted`, it
+    serves the disks; `guests`, there are more than one; `ro`, a slot is read-only.
     """
     found = set()
     slots = slots_of(text)
     if len(slots) > 1:
         found.add("guests")
+    if "\nhosted\n" in text:
+        found.add("hosted")
     if any(len(fields) >= 5 and fields[4] == "ro" for fields in slots):
         found.add("ro")
     windows = {}
@@ -156,6 +161,8 @@ def features_in(event, reply, windows):
         return {"resize", "size"}
     if event.word == "st":
         return {"restore"}
+    if event.word == "io":
+        return {"hosted"}
     if event.word not in ("r", "w") or event.fields[2] not in WINDOWS:
         return set()
     name, offset, width = event.fields[2], int(event.fields[3], 16), event.fields[4]
@@ -175,7 +182,7 @@ def shown(name, offset, reply, window):
         return {"vendor"}
     if offset != 0x010:
         return set()
-    answer = reply.split(" ")[1] if reply.count(" ") == 4 else ""
+    answer = reply.split(" ")[1] if reply.count(" ") >= 4 else ""
     value = int(answer[2:], 16) if answer.startswith("v:") else 0
     return {"offer"} | named(name, value, window.device_selector)
 

@@ -1,0 +1,88 @@
+"""The host of a guest's disk in a hosted trace: what it does stands among the guest's events.
+
+The suite's small model says which operations there are. When the host does one, how much of it, and whether it fails come of
+dice: what it reads into memory are `mw` lines, and a completion is an `io` line.
+"""
+import os
+import sys
+
+sys.path.insert(0, os.path.join(os.path.dirname(os.path.dirname(os.path.abspath(__file__))), "crates", "conformance", "mutants"))
+import model
+
+# Before how many of the guest's events an operation is completed. Mostly it is before the next notify: a driver that never waits fills its ring.
+DELAYS = [0, 1, 2, 3, 5, 20, 60]
+NOTIFY = "b 050 "
+
+
+class Host:
+    """Serves one guest's disk: at once and always well, or late and not always well."""
+
+    def __init__(self, guest, disk, dice, is_late):
+        slot = guest.slot
+        fields = [slot.base, slot.length, 0, slot.count, "ro" if slot.read_only else "rw", slot.columns, slot.rows, slot.identity]
+        self.board = model.hosted_board_of([fields], ())
+        self.guest, self.disk, self.dice, self.is_late, self.due = guest, bytearray(disk), dice, is_late, 0
+        self.events, self.told = [], []
+
+    def flight(self):
+        return self.board[0].flight
+
+    def serve(self):
+        """The guest's events with the host's among them, and the model's records of them. A guest whose host is late relies on
+        nothing."""
+        expected = {}
+        for number, (word, fields) in enumerate(self.guest.events):
+            if word == "w" and fields.startswith(NOTIFY) and self.dice.random() < 0.7:
+                self.complete_all()
+            if number in self.guest.expected and not self.is_late:
+                expected[len(self.events)] = self.guest.expected[number]
+            if self.do(word, fields).startswith("busy ") and self.dice.random() < 0.9:
+                self.complete_all()
+                self.do(word, fields)
+            while self.flight() and self.due == 0:
+                self.complete()
+            self.due = max(0, self.due - 1)
+            if self.is_late and self.dice.random() < 0.01:
+                self.do("io", self.dice.choice(["done", "failed"]))
+        self.guest.events, self.guest.told, self.guest.expected = self.events, self.told, expected
+
+    def do(self, word, fields):
+        """Writes an event down; its record."""
+        record = model.hosted_record_of(self.board, word, ["0", *fields.split(" ")]).partition(" ")[2]
+        self.events.append((word, fields))
+        self.told.append(record)
+        if not record.endswith(" -"):
+            self.due = self.dice.choice(DELAYS) if self.is_late else 0
+        return record
+
+    def complete_all(self):
+        while self.flight():
+            self.complete()
+
+    def complete(self):
+        """Does what is in flight and says so, or a part of it and that it failed."""
+        asked, fails = self.flight(), self.is_late and self.dice.random() < 0.25
+        runs = asked.runs[:self.dice.randrange(len(asked.runs) + 1)] if fails else asked.runs
+        self.WAYS[asked.kind.partition("-")[0]](self, asked.start, runs)
+        self.do("io", "failed" if fails else "done")
+
+    # --- what is done, by its kind
+
+    def flush(self, start, runs):
+        pass
+
+    def zeroes(self, start, runs):
+        for at, count in runs:
+            self.disk[at:at + count] = bytes(count)
+
+    def out(self, start, runs):
+        for at, count in runs:
+            self.disk[start:start + count] = self.board[0].memory.part(at, count)
+            start += count
+
+    def read(self, start, runs):
+        for at, count in runs:
+            self.do("mw", f"{at:x} {self.disk[start:start + count].hex()}")
+            start += count
+
+    WAYS = {"in": read, "out": out, "flush": flush, "zeroes": zeroes}
