@@ -1,5 +1,5 @@
 //! The board: its slots, what events do to them, and the records of that.
-use crate::device::{Disk, MOST_SEGMENTS, MOST_ZEROES, Receive, Requests, SECTOR, Transmit};
+use crate::device::{Disk, Receive, Requests, Transmit, MOST_SEGMENTS, MOST_ZEROES, SECTOR};
 use crate::hex;
 use crate::memory::Memory;
 use crate::queue::Chain;
@@ -82,10 +82,13 @@ impl Board {
             return;
         };
         slot.step(event, fields, &mut self.image, records);
+        let [block, console] = [&slot.block, &slot.console].map(|window| b'0' + window.interrupts() as u8);
+        if slot.output.is_empty() {
+            return records.extend_from_slice(&[b' ', b'-', b' ', block, b' ', console, b'\n']);
+        }
         records.push(b' ');
         hex::spell(&slot.output, records);
         slot.output.clear();
-        let [block, console] = [&slot.block, &slot.console].map(|window| b'0' + window.interrupts() as u8);
         records.extend_from_slice(&[b' ', block, b' ', console, b'\n']);
     }
 }
@@ -102,7 +105,11 @@ fn judge(slot: &Description, before: &[Description], sectors: u64) -> Result<(),
         return Err(Refused::ExtentOutside);
     };
     let overlaps = |one: &Description| slot.start.max(one.start) < end.min(one.start + one.count);
-    if before.iter().any(overlaps) { Err(Refused::ExtentsOverlap) } else { Ok(()) }
+    if before.iter().any(overlaps) {
+        Err(Refused::ExtentsOverlap)
+    } else {
+        Ok(())
+    }
 }
 
 impl Slot {
@@ -126,9 +133,8 @@ impl Slot {
     fn step(&mut self, event: Event, fields: &[&[u8]], image: &mut [u8], reply: &mut Vec<u8>) {
         match event {
             Event::Read { access, .. } => {
-                reply.extend_from_slice(b" v:");
-                reply.extend_from_slice(&hex::word(self.read(access)));
-                return;
+                let [a, b, c, d, e, f, g, h] = hex::word(self.read(access));
+                return reply.extend_from_slice(&[b' ', b'v', b':', a, b, c, d, e, f, g, h]);
             }
             Event::Write { access, value, .. } => self.write(access, value, image),
             Event::MemRead { addr, len, .. } => return self.mem_read(addr, len, reply),

@@ -120,7 +120,11 @@ impl Requests<'_> {
         let range = |(sector, count, _): (u64, u32, u32)| {
             let len = SECTOR * count as usize;
             let start = self.sectors(sector, len)?;
-            if count <= MOST_ZEROES { Ok(start..start + len) } else { Err(Refused::IoErr) }
+            if count <= MOST_ZEROES {
+                Ok(start..start + len)
+            } else {
+                Err(Refused::IoErr)
+            }
         };
         let ranges = segments.map(range).collect::<Result<Vec<_>, _>>()?;
         ranges.into_iter().for_each(|range| self.image[range].fill(0));

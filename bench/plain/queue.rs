@@ -437,7 +437,8 @@ impl Queue {
         let place = |area: usize, (len, alignment): (u64, u64)| {
             memory.place(self.areas[area], len).filter(|_| self.areas[area] % alignment == 0)
         };
-        let (Some(descriptors), Some(driver), Some(device)) = (place(0, (16 * size, 16)), place(1, driver), place(2, device)) else {
+        let (Some(descriptors), Some(driver), Some(device)) = (place(0, (16 * size, 16)), place(1, driver), place(2, device))
+        else {
             return;
         };
         let (has_indirect, has_event_idx) = (features & INDIRECT_DESC != 0, features & EVENT_IDX != 0);

@@ -38,13 +38,35 @@ pub struct Access {
 
 #[derive(Clone, Copy)]
 pub enum Event {
-    Read { slot: u8, access: Access },
-    Write { slot: u8, access: Access, value: u32 },
-    MemRead { slot: u8, len: u32, addr: u64 },
+    Read {
+        slot: u8,
+        access: Access,
+    },
+    Write {
+        slot: u8,
+        access: Access,
+        value: u32,
+    },
+    MemRead {
+        slot: u8,
+        len: u32,
+        addr: u64,
+    },
     /// The byte fields are named by their places in the trace's list of them.
-    MemWrite { slot: u8, field: u32, addr: u64 },
-    Input { slot: u8, field: u32 },
-    Resize { slot: u8, cols: u16, rows: u16 },
+    MemWrite {
+        slot: u8,
+        field: u32,
+        addr: u64,
+    },
+    Input {
+        slot: u8,
+        field: u32,
+    },
+    Resize {
+        slot: u8,
+        cols: u16,
+        rows: u16,
+    },
 }
 
 impl Event {
@@ -168,44 +190,46 @@ impl<'a> Reader<'a> {
     /// A whole line of an event, if that comes; its bytes go to the fields.
     #[inline]
     fn event(&mut self, fields: &mut Vec<&'a [u8]>) -> Option<Event> {
-        let (word, rest) = match self.0 {
-            [b'r', b' ', rest @ ..] => (b"r ", rest),
-            [b'w', b' ', rest @ ..] => (b"w ", rest),
-            [b'm', b'r', b' ', rest @ ..] => (b"mr", rest),
-            [b'm', b'w', b' ', rest @ ..] => (b"mw", rest),
-            [b'i', b'n', b' ', rest @ ..] => (b"in", rest),
-            [b's', b'z', b' ', rest @ ..] => (b"sz", rest),
-            _ => return None,
-        };
-        self.0 = rest;
-        let slot = self.number(8)? as u8;
-        self.skip(b' ')?;
-        let event = match word {
-            b"r " => Event::Read { slot, access: self.access()? },
-            b"w " => {
-                let access = self.access()?;
+        let event = match self.0 {
+            [b'r', b' ', rest @ ..] => Event::Read { slot: self.slot(rest)?, access: self.access()? },
+            [b'w', b' ', rest @ ..] => {
+                let (slot, access) = (self.slot(rest)?, self.access()?);
                 self.skip(b' ')?;
                 Event::Write { slot, access, value: self.fixed(2 * usize::from(access.width))? }
             }
-            b"mr" => {
-                let addr = self.number(64)?;
+            [b'm', b'r', b' ', rest @ ..] => {
+                let (slot, addr) = (self.slot(rest)?, self.number(64)?);
                 self.skip(b' ')?;
                 Event::MemRead { slot, addr, len: self.number(32)? as u32 }
             }
-            b"mw" => {
-                let addr = self.number(64)?;
+            [b'm', b'w', b' ', rest @ ..] => {
+                let (slot, addr) = (self.slot(rest)?, self.number(64)?);
                 self.skip(b' ')?;
                 Event::MemWrite { slot, addr, field: self.bytes(fields)? }
             }
-            b"in" => Event::Input { slot, field: self.bytes(fields)? },
-            _ => {
-                let cols = self.number(16)? as u16;
+            [b'i', b'n', b' ', rest @ ..] => Event::Input { slot: self.slot(rest)?, field: self.bytes(fields)? },
+            [b's', b'z', b' ', rest @ ..] => {
+                let (slot, cols) = (self.slot(rest)?, self.number(16)? as u16);
                 self.skip(b' ')?;
                 Event::Resize { slot, cols, rows: self.number(16)? as u16 }
             }
+            _ => return None,
         };
         self.skip(b'\n')?;
         Some(event)
+    }
+
+    /// The slot behind a word.
+    #[inline]
+    fn slot(&mut self, fields: &'a [u8]) -> Option<u8> {
+        if let [digit, b' ', rest @ ..] = fields {
+            self.0 = rest;
+            return hex::value(*digit);
+        }
+        self.0 = fields;
+        let slot = self.number(8)? as u8;
+        self.skip(b' ')?;
+        Some(slot)
     }
 
     #[inline]
@@ -218,7 +242,7 @@ impl<'a> Reader<'a> {
     #[inline]
     fn number(&mut self, bits: u32) -> Option<u64> {
         let (mut value, mut count) = (0, 0);
-        while let Some(digit) = self.0.get(count).and_then(|&c| hex::value(c)) {
+        for digit in self.0.iter().map_while(|&c| hex::value(c)) {
             value = value << 4 | u64::from(digit);
             count += 1;
         }

@@ -150,7 +150,11 @@ impl Window {
 
     /// The features that are negotiated.
     fn negotiated(&self) -> u64 {
-        if self.status & FEATURES_OK != 0 { self.driver_features } else { 0 }
+        if self.status & FEATURES_OK != 0 {
+            self.driver_features
+        } else {
+            0
+        }
     }
 
     fn is_live(&self) -> bool {
@@ -159,7 +163,11 @@ impl Window {
 
     /// The queue that a write to QueueNotify names.
     pub fn notified(&self, value: u32) -> u32 {
-        if self.negotiated() & NOTIFICATION_DATA != 0 { value & 0xffff } else { value }
+        if self.negotiated() & NOTIFICATION_DATA != 0 {
+            value & 0xffff
+        } else {
+            value
+        }
     }
 
     /// Has a device serve a queue, where the window is live and the queue ready.
