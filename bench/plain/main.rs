@@ -3,7 +3,7 @@
 //! It serves all of docs/model.md and docs/formats.md over an image in memory, but for a cache, restores, disks that a host
 //! serves and `--in-place`. A trace that asks for one of these ends it with status 77.
 //!
-//! Built by `rustc -O --edition 2021 bench/plain/main.rs -o plain`, called as `plain TRACE IMAGE [--save FILE]`.
+//! Built by `rustc -O --edition 2021 -o plain bench/plain/main.rs`, called as `plain [TRACE IMAGE [--save FILE]]`.
 mod board;
 mod device;
 mod hex;
@@ -14,7 +14,7 @@ mod window;
 
 use board::Board;
 use std::ffi::OsString;
-use std::io::{self, Write};
+use std::io::{self, Read, Write};
 use std::process::ExitCode;
 use std::{env, fs};
 
@@ -45,13 +45,14 @@ impl End {
 }
 
 fn replay(words: &[OsString]) -> Result<(), End> {
-    let (trace, image, saved) = match words {
-        [trace, image] => (trace, image, None),
-        [trace, image, option, file] if option == "--save" => (trace, image, Some(file)),
+    let (text, image, saved) = match words {
+        [] => (standard_input(), Ok(vec![0; 8 * device::SECTOR]), None),
+        [trace, image] => (fs::read(trace), fs::read(image), None),
+        [trace, image, option, file] if option == "--save" => (fs::read(trace), fs::read(image), Some(file)),
         _ => return Err(End::Usage),
     };
-    let image = fs::read(image).ok().filter(|image| image.len() % device::SECTOR == 0).ok_or(End::Input)?;
-    let text = fs::read(trace).map_err(|_| End::Input)?;
+    let image = image.ok().filter(|image| image.len() % device::SECTOR == 0).ok_or(End::Input)?;
+    let text = text.map_err(|_| End::Input)?;
     let trace = text::read(&text).map_err(End::Trace)?;
     let mut board = Board::new(&trace, image).map_err(End::Board)?;
     run(&mut board, &trace, &mut io::stdout().lock()).map_err(|_| End::Output)?;
@@ -59,6 +60,12 @@ fn replay(words: &[OsString]) -> Result<(), End> {
         Some(file) => fs::write(file, board.image()).map_err(|_| End::Output),
         None => Ok(()),
     }
+}
+
+fn standard_input() -> io::Result<Vec<u8>> {
+    let mut text = Vec::new();
+    io::stdin().read_to_end(&mut text)?;
+    Ok(text)
 }
 
 /// Hands the events to the board, and writes their records.

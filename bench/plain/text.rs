@@ -36,37 +36,15 @@ pub struct Access {
     pub offset: u16,
 }
 
+/// An event of 16 bytes: a byte field is named by its place in the trace's list of them.
 #[derive(Clone, Copy)]
 pub enum Event {
-    Read {
-        slot: u8,
-        access: Access,
-    },
-    Write {
-        slot: u8,
-        access: Access,
-        value: u32,
-    },
-    MemRead {
-        slot: u8,
-        len: u32,
-        addr: u64,
-    },
-    /// The byte fields are named by their places in the trace's list of them.
-    MemWrite {
-        slot: u8,
-        field: u32,
-        addr: u64,
-    },
-    Input {
-        slot: u8,
-        field: u32,
-    },
-    Resize {
-        slot: u8,
-        cols: u16,
-        rows: u16,
-    },
+    Read { slot: u8, access: Access },
+    Write { slot: u8, access: Access, value: u32 },
+    MemRead { slot: u8, len: u32, addr: u64 },
+    MemWrite { slot: u8, field: u32, addr: u64 },
+    Input { slot: u8, field: u32 },
+    Resize { slot: u8, cols: u16, rows: u16 },
 }
 
 impl Event {
