@@ -1,7 +1,7 @@
 //! What `vreplay` does, in plain Rust: what a replay costs without proofs.
 //!
-//! It serves all of docs/model.md and docs/formats.md over an image in memory, but for a cache, restores, disks that a host
-//! serves and `--in-place`. A trace that asks for one of these ends it with status 77.
+//! It serves all of docs/model.md and docs/formats.md over an image in memory, which it reads and writes without a cache. Only
+//! restores, disks that a host serves and `--in-place` are left out: a trace that asks for one ends it with status 77.
 //!
 //! Built by `rustc -O --edition 2021 -o plain bench/plain/main.rs`, called as `plain [TRACE IMAGE [--save FILE]]`.
 mod board;
