@@ -1,5 +1,5 @@
 -- What a stop may leave, through one call of the cache after another, one request and one chain.
-use Rattle.std.proofs.Common.{◌≡◌, ℕ, zero, suc, ◌+◌, ◌*◌, ◌/◌, ◌<◌, ◌≤◌, Option, None, Some, List, [], ◌∷◌, ◌++◌, length, map, get_or, refl, sym, ap, subst, ◌∙◌, arith}
+use Rattle.std.proofs.Common.{◌≡◌, ℕ, suc, ◌+◌, ◌*◌, ◌<◌, ◌≤◌, Option, None, Some, List, [], ◌∷◌, ◌++◌, length, map, get_or, refl, sym, ap, subst, ◌∙◌, arith}
 use Rattle.std.specs.List.{range_with_len}
 use Rattle.std.specs.Prelude.{Bool, Contains, IfSome, true, false}
 use Rattle.std.proofs.lemmas.List.{get_or-map, length-map}
@@ -27,7 +27,7 @@ use Rattle.block_device.specs.Device.{block_device}
 use Rattle.block_device.specs.Durable.{IsCommitted}
 use Rattle.block_device.specs.Extent.{extent_disk}
 use Rattle.block_device.specs.Progress.{IsServable}
-use Rattle.block_device.specs.Request.{payload_of, request_of}
+use Rattle.block_device.specs.Request.{payload_of}
 use Rattle.block_device.specs.Serving.{site_at}
 use Rattle.block_device.specs.Touching.{GivesOver, device_over, on_image, sectors_of_chain, sectors_of_chains, seen_chain, seen_site, written_sectors}
 use Rattle.block_device.specs.Zeroes.{all_sectors, segments_in}

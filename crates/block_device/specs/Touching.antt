@@ -1,6 +1,6 @@
 -- What a stop within a request, as a loss of power, may leave of the disk: any bytes in the sectors that the request
 -- writes, be they old, new or torn. It touches no others.
-use Rattle.std.specs.Prelude.{◌≡◌, ℕ, zero, suc, ◌+◌, true, List, [], ◌∷◌, ◌++◌, length, map}
+use Rattle.std.specs.Prelude.{ℕ, zero, suc, ◌+◌, true, List, [], ◌∷◌, ◌++◌, length, map}
 use Rattle.std.specs.List.{range_with_len}
 use Rattle.chain.specs.Bytes.{readable_of, writable_of}
 use Rattle.chain.specs.Service.{Device, Given, Served, Site, after}

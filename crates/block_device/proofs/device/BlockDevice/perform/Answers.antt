@@ -1,7 +1,5 @@
-use Rattle.std.proofs.Common.{arith}
 use Rattle.block_device.proofs.Answering.{read_fits, write_fits, zeroes_fit, done_flushed, done_unflushed}
 use Rattle.chain.specs.Bytes.{readable_of}
-use Rattle.block_device.specs.Extent.{extent_disk}
 use Rattle.block_device.specs.Request.{payload_of}
 use Rattle.block_device.specs.Touching.{on_image, written_sectors}
 use Rattle.block_device.proofs.Touching.{own_write, own_zeroes, written_none}
