@@ -42,7 +42,8 @@ range-split a (suc n) k =
     ap (range_with_len a) more ∙ ap (λ l. a ∷ l) (range-split (a + 1) n k ∙ ap (λ b. range_with_len (a + 1) n ++ range_with_len b k) on)
 
 -- those of a run
-pub run-below : (a n capacity : ℕ) → a + n ≤ capacity → AllByRecursion (λ sector. sector < capacity) (range_with_len a n)
+pub run-below : (a n capacity : ℕ) → a + n ≤ capacity
+    → AllByRecursion (λ sector. sector < capacity) (range_with_len a n)
 run-below a zero capacity le = tt
 run-below a (suc n) capacity le = (omega arith, run-below (a + 1) n capacity (omega arith))
 
@@ -190,8 +191,10 @@ sectors-more payload n =
     ∙ ap (λ l. all_sectors (first_segments payload n) ++ l) (append-nil (sectors_of (segment_at payload n)))
 
 -- those of one segment are among them
-pub segment-listed : (payload : List ℕ) (n : ℕ) (segment : WriteZeroesSegment) → segment ≡ segment_at payload n → n < length payload / 16
-    → (sector : ℕ) → Contains (sectors_of segment) sector → Contains (all_sectors (segments_in payload)) sector
+pub segment-listed : (payload : List ℕ) (n : ℕ) (segment : WriteZeroesSegment)
+    → segment ≡ segment_at payload n → n < length payload / 16
+    → (sector : ℕ) → Contains (sectors_of segment) sector
+    → Contains (all_sectors (segments_in payload)) sector
 segment-listed payload n segment is below sector here =
     let count = length payload / 16 in
     let done : List ℕ = all_sectors (first_segments payload n) in

@@ -11,13 +11,16 @@ returns-clause-touches g c = λ device start at chains serves.
 
 pub returns-clause-known : goal.returns-clause-known
 returns-clause-known g c = λ device start at chains since sector bytes left serves only begins past other.
-    chains_known g.I.Image.disk g.I.Image.moment g.I.Image.may_leave g.I.Image.left_since device start at chains since sector left serves begins past other bytes only
+    chains_known g.I.Image.disk g.I.Image.moment g.I.Image.may_leave g.I.Image.left_since device start at
+    chains since sector left serves begins past other bytes only
 
 pub returns-clause-told : goal.returns-clause-told
 returns-clause-told g c = λ device start at chains since sector left serves clear begins past other.
-    chains_told g.I.Image.disk g.I.Image.moment g.I.Image.may_leave g.I.Image.left_since device start at chains since sector left serves begins past other (g.met.I.Image.durable start.state) clear
+    chains_told g.I.Image.disk g.I.Image.moment g.I.Image.may_leave g.I.Image.left_since device start at
+    chains since sector left serves begins past other (g.met.I.Image.durable start.state) clear
 
 pub returns-clause-lasts : goal.returns-clause-lasts
 returns-clause-lasts g c = λ device start at answered later since sector left serves committed begins past other.
-    chains_last g.I.Image.disk g.I.Image.moment g.I.Image.may_leave g.I.Image.left_since device start at answered later since sector left serves committed begins past other
+    chains_last g.I.Image.disk g.I.Image.moment g.I.Image.may_leave g.I.Image.left_since device start at
+    answered later since sector left serves committed begins past other
     (g.met.I.Image.durable answered.given.state)

@@ -26,18 +26,28 @@ returns-in-Err-clause-done g c =
     done_unflushed c.args.self.now.extent c.args.request c.args.chain.now c.args.mem.now (g.I.Image.disk c.args.cache.now) (g.I.Image.disk c.flush.new.self) c.in-Flush.is c.in-Err.ensures.err
 
 pub returns-in-Read-clause-own : goal.returns-in-Read-clause-own
-returns-in-Read-clause-own g c = written_none (on_image c.args.self.now.extent (written_sectors c.args.request (payload_of (readable_of c.args.mem.now c.args.chain.now)))) c.read_sectors.ensures.touches
+returns-in-Read-clause-own g c = written_none
+    (on_image c.args.self.now.extent (written_sectors c.args.request
+    (payload_of (readable_of c.args.mem.now c.args.chain.now)))) c.read_sectors.ensures.touches
 
 pub returns-in-Write-clause-own : goal.returns-in-Write-clause-own
 returns-in-Write-clause-own g c =
-    own_write c.args.self.now.extent c.args.request (payload_of (readable_of c.args.mem.now c.args.chain.now)) c.in-Write.sector c.in-Write.count c.in-Write.is c.write_sectors.ensures.touches
+    own_write c.args.self.now.extent c.args.request
+    (payload_of (readable_of c.args.mem.now c.args.chain.now)) c.in-Write.sector c.in-Write.count
+    c.in-Write.is c.write_sectors.ensures.touches
 
 pub returns-in-Ok-clause-own : goal.returns-in-Ok-clause-own
-returns-in-Ok-clause-own g c = written_none (on_image c.args.self.now.extent (written_sectors c.args.request (payload_of (readable_of c.args.mem.now c.args.chain.now)))) c.flush.ensures.touches
+returns-in-Ok-clause-own g c = written_none
+    (on_image c.args.self.now.extent (written_sectors c.args.request
+    (payload_of (readable_of c.args.mem.now c.args.chain.now)))) c.flush.ensures.touches
 
 pub returns-in-Err-clause-own : goal.returns-in-Err-clause-own
-returns-in-Err-clause-own g c = written_none (on_image c.args.self.now.extent (written_sectors c.args.request (payload_of (readable_of c.args.mem.now c.args.chain.now)))) c.flush.ensures.touches
+returns-in-Err-clause-own g c = written_none
+    (on_image c.args.self.now.extent (written_sectors c.args.request
+    (payload_of (readable_of c.args.mem.now c.args.chain.now)))) c.flush.ensures.touches
 
 pub returns-in-WriteZeroes-clause-own : goal.returns-in-WriteZeroes-clause-own
 returns-in-WriteZeroes-clause-own g c =
-    own_zeroes c.args.self.now.extent c.args.request (payload_of (readable_of c.args.mem.now c.args.chain.now)) c.in-WriteZeroes.segments c.in-WriteZeroes.is c.zero_segments.ensures.touches
+    own_zeroes c.args.self.now.extent c.args.request
+    (payload_of (readable_of c.args.mem.now c.args.chain.now)) c.in-WriteZeroes.segments
+    c.in-WriteZeroes.is c.zero_segments.ensures.touches

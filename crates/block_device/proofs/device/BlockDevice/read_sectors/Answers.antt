@@ -4,8 +4,11 @@ use Rattle.sector_cache.proofs.Stops.{touches_more, touches_none}
 use Rattle.block_device.proofs.device.BlockDevice.read_sectors.Goals as goal
 
 pub loop-done-init : goal.loop-done-init
-loop-done-init g c =
-    (reading_start c.args.chain.now c.args.mem.now (g.I.Image.disk c.args.cache.now) (c.args.self.now.extent.start + c.args.sector), touches_none 0 0)
+loop-done-init g c = (
+  reading_start c.args.chain.now c.args.mem.now (g.I.Image.disk c.args.cache.now)
+      (c.args.self.now.extent.start + c.args.sector),
+  touches_none 0 0,
+)
 
 pub loop-done-preserved : goal.loop-done-preserved
 loop-done-preserved g c =

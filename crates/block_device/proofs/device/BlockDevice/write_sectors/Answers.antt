@@ -17,8 +17,10 @@ loop-done-preserved g c = (
   writing_more (g.I.Image.disk c.args.cache.now) (g.I.Image.disk c.loop-done.cache) (g.I.Image.disk c.write.new.self) (c.args.self.now.extent.start + c.args.sector)
       c.args.count c.loop-done.done (readable_of c.args.mem.now c.args.chain.now) _ (g.met.I.Image.whole c.args.cache.now) c.loop-done.invariant.0
       c.loop-done-test.true c.requires.payload (omega arith) c.sector_at-bytes.ensures c.in-Ok.ensures.ok,
-  written_sector c.args.self.now.extent (range_with_len c.args.sector c.args.count) (c.args.sector + c.loop-done.done) (c.args.self.now.extent.start + c.args.sector + c.loop-done.done)
-      c.loop-done.invariant.1 (range_has c.args.sector c.args.count c.loop-done.done c.loop-done-test.true) (omega arith) c.write.ensures.touches,
+  written_sector c.args.self.now.extent (range_with_len c.args.sector c.args.count)
+      (c.args.sector + c.loop-done.done) (c.args.self.now.extent.start + c.args.sector + c.loop-done.done)
+      c.loop-done.invariant.1 (range_has c.args.sector c.args.count c.loop-done.done c.loop-done-test.true)
+      (omega arith) c.write.ensures.touches,
 )
 
 pub returns-in-Err-clause-done : goal.returns-in-Err-clause-done
@@ -53,11 +55,17 @@ returns-in-Err-flush-clause-calls g c =
 
 pub returns-in-Err-clause-touches : goal.returns-in-Err-clause-touches
 returns-in-Err-clause-touches g c =
-    written_sector c.args.self.now.extent (range_with_len c.args.sector c.args.count) (c.args.sector + c.loop-done.done) (c.args.self.now.extent.start + c.args.sector + c.loop-done.done)
-    c.loop-done.invariant.1 (range_has c.args.sector c.args.count c.loop-done.done c.loop-done-test.true) (omega arith) c.write.ensures.touches
+    written_sector c.args.self.now.extent (range_with_len c.args.sector c.args.count)
+    (c.args.sector + c.loop-done.done) (c.args.self.now.extent.start + c.args.sector + c.loop-done.done)
+    c.loop-done.invariant.1 (range_has c.args.sector c.args.count c.loop-done.done c.loop-done-test.true)
+    (omega arith) c.write.ensures.touches
 
 pub returns-in-Ok-flush-clause-touches : goal.returns-in-Ok-flush-clause-touches
-returns-in-Ok-flush-clause-touches g c = written_nothing (on_image c.args.self.now.extent (range_with_len c.args.sector c.args.count)) c.loop-done.invariant.1 c.flush.ensures.touches
+returns-in-Ok-flush-clause-touches g c = written_nothing
+    (on_image c.args.self.now.extent (range_with_len c.args.sector c.args.count)) c.loop-done.invariant.1
+    c.flush.ensures.touches
 
 pub returns-in-Err-flush-clause-touches : goal.returns-in-Err-flush-clause-touches
-returns-in-Err-flush-clause-touches g c = written_nothing (on_image c.args.self.now.extent (range_with_len c.args.sector c.args.count)) c.loop-done.invariant.1 c.flush.ensures.touches
+returns-in-Err-flush-clause-touches g c = written_nothing
+    (on_image c.args.self.now.extent (range_with_len c.args.sector c.args.count)) c.loop-done.invariant.1
+    c.flush.ensures.touches

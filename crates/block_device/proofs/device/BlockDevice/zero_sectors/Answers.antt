@@ -8,7 +8,11 @@ use Rattle.block_device.proofs.Touching.{range_has, unwritten, written_sector}
 use Rattle.block_device.proofs.device.BlockDevice.zero_sectors.Goals as goal
 
 pub loop-done-init : goal.loop-done-init
-loop-done-init g c = (zeroing_start c.args.self.now.extent (g.I.Image.disk c.args.cache.now), unwritten (on_image c.args.self.now.extent (sectors_of c.args.segment)))
+loop-done-init g c = (
+  zeroing_start c.args.self.now.extent (g.I.Image.disk c.args.cache.now),
+  unwritten
+      (on_image c.args.self.now.extent (sectors_of c.args.segment)),
+)
 
 pub loop-done-preserved : goal.loop-done-preserved
 loop-done-preserved g c =
@@ -18,8 +22,11 @@ loop-done-preserved g c =
           (zeroing_more c.args.self.now.extent (g.I.Image.disk c.args.cache.now) (g.I.Image.disk c.loop-done.cache) (g.I.Image.disk c.zero.new.self)
           (range_with_len sector done) (sector + done) _ c.loop-done.invariant.0 (g.met.I.Image.whole c.loop-done.cache) c.requires.lies
           (omega arith) (omega arith) c.in_ok-zero.ensures.ok),
-      written_sector c.args.self.now.extent (sectors_of c.args.segment) (c.args.segment.sector + c.loop-done.done) (c.args.self.now.extent.start + c.args.segment.sector + c.loop-done.done)
-          c.loop-done.invariant.1 (range_has c.args.segment.sector c.args.segment.count c.loop-done.done (omega arith)) (omega arith) c.zero.ensures.touches,
+      written_sector c.args.self.now.extent (sectors_of c.args.segment)
+          (c.args.segment.sector + c.loop-done.done)
+          (c.args.self.now.extent.start + c.args.segment.sector + c.loop-done.done)
+          c.loop-done.invariant.1 (range_has c.args.segment.sector c.args.segment.count c.loop-done.done
+          (omega arith)) (omega arith) c.zero.ensures.touches,
     )
 
 pub returns-in_err-zero-clause-err : goal.returns-in_err-zero-clause-err
@@ -44,5 +51,8 @@ returns-in_err-zero-clause-outside g c =
 
 pub returns-in_err-zero-clause-touches : goal.returns-in_err-zero-clause-touches
 returns-in_err-zero-clause-touches g c =
-    written_sector c.args.self.now.extent (sectors_of c.args.segment) (c.args.segment.sector + c.loop-done.done) (c.args.self.now.extent.start + c.args.segment.sector + c.loop-done.done)
-    c.loop-done.invariant.1 (range_has c.args.segment.sector c.args.segment.count c.loop-done.done (omega arith)) (omega arith) c.zero.ensures.touches
+    written_sector c.args.self.now.extent (sectors_of c.args.segment)
+    (c.args.segment.sector + c.loop-done.done)
+    (c.args.self.now.extent.start + c.args.segment.sector + c.loop-done.done)
+    c.loop-done.invariant.1 (range_has c.args.segment.sector c.args.segment.count c.loop-done.done
+    (omega arith)) (omega arith) c.zero.ensures.touches

@@ -15,14 +15,21 @@ zero_sectors-requires-clause-sectors g c =
     segment_within c.args.self.now.extent.count payload c.loop-index.index c.read-segment.result c.requires.sectors c.read-segment.ensures below
 
 pub loop-index-init : goal.loop-index-init
-loop-index-init g c = (zeroing_start c.args.self.now.extent (g.I.Image.disk c.args.cache.now), unwritten (on_image c.args.self.now.extent (all_sectors (segments_in (payload_of (readable_of c.args.mem.now c.args.chain.now))))))
+loop-index-init g c = (
+  zeroing_start c.args.self.now.extent (g.I.Image.disk c.args.cache.now),
+  unwritten
+      (on_image c.args.self.now.extent (all_sectors
+      (segments_in (payload_of (readable_of c.args.mem.now c.args.chain.now))))),
+)
 
 pub loop-index-preserved : goal.loop-index-preserved
 loop-index-preserved g c =
     let payload = payload_of (readable_of c.args.mem.now c.args.chain.now) in
     let below : c.loop-index.index < length payload / 16 = omega (arith, c.requires.payload) in (
-      zeroing_joins c.args.self.now.extent (g.I.Image.disk c.args.cache.now) (g.I.Image.disk c.loop-index.cache) (g.I.Image.disk c.zero_sectors.new.cache)
-          (payload_of (readable_of c.args.mem.now c.args.chain.now)) c.loop-index.index c.read-segment.result c.loop-index.invariant.0 c.read-segment.ensures
+      zeroing_joins c.args.self.now.extent (g.I.Image.disk c.args.cache.now)
+          (g.I.Image.disk c.loop-index.cache) (g.I.Image.disk c.zero_sectors.new.cache)
+          (payload_of (readable_of c.args.mem.now c.args.chain.now)) c.loop-index.index
+          c.read-segment.result c.loop-index.invariant.0 c.read-segment.ensures
           c.in-Ok.ensures.ok c.zero_sectors.ensures.outside,
       written_part c.args.self.now.extent (all_sectors (segments_in payload)) (sectors_of c.read-segment.result) c.loop-index.invariant.1
           (segment-listed payload c.loop-index.index c.read-segment.result c.read-segment.ensures below) c.zero_sectors.ensures.touches,
@@ -70,7 +77,13 @@ returns-in-Err-clause-touches g c =
     (segment-listed payload c.loop-index.index c.read-segment.result c.read-segment.ensures below) c.zero_sectors.ensures.touches
 
 pub returns-in-Ok-flush-clause-touches : goal.returns-in-Ok-flush-clause-touches
-returns-in-Ok-flush-clause-touches g c = written_nothing (on_image c.args.self.now.extent (all_sectors (segments_in (payload_of (readable_of c.args.mem.now c.args.chain.now))))) c.loop-index.invariant.1 c.flush.ensures.touches
+returns-in-Ok-flush-clause-touches g c = written_nothing
+    (on_image c.args.self.now.extent (all_sectors
+    (segments_in (payload_of (readable_of c.args.mem.now
+    c.args.chain.now))))) c.loop-index.invariant.1 c.flush.ensures.touches
 
 pub returns-in-Err-flush-clause-touches : goal.returns-in-Err-flush-clause-touches
-returns-in-Err-flush-clause-touches g c = written_nothing (on_image c.args.self.now.extent (all_sectors (segments_in (payload_of (readable_of c.args.mem.now c.args.chain.now))))) c.loop-index.invariant.1 c.flush.ensures.touches
+returns-in-Err-flush-clause-touches g c = written_nothing
+    (on_image c.args.self.now.extent (all_sectors
+    (segments_in (payload_of (readable_of c.args.mem.now
+    c.args.chain.now))))) c.loop-index.invariant.1 c.flush.ensures.touches
