@@ -97,21 +97,21 @@ course_more device budget left left' start m answered m' first queue taken queue
 -- none is on offer
 pub stops_spent : (device : BlockDevice) (budget left : Budget) (start m : Memory) (first queue last : Queue) (disk d : Disk) (failed : Bool)
     → IsInCourse device budget left start m first queue disk d failed → queue_kind.offers m queue ≡ false → last ≡ queue
-    → Stops device budget (site_of device start first disk) (site_of device m last d) (End None)
+    → Stops (block_device device) budget (site_of device start first disk) (site_of device m last d) (End None)
 stops_spent device budget left start m first queue last disk d failed h none same =
     piece_runs_out queue_kind (block_device device) budget left (site_of device start first disk) m queue last (extent_disk device.extent d) h.piece none same
 
 -- the chain on offer has a fault
 pub stops_by_fault : (device : BlockDevice) (budget left : Budget) (start m : Memory) (first queue last : Queue) (disk d : Disk) (failed : Bool) (fault : Fault)
     → IsInCourse device budget left start m first queue disk d failed → queue_kind.offers m queue ≡ true → queue_kind.HasFault m queue fault → last ≡ queue_kind.stopped queue
-    → Stops device budget (site_of device start first disk) (site_of device m last d) (End (Some fault))
+    → Stops (block_device device) budget (site_of device start first disk) (site_of device m last d) (End (Some fault))
 stops_by_fault device budget left start m first queue last disk d failed fault h offers has same =
     piece_runs_into queue_kind (block_device device) budget left (site_of device start first disk) m queue last (extent_disk device.extent d) fault h.piece offers has same
 
 -- nothing is left of the budget
 pub stops_paused : (device : BlockDevice) (budget left : Budget) (start m : Memory) (first queue last : Queue) (disk d : Disk) (failed : Bool) (buffers : List Buffer) (entry : Entry)
     → IsInCourse device budget left start m first queue disk d failed → IsSpent left → queue_kind.offers m queue ≡ true → queue_kind.Offers m queue buffers entry → last ≡ queue
-    → Stops device budget (site_of device start first disk) (site_of device m last d) Pause
+    → Stops (block_device device) budget (site_of device start first disk) (site_of device m last d) Pause
 stops_paused device budget left start m first queue last disk d failed buffers entry h spent offers offered same =
     piece_pauses queue_kind (block_device device) budget left (site_of device start first disk) m queue last (extent_disk device.extent d) buffers entry h.piece spent offers offered same
 

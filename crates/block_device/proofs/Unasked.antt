@@ -1,5 +1,5 @@
 -- A service of a disk that the host serves: its chains so far, and one in flight.
-use Rattle.std.proofs.Common.{◌≡◌, ℕ, ◌-◌, Bool, true, false, List, ◌∷◌, [], ◌++◌, length, refl, sym, ap, subst, ◌∙◌, arith}
+use Rattle.std.proofs.Common.{◌≡◌, ℕ, ◌-◌, Bool, true, false, List, ◌∷◌, [], ◌++◌, length, refl, sym, ap, ◌∙◌, arith}
 use Rattle.guest_memory.specs.Memory.{Memory, SameRange}
 use Rattle.guest_memory.proofs.Ranges.{same_trans}
 use Rattle.chain.specs.declared.segment.Buffer.{Buffer}
@@ -25,7 +25,6 @@ use Rattle.chain.specs.Buffers.{Good}
 use Rattle.mmio_window.specs.declared.stage.Stage.{Stage}
 use Rattle.mmio_window.specs.Pieces.{fault_at, opened_at}
 use Rattle.block_device.specs.declared.hosting.Asked.{Asked}
-use Rattle.block_device.specs.declared.hosting.Flight.{Flight}
 use Rattle.block_device.specs.Extent.{extent_disk}
 use Rattle.block_device.specs.Serving.{site_of}
 use Rattle.block_device.specs.Hosting.{AsksAt, FlightOutlasts, HonestHostServes, StopsAt, at_disk}

@@ -1,10 +1,11 @@
 -- Sectors that were zeroed so far, and what the request is once they all are, or once the image fails.
-use Rattle.std.proofs.Common.{◌≡◌, inl, inr, ℕ, zero, suc, ◌+◌, ◌-◌, ◌*◌, ◌/◌, ◌<◌, ◌≤◌, Bool, true, false, ◌&&◌, List, [], ◌∷◌, ◌++◌, length, map, take, drop, replicate, refl, sym, ap, ◌∙◌, arith, append_assoc, append-nil}
+use Rattle.std.proofs.Common.{◌≡◌, inl, inr, ℕ, zero, suc, ◌+◌, ◌-◌, ◌*◌, ◌/◌, ◌<◌, ◌≤◌, Bool, true, false, ◌&&◌, List, [], ◌∷◌, ◌++◌, length, map, take, drop, replicate, refl, sym, ap, ◌∙◌, arith, subst, append_assoc, append-nil}
 use Rattle.std.specs.List.{AllByRecursion, list_all, range_with_len}
 use Rattle.std.specs.Option.{option_map}
-use Rattle.std.specs.Prelude.{Option, Some, None}
+use Rattle.std.specs.Prelude.{Contains, Option, Some, None}
 use Rattle.std.proofs.lemmas.Bool.Decides.{nat_tests}
 use Rattle.std.proofs.lemmas.List.{length-replicate, map-append}
+use Rattle.std.proofs.lemmas.List.Elements.{Contains-append_left, Contains-append_right}
 use Rattle.std.proofs.lemmas.List.FromFn.{map-range_with_len_more}
 use Rattle.guest_memory.specs.Memory.{Memory}
 use Rattle.chain.specs.declared.segment.Buffer.{Buffer}
@@ -41,7 +42,8 @@ range-split a (suc n) k =
     ap (range_with_len a) more ∙ ap (λ l. a ∷ l) (range-split (a + 1) n k ∙ ap (λ b. range_with_len (a + 1) n ++ range_with_len b k) on)
 
 -- those of a run
-run-below : (a n capacity : ℕ) → a + n ≤ capacity → AllByRecursion (λ sector. sector < capacity) (range_with_len a n)
+pub run-below : (a n capacity : ℕ) → a + n ≤ capacity
+    → AllByRecursion (λ sector. sector < capacity) (range_with_len a n)
 run-below a zero capacity le = tt
 run-below a (suc n) capacity le = (omega arith, run-below (a + 1) n capacity (omega arith))
 
@@ -187,6 +189,22 @@ sectors-more payload n =
     ap all_sectors (map-range_with_len_more (segment_at payload) 0 n n (omega arith))
     ∙ flat-append (first_segments payload n) (segment_at payload n ∷ [])
     ∙ ap (λ l. all_sectors (first_segments payload n) ++ l) (append-nil (sectors_of (segment_at payload n)))
+
+-- those of one segment are among them
+pub segment-listed : (payload : List ℕ) (n : ℕ) (segment : WriteZeroesSegment)
+    → segment ≡ segment_at payload n → n < length payload / 16
+    → (sector : ℕ) → Contains (sectors_of segment) sector
+    → Contains (all_sectors (segments_in payload)) sector
+segment-listed payload n segment is below sector here =
+    let count = length payload / 16 in
+    let done : List ℕ = all_sectors (first_segments payload n) in
+    let rest : List WriteZeroesSegment = map (segment_at payload) (range_with_len (n + 1) (count - n - 1)) in
+    let own : List ℕ = sectors_of (segment_at payload n) in
+    let all : all_sectors (segments_in payload) ≡ done ++ (own ++ all_sectors rest) =
+    ap all_sectors (segments-at payload n count below) ∙ flat-append (first_segments payload n) (segment_at payload n ∷ rest) in
+    subst (λ (sectors : List ℕ). Contains sectors sector) (sym all)
+    (Contains-append_right done (own ++ all_sectors rest) sector
+    (Contains-append_left own (all_sectors rest) sector (subst (λ (s : WriteZeroesSegment). Contains (sectors_of s) sector) is here)))
 
 -- one segment more
 pub zeroing_joins : (extent : Extent) (old d d' : Disk) (payload : List ℕ) (n : ℕ) (segment : WriteZeroesSegment) → IsZeroing extent old d (all_sectors (first_segments payload n))

@@ -68,7 +68,7 @@ pub record AsksAt (device : BlockDevice) (stage : Stage) (old new : Site Queue D
 
 abbrev pub LeavesAt : BlockDevice → Stage → Budget → Site Queue Disk → Site Queue Disk → List Buffer → Leaving → Type 0
 LeavesAt device stage budget old new buffers (leaving.Asks asked) = AsksAt device stage old new buffers asked
-LeavesAt device stage budget old new buffers (leaving.Plain left) = LeavesQueue device stage budget old new left
+LeavesAt device stage budget old new buffers (leaving.Plain left) = LeavesQueue (block_device device) stage budget old new left
 
 -- whether the driver can't flush (5.2.6.2): its writes are stable once they are completed
 abbrev pub wants_stable : WindowState → Bool

@@ -9,4 +9,5 @@ pub mod Outcome
 pub mod Progress
 pub mod Request
 pub mod Serving
+pub mod Touching
 pub mod Zeroes

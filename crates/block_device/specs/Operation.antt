@@ -10,7 +10,7 @@ use Rattle.block_device.specs.declared.operation.Operation.{Operation}
 use Rattle.block_device.specs.declared.operation.OperationKind.{OperationKind}
 use Rattle.block_device.specs.declared.operation.OperationKind.TheVariants as kind
 use Rattle.block_device.specs.declared.request.Request.{Request}
-use Rattle.block_device.specs.declared.request.Request.TheVariants.{Rejected, Read, Write, Flush, GetId, WriteZeroes}
+use Rattle.block_device.specs.declared.request.Request.TheVariants.{Read, Write, WriteZeroes}
 use Rattle.block_device.specs.declared.zeroes.WriteZeroesSegment.{WriteZeroesSegment}
 use Rattle.block_device.specs.Extent.{sector_len}
 use Rattle.block_device.specs.Request.{payload_of}

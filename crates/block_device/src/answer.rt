@@ -3,13 +3,15 @@
 ghost use Rattle.std.specs.Prelude.{◌≡◌, ◌<◌, true, length};
 ghost use Rattle.guest_memory.specs.Memory.{SameRange};
 ghost use Rattle.chain.specs.Buffers.{Good};
-ghost use Rattle.chain.specs.Bytes.{writable_of};
+ghost use Rattle.chain.specs.Bytes.{readable_of, writable_of};
 ghost use Rattle.chain.specs.Service.{Does};
+ghost use Rattle.sector_cache.specs.Stop.{TouchesSectors};
 ghost use Rattle.block_device.specs.Asking.{Begins, IsAsked, used_by, with_status};
 ghost use Rattle.block_device.specs.Device.{block_device};
 ghost use Rattle.block_device.specs.Extent.{CallsWithin, IsWithin, TouchesExtent, extent_disk};
-ghost use Rattle.block_device.specs.Request.{code_of};
+ghost use Rattle.block_device.specs.Request.{code_of, payload_of};
 ghost use Rattle.block_device.specs.Progress.{IsDone};
+ghost use Rattle.block_device.specs.Touching.{on_image, sectors_of_chain, written_sectors};
 
 use crate::device::BlockDevice;
 use crate::request::{ID_LEN, Request, RequestStatus};
@@ -75,6 +77,12 @@ impl BlockDevice {
             (extent_disk self.now.extent (I.disk cache.old))
             (extent_disk self.now.extent (I.disk cache.new)) result.len result.wrote }
         ensures calls { CallsWithin self.now.extent result.failed (I.disk cache.old) (I.disk cache.new) }
+
+        // At each moment only the sectors of its request are touched.
+        ensures own { TouchesSectors I.moment I.may_leave I.left_since
+            (sectors_of_chain self.now (readable_of mem.old chain.now) (length (writable_of chain.now)))
+            cache.old cache.new }
+
         ensures touches { TouchesExtent I.moment I.may_leave I.left_since self.now.extent cache.old cache.new }
         ensures range { SameRange mem.old mem.new }
     {
@@ -133,7 +141,9 @@ impl BlockDevice {
             (extent_disk self.now.extent (I.disk cache.new)) result.len result.status }
         ensures room { result.len < length (writable_of chain.now) }
         ensures calls { CallsWithin self.now.extent result.failed (I.disk cache.old) (I.disk cache.new) }
-        ensures touches { TouchesExtent I.moment I.may_leave I.left_since self.now.extent cache.old cache.new }
+        ensures own { TouchesSectors I.moment I.may_leave I.left_since
+            (on_image self.now.extent (written_sectors request (payload_of (readable_of mem.old chain.now))))
+            cache.old cache.new }
         ensures range { SameRange mem.old mem.new }
     {
         match request {

@@ -1,10 +1,12 @@
 //! Laws of the definitions. The bodies are empty: each contract is a theorem.
 
-ghost use Rattle.std.specs.Prelude.{◌≡◌, ◌≢◌, ◌⊎◌, ℕ, ◌+◌, ◌≤◌, Bool, true, false, List, ◌∷◌, None, Some, length};
+ghost use Rattle.std.specs.Prelude.{◌≡◌, ◌≢◌, ◌⊎◌, ℕ, ◌+◌, ◌≤◌, Bool, Contains, IfSome, true, false, List, ◌∷◌, None, Some, length, map};
 ghost use Rattle.std.specs.List.{slice_get};
 ghost use Rattle.chain.specs.Pieces.{GoesInPieces, IsOneService, Pause};
-ghost use Rattle.chain.specs.Service.{Ending, Given, IsService, Refused, Served, ServesAll, Site, open_site};
+ghost use Rattle.chain.specs.Service.{Ending, Given, IsService, Refused, Served, ServesAll, Site, after, open_site};
 ghost use Rattle.sector_cache.specs.Disk.{Disk, IsWhole, KeepsClear};
+ghost use Rattle.sector_cache.specs.Sector.{sector_of};
+ghost use Rattle.sector_cache.specs.Stop.{BeginsAt, Only, TouchesSectors};
 ghost use Rattle.mmio_window.specs.declared.queue.Queue.{Queue};
 ghost use Rattle.mmio_window.specs.Queue.{queue_kind};
 ghost use Rattle.block_device.specs.declared.device.BlockDevice.{BlockDevice};
@@ -13,6 +15,9 @@ ghost use Rattle.block_device.specs.Durable.{Completion, IsCommitted, IsUnwritte
 ghost use Rattle.block_device.specs.Extent.{SameSectors};
 ghost use Rattle.block_device.specs.Hosting.{FlightOutlasts, HonestHostServes};
 ghost use Rattle.block_device.specs.Outcome.{Completes, Ends};
+ghost use Rattle.block_device.specs.Touching.{device_over, sectors_of_chains, seen_chain, seen_site};
+
+use sector_cache::Image;
 
 /// A chain is served exactly as over an image that never fails, or one failure more is counted.
 pub fn one_failure_at_most()
@@ -80,6 +85,46 @@ pub fn an_answered_write_is_flushed()
         → ServesAll queue_kind (block_device device) start (answered ∷ later) at
         → IsCommitted device start.memory answered → at.state.failures ≡ answered.given.state.failures
         → at.state.mark ≡ false }
+{}
+
+/// A stop at any moment within chains that are served over an image one after another, whatever failed: only the sectors of
+/// their requests are touched (`touches`). Each other sector is left as before them: where a stop could then leave certain
+/// bytes alone, it leaves theirs (`known`), and where the mark was clear, what was told (`told`). So what an OUT, FLUSH or
+/// WRITE_ZEROES that was answered OK has left stands, at any moment, until a later request writes that sector (`lasts`). In
+/// the sectors of a request itself any bytes may stand, be they old, new or torn. The chains are those that the device
+/// serves over the extent as a disk (`served`). It rests on an image that records what a stop might have left.
+pub fn a_cut_request_touches_its_own_sectors<I: Image>()
+    ensures served { (device : BlockDevice) (start at : Site Queue I) (chains : List (Served I))
+        → ServesAll queue_kind (device_over I.disk I.moment I.may_leave I.left_since device) start chains at
+        → ServesAll queue_kind (block_device device) (seen_site I.disk device start)
+        (map (seen_chain I.disk device) chains) (seen_site I.disk device at) }
+    ensures touches { (device : BlockDevice) (start at : Site Queue I) (chains : List (Served I))
+        → ServesAll queue_kind (device_over I.disk I.moment I.may_leave I.left_since device) start chains at
+        → TouchesSectors I.moment I.may_leave I.left_since
+        (sectors_of_chains I.disk I.moment I.may_leave I.left_since device start chains) start.state at.state }
+    ensures known { (device : BlockDevice) (start at : Site Queue I) (chains : List (Served I))
+        (since sector : ℕ) (bytes left : List ℕ)
+        → ServesAll queue_kind (device_over I.disk I.moment I.may_leave I.left_since device) start chains at
+        → Only bytes (I.may_leave start.state)
+        → BeginsAt (I.may_leave start.state) (I.left_since start.state) since → I.left_since at.state since left
+        → ¬ Contains (sectors_of_chains I.disk I.moment I.may_leave I.left_since device start chains) sector
+        → sector_of left sector ≡ sector_of bytes sector }
+    ensures told { (device : BlockDevice) (start at : Site Queue I) (chains : List (Served I))
+        (since sector : ℕ) (left : List ℕ)
+        → ServesAll queue_kind (device_over I.disk I.moment I.may_leave I.left_since device) start chains at
+        → (I.disk start.state).mark ≡ false
+        → BeginsAt (I.may_leave start.state) (I.left_since start.state) since → I.left_since at.state since left
+        → ¬ Contains (sectors_of_chains I.disk I.moment I.may_leave I.left_since device start chains) sector
+        → IfSome (I.disk start.state).told (λ bytes. sector_of left sector ≡ sector_of bytes sector) }
+    ensures lasts { (device : BlockDevice) (start at : Site Queue I) (answered : Served I) (later : List (Served I))
+        (since sector : ℕ) (left : List ℕ)
+        → ServesAll queue_kind (device_over I.disk I.moment I.may_leave I.left_since device) start (answered ∷ later) at
+        → IsCommitted device start.memory (seen_chain I.disk device answered)
+        → BeginsAt (I.may_leave answered.given.state) (I.left_since answered.given.state) since
+        → I.left_since at.state since left
+        → ¬ Contains (sectors_of_chains I.disk I.moment I.may_leave I.left_since device
+        (after queue_kind (device_over I.disk I.moment I.may_leave I.left_since device) start answered) later) sector
+        → IfSome (I.disk answered.given.state).told (λ bytes. sector_of left sector ≡ sector_of bytes sector) }
 {}
 
 /// A byte that the host of a disk said is on the medium, by a FLUSH or a stable write that was done, is there after a stop

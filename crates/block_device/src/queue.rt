@@ -3,8 +3,10 @@
 ghost use Rattle.std.specs.Prelude.{◌≡◌, Option, nat_lt};
 ghost use Rattle.guest_memory.specs.Memory.{SameRange};
 ghost use Rattle.mmio_window.specs.Queue.{LiesIn, made_as};
+ghost use Rattle.block_device.specs.Device.{block_device};
 ghost use Rattle.block_device.specs.Extent.{IsWithin, StaysInExtent, TouchesExtent};
-ghost use Rattle.block_device.specs.Serving.{LeavesQueue, Stops, site_of};
+ghost use Rattle.block_device.specs.Serving.{LeavesQueue, Stops, site_at, site_of};
+ghost use Rattle.block_device.specs.Touching.{device_over};
 
 use crate::device::BlockDevice;
 use chain::{Budget, Chain, Fault, Virtqueue};
@@ -65,8 +67,10 @@ impl BlockDevice {
     ) -> Service
         requires queue { LiesIn mem.old queue.old }
         requires lies { IsWithin (I.disk cache.old).sector_count self.now.extent }
-        ensures service { LeavesQueue self.now stage budget (site_of self.now mem.old queue.old (I.disk cache.old))
+        ensures service { LeavesQueue (block_device self.now) stage budget (site_of self.now mem.old queue.old (I.disk cache.old))
             (site_of self.now mem.new queue.new (I.disk cache.new)) result.left }
+        ensures own { LeavesQueue (device_over I.disk I.moment I.may_leave I.left_since self.now) stage budget
+            (site_at mem.old queue.old cache.old) (site_at mem.new queue.new cache.new) result.left }
         ensures failed { result.failed ≡ nat_lt (I.disk cache.old).failures (I.disk cache.new).failures }
         ensures stays { StaysInExtent self.now.extent (I.disk cache.old) (I.disk cache.new) }
         ensures touches { TouchesExtent I.moment I.may_leave I.left_since self.now.extent cache.old cache.new }
@@ -107,8 +111,10 @@ impl BlockDevice {
     ) -> Work
         requires queue { LiesIn mem.old queue.old }
         requires lies { IsWithin (I.disk cache.old).sector_count self.now.extent }
-        ensures stops { Stops self.now budget (site_of self.now mem.old queue.old (I.disk cache.old))
+        ensures stops { Stops (block_device self.now) budget (site_of self.now mem.old queue.old (I.disk cache.old))
             (site_of self.now mem.new queue.new (I.disk cache.new)) result.stop }
+        ensures own { Stops (device_over I.disk I.moment I.may_leave I.left_since self.now) budget
+            (site_at mem.old queue.old cache.old) (site_at mem.new queue.new cache.new) result.stop }
         ensures failed { result.failed ≡ nat_lt (I.disk cache.old).failures (I.disk cache.new).failures }
         ensures stays { StaysInExtent self.now.extent (I.disk cache.old) (I.disk cache.new) }
         ensures touches { TouchesExtent I.moment I.may_leave I.left_since self.now.extent cache.old cache.new }

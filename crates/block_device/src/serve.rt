@@ -9,6 +9,7 @@ ghost use Rattle.mmio_window.specs.Window.{queue_at};
 ghost use Rattle.block_device.specs.Device.{block_device, exact_device};
 ghost use Rattle.block_device.specs.Extent.{IsWithin, StaysInExtent, TouchesExtent, extent_disk};
 ghost use Rattle.block_device.specs.Serving.{progress_of, shown};
+ghost use Rattle.block_device.specs.Touching.{device_over};
 
 use crate::device::{BlockDevice, REQUESTQ};
 use crate::queue::Left;
@@ -56,6 +57,10 @@ impl BlockDevice {
             window.old window.new (extent_disk self.now.extent (I.disk cache.old))
             (extent_disk self.now.extent (I.disk cache.new)) }
 
+        // At each moment only the sectors of the requests are touched.
+        ensures own { IsNotified (device_over I.disk I.moment I.may_leave I.left_since self.now) 0
+            (queue_at 0 window.old) mem.old mem.new window.old window.new cache.old cache.new }
+
         ensures stays { StaysInExtent self.now.extent (I.disk cache.old) (I.disk cache.new) }
         ensures touches { TouchesExtent I.moment I.may_leave I.left_since self.now.extent cache.old cache.new }
         ensures range { SameRange mem.old mem.new }
@@ -91,6 +96,8 @@ impl BlockDevice {
             mem.old mem.new window.old window.new (extent_disk self.now.extent (I.disk cache.old))
             (extent_disk self.now.extent (I.disk cache.new)) }
         ensures failed { IsTrue result.failed ↔ ((I.disk cache.old).failures < (I.disk cache.new).failures) }
+        ensures own { ServesTo stage (device_over I.disk I.moment I.may_leave I.left_since self.now) budget 0
+            (queue_at 0 window.old) result.progress mem.old mem.new window.old window.new cache.old cache.new }
         ensures stays { StaysInExtent self.now.extent (I.disk cache.old) (I.disk cache.new) }
         ensures touches { TouchesExtent I.moment I.may_leave I.left_since self.now.extent cache.old cache.new }
         ensures range { SameRange mem.old mem.new }

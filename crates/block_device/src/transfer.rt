@@ -3,14 +3,17 @@
 //! it lies in more than one segment. The first call of the image that fails is the last.
 
 ghost use Rattle.std.specs.Prelude.{◌+◌, ◌*◌, ◌^◌, ◌<◌, ◌≤◌, ◌≡◌, length, take, drop, All};
+ghost use Rattle.std.specs.List.{range_with_len};
 ghost use Rattle.guest_memory.specs.Memory.{SameRange};
 ghost use Rattle.chain.specs.Buffers.{Within};
 ghost use Rattle.chain.specs.Bytes.{readable_of, writable_of};
+ghost use Rattle.sector_cache.specs.Stop.{TouchesNothing, TouchesSectors};
 ghost use Rattle.block_device.specs.declared.request.Request.TheVariants.{Read, Write};
 ghost use Rattle.block_device.specs.Asking.{found_by, status_by};
-ghost use Rattle.block_device.specs.Extent.{CallsWithin, IsWithin, TouchesExtent, extent_disk, sector_len};
+ghost use Rattle.block_device.specs.Extent.{CallsWithin, IsWithin, extent_disk, sector_len};
 ghost use Rattle.block_device.specs.Request.{payload_of};
 ghost use Rattle.block_device.specs.Progress.{IsDone};
+ghost use Rattle.block_device.specs.Touching.{on_image};
 
 use crate::device::BlockDevice;
 use crate::operation::{OperationKind, Verdict};
@@ -81,7 +84,7 @@ impl BlockDevice {
             (extent_disk self.now.extent (I.disk cache.new)) result.len result.status }
         ensures len { result.len ≤ sector_len * count }
         ensures calls { CallsWithin self.now.extent result.failed (I.disk cache.old) (I.disk cache.new) }
-        ensures touches { TouchesExtent I.moment I.may_leave I.left_since self.now.extent cache.old cache.new }
+        ensures touches { TouchesNothing I.moment I.may_leave I.left_since cache.old cache.new }
         ensures range { SameRange mem.old mem.new }
     {
         for done in 0..count {
@@ -122,7 +125,8 @@ impl BlockDevice {
             (extent_disk self.now.extent (I.disk cache.new)) result.len result.status }
         ensures len { result.len ≡ 0 }
         ensures calls { CallsWithin self.now.extent result.failed (I.disk cache.old) (I.disk cache.new) }
-        ensures touches { TouchesExtent I.moment I.may_leave I.left_since self.now.extent cache.old cache.new }
+        ensures touches { TouchesSectors I.moment I.may_leave I.left_since
+            (on_image self.now.extent (range_with_len sector count)) cache.old cache.new }
     {
         let mut gathered = [0; SECTOR_LEN as usize];
         for done in 0..count {

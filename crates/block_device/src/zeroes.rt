@@ -5,13 +5,15 @@ ghost use Rattle.std.specs.Prelude.{◌≡◌, ℕ, ◌+◌, ◌*◌, ◌^◌, �
 ghost use Rattle.std.specs.List.{list_all};
 ghost use Rattle.chain.specs.Buffers.{Within};
 ghost use Rattle.chain.specs.Bytes.{readable_of};
+ghost use Rattle.sector_cache.specs.Stop.{TouchesSectors};
 ghost use Rattle.block_device.specs.declared.request.Request.TheVariants.{Rejected, WriteZeroes};
 ghost use Rattle.block_device.specs.declared.request.RequestStatus.TheVariants.{IoError, Unsupported};
-ghost use Rattle.block_device.specs.Extent.{CallsWithin, IsWithin, KeepsOutside, TouchesExtent, extent_disk, sector_len};
+ghost use Rattle.block_device.specs.Extent.{CallsWithin, IsWithin, KeepsOutside, extent_disk, sector_len};
 ghost use Rattle.block_device.specs.Operation.{disk_run, zeroes_in};
 ghost use Rattle.block_device.specs.Progress.{IsDone, IsServable};
 ghost use Rattle.block_device.specs.Request.{payload_of, write_zeroes_request_of};
-ghost use Rattle.block_device.specs.Zeroes.{IsStopped, are_segments, has_known_flags, has_sectors_within, max_write_zeroes_seg, sectors_of, segment_at, segment_len, segment_of, segments_in, zeroed_sectors};
+ghost use Rattle.block_device.specs.Touching.{on_image};
+ghost use Rattle.block_device.specs.Zeroes.{IsStopped, all_sectors, are_segments, has_known_flags, has_sectors_within, max_write_zeroes_seg, sectors_of, segment_at, segment_len, segment_of, segments_in, zeroed_sectors};
 
 use crate::device::BlockDevice;
 use crate::request::{HEADER_LEN, Request, RequestStatus, SECTOR_LEN};
@@ -182,7 +184,9 @@ impl BlockDevice {
             (extent_disk self.now.extent (I.disk cache.new)) result.len result.status }
         ensures len { result.len ≡ 0 }
         ensures calls { CallsWithin self.now.extent result.failed (I.disk cache.old) (I.disk cache.new) }
-        ensures touches { TouchesExtent I.moment I.may_leave I.left_since self.now.extent cache.old cache.new }
+        ensures touches { TouchesSectors I.moment I.may_leave I.left_since
+            (on_image self.now.extent (all_sectors (segments_in (payload_of (readable_of mem.now chain.now)))))
+            cache.old cache.new }
     {
         for index in 0..segments {
             let segment = WriteZeroesSegment::read(mem, chain, index);
@@ -211,7 +215,8 @@ impl BlockDevice {
             (extent_disk self.now.extent (I.disk cache.old))
             (extent_disk self.now.extent (I.disk cache.new))) }
         ensures outside { KeepsOutside self.now.extent (I.disk cache.old) (I.disk cache.new) }
-        ensures touches { TouchesExtent I.moment I.may_leave I.left_since self.now.extent cache.old cache.new }
+        ensures touches { TouchesSectors I.moment I.may_leave I.left_since
+            (on_image self.now.extent (sectors_of segment)) cache.old cache.new }
     {
         let first = self.extent.start + segment.sector;
         for done in 0..u64::from(segment.count) {

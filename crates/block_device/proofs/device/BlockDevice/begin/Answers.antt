@@ -1,4 +1,4 @@
-use Rattle.std.proofs.Common.{arith, refl, sym, ◌-◌}
+use Rattle.std.proofs.Common.{arith, refl, ◌-◌}
 use Rattle.block_device.specs.declared.request.RequestStatus.TheVariants.{Success}
 use Rattle.block_device.proofs.Answering.{finished_does, asks_by, done_rejected, done_identity}
 use Rattle.block_device.proofs.device.BlockDevice.begin.Goals as goal

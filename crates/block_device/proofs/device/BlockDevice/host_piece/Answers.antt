@@ -3,6 +3,8 @@ use Rattle.negotiation.specs.Features.{block_flush}
 use Rattle.negotiation.specs.Negotiation.{negotiated_of}
 use Rattle.negotiation.specs.Sets.{has}
 use Rattle.mmio_window.proofs.Pieces.{queue_stands_open}
+use Rattle.block_device.specs.Device.{block_device}
+use Rattle.block_device.specs.Extent.{extent_disk}
 use Rattle.block_device.specs.Operation.{operation_of}
 use Rattle.block_device.proofs.Telling.{told_inside}
 use Rattle.block_device.proofs.Unasked.{any_disk}
@@ -55,8 +57,10 @@ returns-in-Asks-clause-sound g c =
 
 pub returns-in-More-clause-served : goal.returns-in-More-clause-served
 returns-in-More-clause-served g c disk =
-    serves_to c.args.self.now c.args.stage c.args.budget (queue_at 0 c.args.window.now) c.in-Some.queue.now c.host_queue.new.queue c.in-Plain.left More
-    c.args.mem.now c.host_queue.new.mem c.args.window.now c.show.new.window disk disk
+    serves_to (block_device c.args.self.now) c.args.stage c.args.budget (queue_at 0 c.args.window.now)
+    c.in-Some.queue.now c.host_queue.new.queue c.in-Plain.left More
+    c.args.mem.now c.host_queue.new.mem c.args.window.now c.show.new.window
+    (extent_disk c.args.self.now.extent disk) (extent_disk c.args.self.now.extent disk)
     c.in-Some.ensures.value (sym c.in-More.is ∙ c.show.ensures.progress) c.show.ensures.after (c.in-Plain.ensures.leaves disk)
 
 pub returns-in-More-clause-sound : goal.returns-in-More-clause-sound
@@ -67,8 +71,10 @@ returns-in-More-clause-sound g c =
 
 pub returns-in-Done-clause-served : goal.returns-in-Done-clause-served
 returns-in-Done-clause-served g c disk =
-    serves_to c.args.self.now c.args.stage c.args.budget (queue_at 0 c.args.window.now) c.in-Some.queue.now c.host_queue.new.queue c.in-Plain.left Done
-    c.args.mem.now c.host_queue.new.mem c.args.window.now c.show.new.window disk disk
+    serves_to (block_device c.args.self.now) c.args.stage c.args.budget (queue_at 0 c.args.window.now)
+    c.in-Some.queue.now c.host_queue.new.queue c.in-Plain.left Done
+    c.args.mem.now c.host_queue.new.mem c.args.window.now c.show.new.window
+    (extent_disk c.args.self.now.extent disk) (extent_disk c.args.self.now.extent disk)
     c.in-Some.ensures.value (sym c.in-Done.is ∙ c.show.ensures.progress) c.show.ensures.after (c.in-Plain.ensures.leaves disk)
 
 pub returns-in-Done-clause-sound : goal.returns-in-Done-clause-sound

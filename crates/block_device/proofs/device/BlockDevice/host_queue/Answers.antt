@@ -1,4 +1,3 @@
-use Rattle.std.proofs.Common.{◌≡◌, refl, sym, None, ◌∙◌}
 use Rattle.chain.proofs.Budgets.{piece_closes}
 use Rattle.mmio_window.proofs.Stages.{ends_at, faults_at}
 use Rattle.mmio_window.specs.Queue.{queue_kind}

@@ -1,7 +1,8 @@
-use Rattle.std.proofs.Common.{arith}
 use Rattle.block_device.proofs.Answering.{read_fits, write_fits, zeroes_fit, done_flushed, done_unflushed}
-use Rattle.block_device.proofs.Touching.{touched_nothing, untouched}
-use Rattle.block_device.specs.Extent.{extent_disk}
+use Rattle.chain.specs.Bytes.{readable_of}
+use Rattle.block_device.specs.Request.{payload_of}
+use Rattle.block_device.specs.Touching.{on_image, written_sectors}
+use Rattle.block_device.proofs.Touching.{own_write, own_zeroes, written_none}
 use Rattle.block_device.proofs.device.BlockDevice.perform.Goals as goal
 
 pub read_sectors-requires-clause-fits : goal.read_sectors-requires-clause-fits
@@ -24,8 +25,29 @@ pub returns-in-Err-clause-done : goal.returns-in-Err-clause-done
 returns-in-Err-clause-done g c =
     done_unflushed c.args.self.now.extent c.args.request c.args.chain.now c.args.mem.now (g.I.Image.disk c.args.cache.now) (g.I.Image.disk c.flush.new.self) c.in-Flush.is c.in-Err.ensures.err
 
-pub returns-in-Ok-clause-touches : goal.returns-in-Ok-clause-touches
-returns-in-Ok-clause-touches g c = touched_nothing c.args.self.now.extent (untouched c.args.self.now.extent) c.flush.ensures.touches
+pub returns-in-Read-clause-own : goal.returns-in-Read-clause-own
+returns-in-Read-clause-own g c = written_none
+    (on_image c.args.self.now.extent (written_sectors c.args.request
+    (payload_of (readable_of c.args.mem.now c.args.chain.now)))) c.read_sectors.ensures.touches
 
-pub returns-in-Err-clause-touches : goal.returns-in-Err-clause-touches
-returns-in-Err-clause-touches g c = touched_nothing c.args.self.now.extent (untouched c.args.self.now.extent) c.flush.ensures.touches
+pub returns-in-Write-clause-own : goal.returns-in-Write-clause-own
+returns-in-Write-clause-own g c =
+    own_write c.args.self.now.extent c.args.request
+    (payload_of (readable_of c.args.mem.now c.args.chain.now)) c.in-Write.sector c.in-Write.count
+    c.in-Write.is c.write_sectors.ensures.touches
+
+pub returns-in-Ok-clause-own : goal.returns-in-Ok-clause-own
+returns-in-Ok-clause-own g c = written_none
+    (on_image c.args.self.now.extent (written_sectors c.args.request
+    (payload_of (readable_of c.args.mem.now c.args.chain.now)))) c.flush.ensures.touches
+
+pub returns-in-Err-clause-own : goal.returns-in-Err-clause-own
+returns-in-Err-clause-own g c = written_none
+    (on_image c.args.self.now.extent (written_sectors c.args.request
+    (payload_of (readable_of c.args.mem.now c.args.chain.now)))) c.flush.ensures.touches
+
+pub returns-in-WriteZeroes-clause-own : goal.returns-in-WriteZeroes-clause-own
+returns-in-WriteZeroes-clause-own g c =
+    own_zeroes c.args.self.now.extent c.args.request
+    (payload_of (readable_of c.args.mem.now c.args.chain.now)) c.in-WriteZeroes.segments
+    c.in-WriteZeroes.is c.zero_segments.ensures.touches

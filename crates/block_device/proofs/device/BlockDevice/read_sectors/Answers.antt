@@ -1,11 +1,14 @@
 use Rattle.std.proofs.Common.{◌≡◌, ◌+◌, ◌*◌, length, refl, arith}
 use Rattle.block_device.proofs.Transfers.{after_lent, after_refused, reading_start, reading_more, reading_done, reading_fails}
-use Rattle.block_device.proofs.Touching.{touched_nothing, untouched}
+use Rattle.sector_cache.proofs.Stops.{touches_more, touches_none}
 use Rattle.block_device.proofs.device.BlockDevice.read_sectors.Goals as goal
 
 pub loop-done-init : goal.loop-done-init
-loop-done-init g c =
-    (reading_start c.args.chain.now c.args.mem.now (g.I.Image.disk c.args.cache.now) (c.args.self.now.extent.start + c.args.sector), untouched c.args.self.now.extent)
+loop-done-init g c = (
+  reading_start c.args.chain.now c.args.mem.now (g.I.Image.disk c.args.cache.now)
+      (c.args.self.now.extent.start + c.args.sector),
+  touches_none 0 0,
+)
 
 pub loop-done-preserved : goal.loop-done-preserved
 loop-done-preserved g c =
@@ -13,7 +16,7 @@ loop-done-preserved g c =
       reading_more c.args.chain.now c.args.mem.now c.loop-done.mem c.write_at.new.mem (g.I.Image.disk c.args.cache.now) (g.I.Image.disk c.loop-done.cache) (g.I.Image.disk c.lend.follows.lender-at-none)
           (c.args.self.now.extent.start + c.args.sector) c.loop-done.done (512 * c.loop-done.done) c.in-Ok.bytes.now
           c.loop-done.invariant.0 whole c.in-Ok.ensures.read (after_lent c.lend.result _ _ _ c.in-Ok.is c.lend.follows.holds-at-none.0) c.write_at.ensures.written refl c.write_at.ensures.same_range,
-      touched_nothing c.args.self.now.extent c.loop-done.invariant.1 c.lend.follows.holds-at-none.1,
+      touches_more 0 0 c.loop-done.invariant.1 c.lend.follows.holds-at-none.1,
     )
 
 pub returns-in-Err-clause-done : goal.returns-in-Err-clause-done
@@ -27,4 +30,4 @@ returns-clause-done g c =
     c.args.sector c.args.count c.loop-done.done (512 * c.args.count) c.loop-done.invariant.0 (omega arith) refl c.requires.sectors
 
 pub returns-in-Err-clause-touches : goal.returns-in-Err-clause-touches
-returns-in-Err-clause-touches g c = touched_nothing c.args.self.now.extent c.loop-done.invariant.1 c.lend.follows.holds-at-none.1
+returns-in-Err-clause-touches g c = touches_more 0 0 c.loop-done.invariant.1 c.lend.follows.holds-at-none.1

@@ -1,4 +1,3 @@
-use Rattle.std.proofs.Common.{arith}
 use Rattle.block_device.proofs.Telling.{asked_few, read_places, write_places}
 use Rattle.block_device.proofs.device.BlockDevice.tell.Goals as goal
 

@@ -1,18 +1,26 @@
 use Rattle.std.proofs.Common.{◌+◌, arith}
+use Rattle.std.specs.List.{range_with_len}
 use Rattle.chain.specs.Bytes.{readable_of}
 use Rattle.block_device.proofs.Transfers.{writing_start, writing_more, writing_done, writing_fails, writing_unflushed}
-use Rattle.block_device.proofs.Touching.{touched_nothing, touched_sector, untouched}
+use Rattle.block_device.specs.Touching.{on_image}
+use Rattle.block_device.proofs.Touching.{range_has, unwritten, written_nothing, written_sector}
 use Rattle.block_device.proofs.device.BlockDevice.write_sectors.Goals as goal
 
 pub loop-done-init : goal.loop-done-init
-loop-done-init g c = (writing_start (g.I.Image.disk c.args.cache.now) (c.args.self.now.extent.start + c.args.sector) _, untouched c.args.self.now.extent)
+loop-done-init g c = (
+  writing_start (g.I.Image.disk c.args.cache.now) (c.args.self.now.extent.start + c.args.sector) _,
+  unwritten (on_image c.args.self.now.extent (range_with_len c.args.sector c.args.count)),
+)
 
 pub loop-done-preserved : goal.loop-done-preserved
 loop-done-preserved g c = (
   writing_more (g.I.Image.disk c.args.cache.now) (g.I.Image.disk c.loop-done.cache) (g.I.Image.disk c.write.new.self) (c.args.self.now.extent.start + c.args.sector)
       c.args.count c.loop-done.done (readable_of c.args.mem.now c.args.chain.now) _ (g.met.I.Image.whole c.args.cache.now) c.loop-done.invariant.0
       c.loop-done-test.true c.requires.payload (omega arith) c.sector_at-bytes.ensures c.in-Ok.ensures.ok,
-  touched_sector c.args.self.now.extent (c.args.self.now.extent.start + c.args.sector + c.loop-done.done) c.loop-done.invariant.1 (omega arith) (omega arith) c.write.ensures.touches,
+  written_sector c.args.self.now.extent (range_with_len c.args.sector c.args.count)
+      (c.args.sector + c.loop-done.done) (c.args.self.now.extent.start + c.args.sector + c.loop-done.done)
+      c.loop-done.invariant.1 (range_has c.args.sector c.args.count c.loop-done.done c.loop-done-test.true)
+      (omega arith) c.write.ensures.touches,
 )
 
 pub returns-in-Err-clause-done : goal.returns-in-Err-clause-done
@@ -46,10 +54,18 @@ returns-in-Err-flush-clause-calls g c =
     c.args.sector c.args.count c.loop-done.done (g.met.I.Image.whole c.args.cache.now) c.requires.lies c.loop-done.invariant.0 (omega arith) c.requires.sectors c.requires.payload c.in-Err-flush.ensures.err).1
 
 pub returns-in-Err-clause-touches : goal.returns-in-Err-clause-touches
-returns-in-Err-clause-touches g c = touched_sector c.args.self.now.extent (c.args.self.now.extent.start + c.args.sector + c.loop-done.done) c.loop-done.invariant.1 (omega arith) (omega arith) c.write.ensures.touches
+returns-in-Err-clause-touches g c =
+    written_sector c.args.self.now.extent (range_with_len c.args.sector c.args.count)
+    (c.args.sector + c.loop-done.done) (c.args.self.now.extent.start + c.args.sector + c.loop-done.done)
+    c.loop-done.invariant.1 (range_has c.args.sector c.args.count c.loop-done.done c.loop-done-test.true)
+    (omega arith) c.write.ensures.touches
 
 pub returns-in-Ok-flush-clause-touches : goal.returns-in-Ok-flush-clause-touches
-returns-in-Ok-flush-clause-touches g c = touched_nothing c.args.self.now.extent c.loop-done.invariant.1 c.flush.ensures.touches
+returns-in-Ok-flush-clause-touches g c = written_nothing
+    (on_image c.args.self.now.extent (range_with_len c.args.sector c.args.count)) c.loop-done.invariant.1
+    c.flush.ensures.touches
 
 pub returns-in-Err-flush-clause-touches : goal.returns-in-Err-flush-clause-touches
-returns-in-Err-flush-clause-touches g c = touched_nothing c.args.self.now.extent c.loop-done.invariant.1 c.flush.ensures.touches
+returns-in-Err-flush-clause-touches g c = written_nothing
+    (on_image c.args.self.now.extent (range_with_len c.args.sector c.args.count)) c.loop-done.invariant.1
+    c.flush.ensures.touches
