@@ -28,7 +28,7 @@ struct guest {
     uint32_t block;
 };
 
-static bool threads;
+static const struct file_way *way;
 static pthread_barrier_t all_ready;
 
 static void need(bool holds, const char *what)
@@ -105,9 +105,11 @@ static void *read_as_guest(void *user)
         struct kalyubos_pending pending;
         struct pollfd wake = { .fd = guest->disk.ready, .events = POLLIN };
         need(poll(&wake, 1, -1) == 1, "poll");
-        uint32_t answer = file_disk_go_on(&guest->disk, &pending);
-        if (answer == KALYUBOS_MORE)
+        bool failed;
+        if (!file_disk_go_on(&guest->disk, &failed))
             continue;
+        if (kalyubos_completed(&guest->board, 0, failed, &pending) == KALYUBOS_IO)
+            file_disk_begin(&guest->disk);
         store(guest, 0x64, 1);
         bool more = false;
         for (; (uint16_t)done != used(guest); done++) {
@@ -133,9 +135,9 @@ static void power_on(struct guest *guest, const char *path, uint32_t block)
     size_t len;
     need(kalyubos_create_hosted(&guest->board, &slot, 1) == KALYUBOS_DONE, "create_hosted");
     need(kalyubos_memory(&guest->board, 0, &guest->memory, &len) == KALYUBOS_DONE, "memory");
-    const char *wrong = file_disk_open(&guest->disk, &guest->board, 0, MEMORY, path, slot.count * SECTOR, threads);
+    const char *wrong = file_disk_open(&guest->disk, &guest->board, 0, MEMORY, path, slot.count * SECTOR, way);
     need(wrong == NULL, wrong);
-    need(threads == (strcmp(file_disk_way(&guest->disk), "a thread") == 0), "no io_uring");
+    need(guest->disk.way == way, "no io_uring");
 }
 
 static double now(void)
@@ -150,7 +152,7 @@ int main(int words_len, char **words)
     static struct guest guests[GUESTS];
     pthread_t cpus[GUESTS];
     need(words_len == 3 + GUESTS, "ring|threads BLOCK FILE FILE");
-    threads = strcmp(words[1], "threads") == 0;
+    way = strcmp(words[1], "threads") == 0 ? &file_thread : &file_ring;
     need(pthread_barrier_init(&all_ready, NULL, GUESTS + 1) == 0, "a barrier");
     for (int i = 0; i < GUESTS; i++) {
         power_on(&guests[i], words[3 + i], (uint32_t)atoi(words[2]));

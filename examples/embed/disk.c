@@ -1,7 +1,7 @@
 /*
  * Real disks for two guests, over two files. Each guest has a handle of its own and a thread of its own, which is its CPU,
  * makes its calls and looks at its disk. So guests share nothing, and need no lock. file_disk.c is to be copied: it brings
- * what a disk is asked for to the kernel, and never waits.
+ * what a disk is asked for to the kernel, and never waits; file_ring.c has io_uring for it.
  *
  * The guests are C as well: a driver's loads and stores are a CPU's exits. Guest 0 asks for two megabytes and then does other
  * things, until guest 1 has used its disk and ended. `disk threads` does without io_uring.
@@ -51,8 +51,13 @@ static uint32_t load(struct guest *guest, uint8_t window, uint16_t offset)
 /* The kernel has ended a step of the disk: it goes on, or the request is completed, and the guest's lines are told. */
 static void go_on(struct guest *guest)
 {
-    uint32_t answer = file_disk_go_on(&guest->disk, &guest->lines);
-    need(answer == KALYUBOS_MORE || answer == KALYUBOS_DONE || answer == KALYUBOS_IO, "a completion");
+    bool failed;
+    if (!file_disk_go_on(&guest->disk, &failed))
+        return;
+    uint32_t answer = kalyubos_completed(&guest->board, 0, failed, &guest->lines);
+    if (answer == KALYUBOS_IO)
+        file_disk_begin(&guest->disk);
+    need(answer == KALYUBOS_DONE || answer == KALYUBOS_IO, "a completion");
 }
 
 /* Waits for the disk. A CPU that runs on is kicked instead, since none runs during a call: KVM_RUN ends by a signal. */
@@ -192,7 +197,8 @@ static void power_on(struct guest *guest, unsigned number, bool threads)
     need(file >= 0 && write(file, content, sizeof content) == DISK_LEN && close(file) == 0, "a file");
     need(kalyubos_create_hosted(&guest->board, &slot, 1) == KALYUBOS_DONE, "create_hosted");
     need(kalyubos_memory(&guest->board, 0, &guest->memory, &len) == KALYUBOS_DONE, "memory");
-    const char *wrong = file_disk_open(&guest->disk, &guest->board, 0, MEMORY, guest->path, DISK_LEN, threads);
+    const char *wrong = file_disk_open(&guest->disk, &guest->board, 0, MEMORY, guest->path, DISK_LEN,
+                                       threads ? &file_thread : &file_ring);
     need(wrong == NULL, wrong);
 }
 
@@ -221,7 +227,7 @@ int main(int words_len, char **words)
     need(pthread_barrier_init(&both, NULL, GUESTS) == 0, "a barrier");
     for (unsigned i = 0; i < GUESTS; i++)
         power_on(&guests[i], i, threads);
-    fprintf(stderr, "the disks go to the kernel by %s\n", file_disk_way(&guests[0].disk));
+    fprintf(stderr, "the disks go to the kernel by %s\n", guests[0].disk.way->name);
     for (unsigned i = 0; i < GUESTS; i++)
         need(pthread_create(&cpus[i], NULL, cpu, &guests[i]) == 0, "a CPU");
     for (unsigned i = 0; i < GUESTS; i++)

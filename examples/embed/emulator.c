@@ -82,7 +82,7 @@ static void open_disk(struct guest *guest)
     size_t len = strlen(DISKS[guest->slot]);
     const char *wrong = "can't be written";
     if (file >= 0 && ftruncate(file, DISK_LEN) == 0 && write(file, DISKS[guest->slot], len) == (ssize_t)len)
-        wrong = file_disk_open(&guest->disk, &board, guest->slot, MEMORY, path, DISK_LEN, false);
+        wrong = file_disk_open(&guest->disk, &board, guest->slot, MEMORY, path, DISK_LEN, &file_thread);
     if (wrong != NULL) {
         fprintf(stderr, "%s: %s\n", path, wrong);
         exit(1);
@@ -96,10 +96,13 @@ static void look_at_disk(struct guest *guest)
 {
     struct pollfd wake = { .fd = guest->disk.ready, .events = POLLIN };
     struct kalyubos_pending pending;
-    if (!guest->in_flight || poll(&wake, 1, 1) <= 0)
+    bool failed;
+    if (!guest->in_flight || poll(&wake, 1, 1) <= 0 || !file_disk_go_on(&guest->disk, &failed))
         return;
-    uint32_t answer = file_disk_go_on(&guest->disk, &pending);
-    guest->in_flight = answer == KALYUBOS_MORE || answer == KALYUBOS_IO;
+    uint32_t answer = kalyubos_completed(&board, guest->slot, failed, &pending);
+    guest->in_flight = answer == KALYUBOS_IO;
+    if (guest->in_flight)
+        file_disk_begin(&guest->disk);
     must(guest->in_flight ? KALYUBOS_DONE : answer, "completed");
 }
 

@@ -160,7 +160,7 @@ static void open_disk(struct guest *guest)
     int file = must(mkstemp(path), "a disk");
     must(ftruncate(file, DISK_LEN), "a disk");
     must((int)write(file, DISKS[guest->slot], strlen(DISKS[guest->slot])), "a disk");
-    const char *wrong = file_disk_open(&guest->disk, &board, guest->slot, 0, path, DISK_LEN, false);
+    const char *wrong = file_disk_open(&guest->disk, &board, guest->slot, 0, path, DISK_LEN, &file_thread);
     if (wrong != NULL) {
         fprintf(stderr, "%s: %s\n", path, wrong);
         exit(1);
@@ -178,8 +178,13 @@ static bool disk_can_go_on(const struct guest *guest, int milliseconds)
 /* What the disk came to. This may complete what the guest asked for, so it is a call for the guest. */
 static void go_on_with_disk(struct guest *guest)
 {
-    uint32_t answer = file_disk_go_on(&guest->disk, &guest->lines);
-    guest->in_flight = answer == KALYUBOS_MORE || answer == KALYUBOS_IO;
+    bool failed;
+    if (!file_disk_go_on(&guest->disk, &failed))
+        return;
+    uint32_t answer = kalyubos_completed(&board, guest->slot, failed, &guest->lines);
+    guest->in_flight = answer == KALYUBOS_IO;
+    if (guest->in_flight)
+        file_disk_begin(&guest->disk);
     must_do(guest->in_flight ? KALYUBOS_DONE : answer, "completed");
 }
 

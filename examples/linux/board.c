@@ -60,7 +60,7 @@ static void open_disk(uint8_t slot)
 {
     const char *path = settings.names[slot];
     const char *wrong = file_disk_open(&disks[slot], &board, slot, MEMORY_BASE, path, settings.sectors[slot] * 512,
-                                       settings.threads);
+                                       settings.threads ? &file_thread : &file_ring);
     if (wrong != NULL) {
         fprintf(stderr, "linux-machine: %s: %s\n", path, wrong);
         exit(2);
@@ -70,7 +70,7 @@ static void open_disk(uint8_t slot)
 /* A board whose disks the host serves. */
 static void create_hosted(const struct kalyubos_slot *slots)
 {
-    must(kalyubos_create_hosted(&board, slots, settings.guests), "create_hosted");
+    must(record_create_hosted(&board, slots, settings.guests), "create_hosted");
     for (size_t i = 0; i < settings.guests; i++)
         open_disk(i);
 }
@@ -170,7 +170,6 @@ uint32_t board_read(uint8_t slot, uint8_t window, uint16_t offset, uint8_t width
 static void begin(const struct watch_call *call)
 {
     count_call(call->slot);
-    before(call->slot);
     watch_before(call);
     served[call->slot] = *call;
 }
@@ -178,6 +177,7 @@ static void begin(const struct watch_call *call)
 /* An operation of the slot's disk begins. */
 static void take_off(uint8_t slot)
 {
+    file_disk_begin(&disks[slot]);
     flies[slot] = true;
     flights[slot].operations++;
 }
@@ -205,25 +205,24 @@ static uint32_t settle(uint8_t slot, uint32_t answer)
 
 uint32_t board_write(uint8_t slot, uint8_t window, uint16_t offset, uint8_t width, uint32_t value)
 {
+    before(slot);
     begin(&(struct watch_call){ WATCH_WRITE, slot, window, offset, width, value });
-    uint32_t answer = record_write(&board, slot, window, offset, width, value, &waits[slot]);
-    if (answer == KALYUBOS_IO)
-        file_disk_begin(&disks[slot]);
-    return settle(slot, answer);
+    return settle(slot, record_write(&board, slot, window, offset, width, value, &waits[slot]));
 }
 
 uint32_t board_complete(uint8_t slot)
 {
+    bool failed;
     if (!flies[slot])
         return KALYUBOS_DONE;
-    begin(&(struct watch_call){ .kind = WATCH_COMPLETION, .slot = slot, .window = KALYUBOS_BLOCK });
-    uint32_t answer = file_disk_go_on(&disks[slot], &waits[slot]);
-    if (answer == KALYUBOS_MORE) {
+    before(slot);
+    if (!file_disk_go_on(&disks[slot], &failed)) {
         after(slot);
-        return answer;
+        return KALYUBOS_MORE;
     }
+    begin(&(struct watch_call){ .kind = WATCH_COMPLETION, .slot = slot, .window = KALYUBOS_BLOCK, .value = failed });
     flies[slot] = false;
-    return settle(slot, answer);
+    return settle(slot, record_completed(&board, slot, failed, &waits[slot]));
 }
 
 void board_wait(void)
@@ -253,6 +252,7 @@ bool board_is_paused(uint8_t slot)
 size_t board_type(uint8_t slot, const uint8_t *bytes, size_t len)
 {
     size_t took;
+    before(slot);
     begin(&(struct watch_call){ .kind = WATCH_INPUT, .slot = slot, .window = KALYUBOS_CONSOLE });
     settle(slot, record_input(&board, slot, bytes, len, &took, &waits[slot]));
     return took;

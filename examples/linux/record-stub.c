@@ -1,29 +1,54 @@
 /*
- * What the library answers to record-test.c, for a machine where it isn't built. It is no device: the disk's first
- * notify with DRIVER_OK ends in an error of the request, its second in a fault; the console's first finds no room.
+ * What the library answers to record-test.c, for a machine where it isn't built. It is no device: over an image the disk's
+ * first notify with DRIVER_OK ends in an error of the request, its second in a fault, and the console's first finds no room;
+ * where the host serves the disks, guest 0's asks for one operation after the other.
  */
 #include <stdlib.h>
 #include <string.h>
 
 #include "kalyubos.h"
 
-enum { LEN = 0x10000, STATUS = 0x070, QUEUE_READY = 0x044, NOTIFY = 0x050, EMERGENCY = 0x108 };
+enum { LEN = 0x10000, GUESTS = 2, DEVICE_ID = 0x008, QUEUE_READY = 0x044, NOTIFY = 0x050, STATUS = 0x070, EMERGENCY = 0x108 };
 
-static uint8_t *memory;
-static uint32_t status, ready, block, console, notifies[2];
-static uint8_t output[16];
-static size_t waiting;
+static struct guest {
+    uint8_t *memory;
+    uint32_t status, ready, block, console;
+    uint8_t output[16];
+    size_t waiting;
+} guests[GUESTS];
 
-static uint32_t done(struct kalyubos_pending *pending)
+static uint32_t notifies[2];
+static bool hosted, in_flight;
+static size_t asked; /* how many operations there were */
+
+static const struct {
+    struct kalyubos_operation operation;
+    struct kalyubos_run runs[2];
+} ASKED[] = {
+    { { KALYUBOS_IN, 1, 0x200, 0x200, false }, { { 0x80005000, 0x200 } } },
+    { { KALYUBOS_OUT, 1, 0, 0x200, true }, { { 0x80006010, 0x200 } } },
+    { { KALYUBOS_IN, 2, 0, 0x200, false }, { { 0x80005000, 0x100 }, { 0x80005800, 0x100 } } },
+};
+
+static uint32_t tell(const struct guest *guest, struct kalyubos_pending *pending, uint32_t answer)
 {
-    *pending = (struct kalyubos_pending){ block, console, waiting };
-    return KALYUBOS_DONE;
+    *pending = (struct kalyubos_pending){ guest->block, guest->console, guest->waiting };
+    return answer;
 }
 
-static void put_out(const char *text)
+static void put_out(struct guest *guest, const char *text)
 {
-    waiting = strlen(text);
-    memcpy(output, text, waiting);
+    guest->waiting = strlen(text);
+    memcpy(guest->output, text, guest->waiting);
+}
+
+static uint32_t make(struct kalyubos *board)
+{
+    for (int i = 0; i < GUESTS; i++)
+        if ((guests[i].memory = calloc(LEN, 1)) == NULL)
+            return KALYUBOS_NO_MEMORY;
+    board->at = guests;
+    return KALYUBOS_DONE;
 }
 
 uint32_t kalyubos_create(struct kalyubos *board, const struct kalyubos_slot *slots, size_t slots_len,
@@ -31,21 +56,28 @@ uint32_t kalyubos_create(struct kalyubos *board, const struct kalyubos_slot *slo
 {
     (void)slots, (void)slots_len, (void)image, (void)image_len, (void)cache;
     (void)chains, (void)bytes;
-    board->at = memory = calloc(LEN, 1);
-    return memory != NULL ? KALYUBOS_DONE : KALYUBOS_NO_MEMORY;
+    return make(board);
+}
+
+uint32_t kalyubos_create_hosted(struct kalyubos *board, const struct kalyubos_slot *slots, size_t slots_len)
+{
+    (void)slots, (void)slots_len;
+    hosted = true;
+    return make(board);
 }
 
 uint32_t kalyubos_destroy(struct kalyubos *board)
 {
-    free(memory);
+    for (int i = 0; i < GUESTS; i++)
+        free(guests[i].memory);
     board->at = NULL;
     return KALYUBOS_DONE;
 }
 
 uint32_t kalyubos_memory(struct kalyubos *board, uint8_t slot, uint8_t **bytes, size_t *len)
 {
-    (void)board, (void)slot;
-    *bytes = memory;
+    (void)board;
+    *bytes = guests[slot].memory;
     *len = LEN;
     return KALYUBOS_DONE;
 }
@@ -53,81 +85,132 @@ uint32_t kalyubos_memory(struct kalyubos *board, uint8_t slot, uint8_t **bytes, 
 uint32_t kalyubos_read(struct kalyubos *board, uint8_t slot, uint8_t window, uint16_t offset, uint8_t width,
                        uint32_t *value)
 {
-    (void)board, (void)slot, (void)window;
-    *value = width != 4 ? 0 : offset == 0 ? 0x74726976 : offset == STATUS ? status : offset == QUEUE_READY ? ready : 0;
+    const struct guest *guest = &guests[slot];
+    const uint32_t registers[] = { [0] = 0x74726976, [DEVICE_ID / 4] = 2, [QUEUE_READY / 4] = guest->ready,
+                                   [STATUS / 4] = guest->status };
+    (void)board, (void)window;
+    *value = width == 4 && offset <= STATUS ? registers[offset / 4] : 0;
     return KALYUBOS_DONE;
 }
 
 /* The used ring at 3000 gets the chain of head 0, and its status byte at 6000 is 1; then the window needs a reset. */
-static void serve_disk(void)
+static void serve_disk(struct guest *guest)
 {
     if (++notifies[0] == 1) {
-        memory[0x3002] = 1;
-        memory[0x6000] = 1;
-        block |= 1;
+        guest->memory[0x3002] = 1;
+        guest->memory[0x6000] = 1;
+        guest->block |= 1;
     } else {
-        status |= 0x40;
-        block |= 2;
+        guest->status |= 0x40;
+        guest->block |= 2;
     }
 }
 
 /* The used ring at a000 gets the chain of head 0, then that of head 1. */
-static uint32_t serve_console(struct kalyubos_pending *pending)
+static uint32_t serve_console(struct guest *guest, struct kalyubos_pending *pending)
 {
-    console |= 1;
-    memory[0xa002] = ++notifies[1];
+    guest->console |= 1;
+    guest->memory[0xa002] = ++notifies[1];
     if (notifies[1] == 2)
-        memory[0xa00c] = 1;
-    put_out(notifies[1] == 1 ? "0123456789" : "abcdefghij");
-    done(pending);
-    return notifies[1] == 1 ? KALYUBOS_NO_ROOM : KALYUBOS_DONE;
+        guest->memory[0xa00c] = 1;
+    put_out(guest, notifies[1] == 1 ? "0123456789" : "abcdefghij");
+    return tell(guest, pending, notifies[1] == 1 ? KALYUBOS_NO_ROOM : KALYUBOS_DONE);
+}
+
+/* The used ring at 3000 gets the chain of the operation that ended, whose status byte lies behind its data or at 7000. */
+static void give_back(struct guest *guest, bool failed)
+{
+    guest->memory[0x3002] = asked;
+    if (asked == 1) {
+        memcpy(guest->memory + 0x3008, (const uint8_t[]){ 0x01, 0x02 }, 2);
+    } else if (asked == 2) {
+        guest->memory[0x300c] = 2;
+        guest->memory[0x3010] = 1;
+    }
+    guest->memory[asked == 1 ? 0x5200 : asked == 2 ? 0x7000 : 0x5900] = failed;
+    guest->block |= 1;
+}
+
+static uint32_t ask(struct guest *guest, struct kalyubos_pending *pending)
+{
+    in_flight = true;
+    asked++;
+    return tell(guest, pending, KALYUBOS_IO);
+}
+
+uint32_t kalyubos_operation(struct kalyubos *board, uint8_t slot, struct kalyubos_operation *operation,
+                            struct kalyubos_run *runs, size_t runs_len)
+{
+    (void)board, (void)slot, (void)runs_len;
+    *operation = ASKED[asked - 1].operation;
+    memcpy(runs, ASKED[asked - 1].runs, sizeof ASKED->runs);
+    return KALYUBOS_DONE;
+}
+
+/* Behind the first operation the second is on offer. */
+uint32_t kalyubos_completed(struct kalyubos *board, uint8_t slot, bool failed, struct kalyubos_pending *pending)
+{
+    struct guest *guest = &guests[slot];
+    (void)board;
+    if (!in_flight)
+        return tell(guest, pending, KALYUBOS_IDLE);
+    give_back(guest, failed);
+    in_flight = false;
+    return asked == 1 ? ask(guest, pending) : tell(guest, pending, KALYUBOS_DONE);
 }
 
 uint32_t kalyubos_write(struct kalyubos *board, uint8_t slot, uint8_t window, uint16_t offset, uint8_t width,
                         uint32_t value, struct kalyubos_pending *pending)
 {
-    (void)board, (void)slot, (void)width;
+    struct guest *guest = &guests[slot];
+    (void)board, (void)width;
     if (window == KALYUBOS_CONSOLE && offset == EMERGENCY) {
-        put_out((char[]){ value, 0 });
+        put_out(guest, (char[]){ value, 0 });
+    } else if (offset == STATUS && in_flight) {
+        return tell(guest, pending, KALYUBOS_BUSY);
     } else if (offset == STATUS) {
-        status = value == 0 ? 0 : status | value;
+        guest->status = value == 0 ? 0 : guest->status | value;
+        guest->block = value == 0 && window == KALYUBOS_BLOCK ? 0 : guest->block;
     } else if (offset == QUEUE_READY) {
-        ready = value;
+        guest->ready = value;
     } else if (offset == NOTIFY && window == KALYUBOS_CONSOLE) {
-        return serve_console(pending);
-    } else if (offset == NOTIFY && (status & 4) != 0) {
-        serve_disk();
+        return serve_console(guest, pending);
+    } else if (offset == NOTIFY && hosted) {
+        return ask(guest, pending);
+    } else if (offset == NOTIFY && (guest->status & 4) != 0) {
+        serve_disk(guest);
     }
-    return done(pending);
+    return tell(guest, pending, KALYUBOS_DONE);
 }
 
 /* Nothing of it pauses. */
 uint32_t kalyubos_go_on(struct kalyubos *board, uint8_t slot, struct kalyubos_pending *pending)
 {
-    (void)board, (void)slot;
-    return done(pending);
+    (void)board;
+    return tell(&guests[slot], pending, KALYUBOS_DONE);
 }
 
 uint32_t kalyubos_input(struct kalyubos *board, uint8_t slot, const uint8_t *bytes, size_t bytes_len, size_t *took,
                         struct kalyubos_pending *pending)
 {
-    (void)board, (void)slot, (void)bytes;
+    (void)board, (void)bytes;
     *took = bytes_len;
-    return done(pending);
+    return tell(&guests[slot], pending, KALYUBOS_DONE);
 }
 
 uint32_t kalyubos_resize(struct kalyubos *board, uint8_t slot, uint16_t cols, uint16_t rows,
                          struct kalyubos_pending *pending)
 {
-    (void)board, (void)slot, (void)cols, (void)rows;
-    return done(pending);
+    (void)board, (void)cols, (void)rows;
+    return tell(&guests[slot], pending, KALYUBOS_DONE);
 }
 
 uint32_t kalyubos_take_output(struct kalyubos *board, uint8_t slot, uint8_t *into, size_t into_len, size_t *taken)
 {
-    (void)board, (void)slot;
-    *taken = waiting < into_len ? waiting : into_len;
-    memcpy(into, output, *taken);
-    waiting -= *taken;
+    struct guest *guest = &guests[slot];
+    (void)board;
+    *taken = guest->waiting < into_len ? guest->waiting : into_len;
+    memcpy(into, guest->output, *taken);
+    guest->waiting -= *taken;
     return KALYUBOS_DONE;
 }

@@ -1,7 +1,8 @@
 /*
  * record-test FILE: a host with one guest, whose calls record.c writes to FILE and watch.c looks at. What must stand in
- * FILE, FILE.records and FILE.mistakes was written by hand: record-test.trace and its neighbours. It is linked to the
- * library, or to record-stub.c, which answers the same.
+ * FILE, FILE.records and FILE.mistakes was written by hand: record-test.trace and its neighbours. With a word `hosted` behind
+ * FILE it has two guests whose disks it serves; record-hosted.trace has their calls. It is linked to the library, or to
+ * record-stub.c, which answers the same.
  */
 #include <stdio.h>
 #include <stdlib.h>
@@ -29,7 +30,8 @@ static uint32_t try_to_write(uint8_t window, uint16_t offset, uint8_t width, uin
     struct watch_call call = { WATCH_WRITE, 0, window, offset, width, value };
     watch_before(&call);
     uint32_t answer = record_write(&board, 0, window, offset, width, value, &pending);
-    watch_after(&board, &call, record_line());
+    if (answer != KALYUBOS_BUSY)
+        watch_after(&board, &call, record_line());
     return answer;
 }
 
@@ -117,22 +119,26 @@ static void transmit_more_than_fits(void)
     must(try_to_write(KALYUBOS_CONSOLE, 0x050, 4, 1) == KALYUBOS_DONE && pending.output == 10, "the write again");
 }
 
-int main(int argc, char **argv)
+/* ---- over an image */
+
+static const struct kalyubos_slot SLOT = {
+    .size = sizeof(struct kalyubos_slot), .base = BASE, .len = LEN, .count = SECTORS, .cols = 80, .rows = 25,
+    .outlet = 16, .identity = "a disk of two",
+};
+
+/* Lends guest 0's memory, and watches its drivers. */
+static void begin(FILE *mistakes)
 {
-    static const struct kalyubos_slot SLOT = {
-        .size = sizeof(struct kalyubos_slot), .base = BASE, .len = LEN, .count = SECTORS, .cols = 80, .rows = 25,
-        .outlet = 16, .identity = "a disk of two",
-    };
-    static const uint8_t IMAGE[SECTORS * 512];
-    char told[4096];
     size_t len;
-    must(argc == 2 && record_to(argv[1]), "a file is wanted");
-    snprintf(told, sizeof told, "%s.mistakes", argv[1]);
-    FILE *mistakes = fopen(told, "w");
-    must(mistakes != NULL, told);
-    must(record_create(&board, &SLOT, 1, IMAGE, sizeof IMAGE, 1, 0, 0) == KALYUBOS_DONE, "create");
     must(kalyubos_memory(&board, 0, &memory, &len) == KALYUBOS_DONE && len == LEN, "the memory");
     watch_guest(0, &(struct queue_memory){ BASE, memory, LEN }, mistakes);
+}
+
+static void use_image(FILE *mistakes)
+{
+    static const uint8_t IMAGE[SECTORS * 512];
+    must(record_create(&board, &SLOT, 1, IMAGE, sizeof IMAGE, 1, 0, 0) == KALYUBOS_DONE, "create");
+    begin(mistakes);
     must(read_register(KALYUBOS_BLOCK, 0x000, 4) == 0x74726976, "MagicValue");
     use_memory_and_console();
     bring_up(KALYUBOS_BLOCK, 0, BASE + TABLE);
@@ -146,6 +152,88 @@ int main(int argc, char **argv)
     write_register(KALYUBOS_CONSOLE, 0x070, 4, 15);
     transmit_more_than_fits();
     must(watch_count(0) == 4, "four mistakes");
+}
+
+/* ---- with disks that the host serves */
+
+static void complete(bool failed, uint32_t expected)
+{
+    struct watch_call call = { .kind = WATCH_COMPLETION, .window = KALYUBOS_BLOCK, .value = failed };
+    watch_before(&call);
+    must(record_completed(&board, 0, failed, &pending) == expected, "a completion");
+    watch_after(&board, &call, record_line());
+}
+
+/* A read of sector 1 and a write of sector 0, each of two descriptors, by one notify. */
+static void ask_for_two(void)
+{
+    static const uint8_t DESCRIPTORS[] = {
+        0x00, 0x40, 0x00, 0x80, 0, 0, 0, 0, 0x10, 0x00, 0, 0, 1, 0, 1, 0,
+        0x00, 0x50, 0x00, 0x80, 0, 0, 0, 0, 0x01, 0x02, 0, 0, 2, 0, 0, 0,
+        0x00, 0x60, 0x00, 0x80, 0, 0, 0, 0, 0x10, 0x02, 0, 0, 1, 0, 3, 0,
+        0x00, 0x70, 0x00, 0x80, 0, 0, 0, 0, 0x01, 0x00, 0, 0, 2, 0, 0, 0,
+    };
+    memcpy(memory + TABLE, DESCRIPTORS, sizeof DESCRIPTORS);
+    memory[AVAILABLE + 2] = memory[AVAILABLE + 6] = 2;
+    memory[HEADER + 8] = 1;
+    memory[0x6000] = 1;
+    memcpy(memory + 0x6010, "new", 3);
+    memory[0x5200] = memory[0x7000] = 0xff;
+    must(try_to_write(KALYUBOS_BLOCK, 0x050, 4, 0) == KALYUBOS_IO, "an operation");
+}
+
+/* While the read is in flight guest 1 goes on, and guest 0 too, but for a reset of its disk. */
+static void go_on_meanwhile(void)
+{
+    uint32_t value;
+    must(record_read(&board, 1, KALYUBOS_BLOCK, 0x008, 4, &value) == KALYUBOS_DONE && value == 2, "DeviceID of guest 1");
+    memory[0x10] = 1;
+    write_register(KALYUBOS_CONSOLE, 0x108, 1, '.');
+    must(try_to_write(KALYUBOS_BLOCK, 0x070, 4, 0) == KALYUBOS_BUSY, "a reset that waits");
+}
+
+/* A read of sector 0 into two buffers, which fails. */
+static void ask_for_what_fails(void)
+{
+    static const uint8_t DESCRIPTORS[] = {
+        0x00, 0x50, 0x00, 0x80, 0, 0, 0, 0, 0x00, 0x01, 0, 0, 3, 0, 2, 0,
+        0x00, 0x58, 0x00, 0x80, 0, 0, 0, 0, 0x01, 0x01, 0, 0, 2, 0, 0, 0,
+    };
+    memcpy(memory + TABLE + 16, DESCRIPTORS, sizeof DESCRIPTORS);
+    memory[AVAILABLE + 2] = 3;
+    memory[HEADER + 8] = 0;
+    memory[0x5900] = 0xff;
+    must(try_to_write(KALYUBOS_BLOCK, 0x050, 4, 0) == KALYUBOS_IO, "one more operation");
+}
+
+static void serve_disks(FILE *mistakes)
+{
+    const struct kalyubos_slot slots[] = { SLOT, SLOT };
+    must(record_create_hosted(&board, slots, 2) == KALYUBOS_DONE, "create_hosted");
+    begin(mistakes);
+    bring_up(KALYUBOS_BLOCK, 0, BASE + TABLE);
+    write_register(KALYUBOS_BLOCK, 0x070, 4, 15);
+    ask_for_two();
+    go_on_meanwhile();
+    memcpy(memory + 0x5000, "host", 4);
+    complete(false, KALYUBOS_IO);
+    complete(false, KALYUBOS_DONE);
+    complete(false, KALYUBOS_IDLE);
+    ask_for_what_fails();
+    complete(true, KALYUBOS_DONE);
+    write_register(KALYUBOS_BLOCK, 0x070, 4, 0);
+    must(watch_count(0) == 1, "a mistake");
+}
+
+int main(int argc, char **argv)
+{
+    char told[4096];
+    bool hosted = argc == 3 && strcmp(argv[2], "hosted") == 0;
+    must((argc == 2 || hosted) && record_to(argv[1]), "a file is wanted");
+    snprintf(told, sizeof told, "%s.mistakes", argv[1]);
+    FILE *mistakes = fopen(told, "w");
+    must(mistakes != NULL, told);
+    (hosted ? serve_disks : use_image)(mistakes);
     must(kalyubos_destroy(&board) == KALYUBOS_DONE && record_end() && fclose(mistakes) == 0, "the end");
     return 0;
 }

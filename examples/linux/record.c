@@ -29,9 +29,18 @@ struct seen {
     struct text untold; /* what no record has yet */
 };
 
+/* What a call asks the host for, until its record has it. */
+struct asked {
+    bool is_there;
+    struct kalyubos_operation operation;
+    struct kalyubos_run runs[KALYUBOS_RUNS];
+};
+
 static FILE *trace, *records;
 static size_t lines, called; /* the lines of the trace so far, and the number of the last call's */
 static struct seen seen[SLOTS];
+static bool hosted; /* the host serves the disks: each record says what was asked */
+static struct asked asked;
 
 /* Whether a call is one to write down: those that name a slot that isn't there are none. */
 static bool writes(uint8_t slot)
@@ -81,13 +90,34 @@ static void end_call(void)
     called = lines;
 }
 
-/* The end of a record: the output that no record has yet, and the interrupt words as they stand. */
+static void put_asked(void)
+{
+    static const char *const KINDS[] = {
+        [KALYUBOS_IN] = "in", [KALYUBOS_OUT] = "out", [KALYUBOS_FLUSH] = "flush", [KALYUBOS_ZEROES] = "zeroes",
+    };
+    const struct kalyubos_operation *operation = &asked.operation;
+    if (!asked.is_there) {
+        fputs(" -", records);
+        return;
+    }
+    fprintf(records, " %s%s:%llx:%llx:%s", KINDS[operation->kind], operation->stable ? "-stable" : "",
+            (unsigned long long)operation->start, (unsigned long long)operation->len, operation->runs == 0 ? "-" : "");
+    for (uint32_t i = 0; i < operation->runs; i++)
+        fprintf(records, "%s%llx+%llx", i > 0 ? "," : "", (unsigned long long)asked.runs[i].at,
+                (unsigned long long)asked.runs[i].len);
+    asked.is_there = false;
+}
+
+/* The end of a record: the output that no record has yet, the interrupt words as they stand, and what was asked. */
 static void end_record(uint8_t slot)
 {
     struct seen *of = &seen[slot];
     fputc(' ', records);
     put_bytes(records, of->untold.bytes, of->untold.len);
-    fprintf(records, " %x %x\n", (unsigned)of->waits.block, (unsigned)of->waits.console);
+    fprintf(records, " %x %x", (unsigned)of->waits.block, (unsigned)of->waits.console);
+    if (hosted)
+        put_asked();
+    fputc('\n', records);
     of->untold.len = 0;
 }
 
@@ -203,6 +233,7 @@ bool record_end(void)
         free(seen[i].untold.bytes);
     }
     memset(seen, 0, sizeof seen);
+    hosted = false;
     trace = records = NULL;
     return good;
 }
@@ -224,6 +255,13 @@ static void put_slot(struct kalyubos *board, uint8_t index, const struct kalyubo
         abort();
 }
 
+static void put_slots(struct kalyubos *board, const struct kalyubos_slot *slots, size_t slots_len)
+{
+    for (size_t i = 0; i < slots_len; i++)
+        put_slot(board, i, &slots[i]);
+    lines = called = 2 + slots_len;
+}
+
 uint32_t record_create(struct kalyubos *board, const struct kalyubos_slot *slots, size_t slots_len,
                        const uint8_t *image, size_t image_len, uint32_t cache, uint32_t chains, uint64_t bytes)
 {
@@ -231,9 +269,18 @@ uint32_t record_create(struct kalyubos *board, const struct kalyubos_slot *slots
     if (trace == NULL || answer != KALYUBOS_DONE)
         return answer;
     fprintf(trace, "vreplay 2\ncache %x\n", (unsigned)cache);
-    for (size_t i = 0; i < slots_len; i++)
-        put_slot(board, i, &slots[i]);
-    lines = called = 2 + slots_len;
+    put_slots(board, slots, slots_len);
+    return answer;
+}
+
+uint32_t record_create_hosted(struct kalyubos *board, const struct kalyubos_slot *slots, size_t slots_len)
+{
+    uint32_t answer = kalyubos_create_hosted(board, slots, slots_len);
+    if (trace == NULL || answer != KALYUBOS_DONE)
+        return answer;
+    hosted = true;
+    fputs("vreplay 3\nhosted\n", trace);
+    put_slots(board, slots, slots_len);
     return answer;
 }
 
@@ -253,21 +300,38 @@ uint32_t record_read(struct kalyubos *board, uint8_t slot, uint8_t window, uint1
     return answer;
 }
 
-/*
- * What stands behind a call that a service may come of. An event is written down once it is done, with what it changed
- * then: one for which there is no room is made again before, and one that is paused goes on.
- */
+/* What an event is answered, or NULL where it isn't at its end: it is made again where there is room, or is paused. */
+static const char *reply_of(const struct seen *of, uint32_t answer)
+{
+    switch (answer) {
+    case KALYUBOS_DONE:
+    case KALYUBOS_IO:
+        return of->reply;
+    case KALYUBOS_BUSY: /* of a disk that is at work: a later event makes the write again */
+        return "busy";
+    case KALYUBOS_IDLE:
+        return "idle";
+    default:
+        return NULL;
+    }
+}
+
+/* What stands behind a call that a service may come of. An event is written down at its end, with what it changed then. */
 static uint32_t settle(struct kalyubos *board, uint8_t slot, uint32_t answer, struct kalyubos_pending *pending)
 {
     struct seen *of = &seen[slot];
+    const char *reply = reply_of(of, answer);
     keep(board, slot, pending);
     of->refused = answer == KALYUBOS_NO_ROOM;
-    if (answer != KALYUBOS_DONE || of->event.len == 0)
+    if (reply == NULL || of->event.len == 0)
         return answer;
     fwrite(of->event.bytes, 1, of->event.len, trace);
     of->event.len = 0;
     end_call();
-    put_record(slot, of->reply);
+    asked.is_there = answer == KALYUBOS_IO;
+    if (asked.is_there)
+        kalyubos_operation(board, slot, &asked.operation, asked.runs, KALYUBOS_RUNS);
+    put_record(slot, reply);
     put_changes(slot, put_read);
     return answer;
 }
@@ -293,6 +357,17 @@ uint32_t record_go_on(struct kalyubos *board, uint8_t slot, struct kalyubos_pend
 {
     uint32_t answer = kalyubos_go_on(board, slot, pending);
     return writes(slot) ? settle(board, slot, answer, pending) : answer;
+}
+
+uint32_t record_completed(struct kalyubos *board, uint8_t slot, bool failed, struct kalyubos_pending *pending)
+{
+    if (!writes(slot) || !hosted)
+        return kalyubos_completed(board, slot, failed, pending);
+    put_changes(slot, put_write);
+    char line[16];
+    ask(slot, line, snprintf(line, sizeof line, "io %x %s", slot, failed ? "failed" : "done"));
+    strcpy(seen[slot].reply, "done");
+    return settle(board, slot, kalyubos_completed(board, slot, failed, pending), pending);
 }
 
 uint32_t record_input(struct kalyubos *board, uint8_t slot, const uint8_t *bytes, size_t bytes_len, size_t *took,

@@ -2,7 +2,11 @@
  * The library's calls, which also write what guests did as a trace for vreplay (docs/formats.md), and beside it, in
  * FILE.records, what they were answered. A host calls record_read where it would call kalyubos_read, and so on. What
  * changed in a guest's memory between two of its calls, by the CPU or by the host, becomes `mw` lines, and what a device
- * changed in it during a call `mr` lines with the bytes that stand there then.
+ * changed in it during a call `mr` lines with the bytes that stand there then. A write that finds no room is made again
+ * before any other call for its guest.
+ *
+ * Of disks that the host serves a completion is a line, each record says what was asked, and what the host read into memory
+ * stands as `mw` lines before.
  *
  * One board for the process. Where record_to wasn't called nothing is written, and each call is the library's.
  */
@@ -22,11 +26,13 @@ bool record_end(void);
 
 uint32_t record_create(struct kalyubos *board, const struct kalyubos_slot *slots, size_t slots_len,
                        const uint8_t *image, size_t image_len, uint32_t cache, uint32_t chains, uint64_t bytes);
+uint32_t record_create_hosted(struct kalyubos *board, const struct kalyubos_slot *slots, size_t slots_len);
 uint32_t record_read(struct kalyubos *board, uint8_t slot, uint8_t window, uint16_t offset, uint8_t width,
                      uint32_t *value);
 uint32_t record_write(struct kalyubos *board, uint8_t slot, uint8_t window, uint16_t offset, uint8_t width,
                       uint32_t value, struct kalyubos_pending *pending);
 uint32_t record_go_on(struct kalyubos *board, uint8_t slot, struct kalyubos_pending *pending);
+uint32_t record_completed(struct kalyubos *board, uint8_t slot, bool failed, struct kalyubos_pending *pending);
 uint32_t record_input(struct kalyubos *board, uint8_t slot, const uint8_t *bytes, size_t bytes_len, size_t *took,
                       struct kalyubos_pending *pending);
 uint32_t record_resize(struct kalyubos *board, uint8_t slot, uint16_t cols, uint16_t rows,

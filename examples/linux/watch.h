@@ -11,7 +11,10 @@
 #include "kalyubos.h"
 #include "window.h"
 
-/* A guest's access to a register; what was typed to its console, or a completion of its disk, which have no register. */
+/*
+ * A guest's access to a register; what was typed to its console, or a completion of its disk, which have no register. The
+ * value of a completion says whether it failed.
+ */
 struct watch_call {
     enum { WATCH_READ, WATCH_WRITE, WATCH_INPUT, WATCH_COMPLETION } kind;
     uint8_t slot, window;

@@ -127,7 +127,7 @@ struct words words_of(int argc, char **argv)
         fail("--image beside --keep");
     if (has_saved_guest(&words) && (words.image != NULL || words.record != NULL))
         fail("a saved guest beside --image or --record");
-    if (words.hosted && (words.image != NULL || words.kept >= 0 || words.record != NULL))
-        fail("--hosted beside --image, --keep or --record");
+    if (words.hosted && (words.image != NULL || words.kept >= 0))
+        fail("--hosted beside --image or --keep");
     return words;
 }
