@@ -1,7 +1,7 @@
 -- What waits for what is in flight, and what doesn't end it.
-use Rattle.std.proofs.Common.{◌≡◌, ◌⊎◌, inl, inr, ℕ, Bool, true, false, Option, Some, None, List, [], refl, sym, ◌∙◌, ap, subst}
+use Rattle.std.proofs.Common.{◌≡◌, ◌⊎◌, inl, inr, ℕ, Bool, true, false, Option, Some, None, List, [], length, refl, sym, ◌∙◌, ap, subst}
 use Rattle.std.specs.Prelude.{⊤, if◌then◌else◌}
-use Rattle.guest_memory.specs.Memory.{Memory}
+use Rattle.guest_memory.specs.Memory.{Memory, is_inside, part_of, put}
 use Rattle.block_device.specs.declared.operation.Verdict.{Verdict}
 use Rattle.board.specs.declared.event.EventKind.{EventKind}
 use Rattle.board.specs.declared.event.EventKind.TheVariants.{Read, Write, MemRead, MemWrite, Input, Resize, Restore, Complete}
@@ -23,16 +23,6 @@ own_next old what outcome own h = subst (λ (v : Option Verdict). CompletesOrGiv
 
 pub next_own : {A : Type 0} (old : HostedState) (what : EventKind A) (outcome : HostedOutcome A) → IsOwn what → OwnGives old.flight old what outcome → IsHostedNext old what outcome
 next_own old what outcome own h = subst (λ (v : Option Verdict). CompletesOrGives v old what outcome) (sym own) h
-
-pub completion_is : {A : Type 0} (what : EventKind A) (verdict : Verdict) → verdict_in what ≡ Some verdict → what ≡ Complete verdict
-completion_is (Complete v) verdict is = rw is refl
-completion_is (Read window offset width) verdict is = absurd (cc)
-completion_is (Write window offset width value) verdict is = absurd (cc)
-completion_is (MemRead addr len) verdict is = absurd (cc)
-completion_is (MemWrite addr bytes) verdict is = absurd (cc)
-completion_is (Input bytes) verdict is = absurd (cc)
-completion_is (Resize cols rows) verdict is = absurd (cc)
-completion_is (Restore bytes) verdict is = absurd (cc)
 
 -- ---- what doesn't end it
 
@@ -101,8 +91,8 @@ restore_untied {A} state bytes outcome (inr refused) = told state outcome BadSta
 pub untied : {A : Type 0} (state : SlotState) (what : EventKind A) (old new : Health) (outcome : Outcome A) → MayGive state what old new outcome → IsUntied state outcome
 untied {A} state (Read window offset width) old new outcome (inl served) = told state outcome (Value _) (ap (λ (o : Outcome A). o.reply) served.alike.alike) tt
 untied state (Write window offset width value) old new outcome (inl served) = finished_untied _ state _ old new outcome served.alike
-untied state (MemRead addr len) old new outcome (inl served) = read_untied state _ outcome _ served.alike.alike
-untied state (MemWrite addr bytes) old new outcome (inl served) = write_untied state _ outcome _ served.alike.alike
+untied state (MemRead addr len) old new outcome (inl served) = read_untied state (part_of state.memory addr len) outcome (is_inside state.memory addr len) served.alike.alike
+untied state (MemWrite addr bytes) old new outcome (inl served) = write_untied state (put state.memory addr bytes) outcome (is_inside state.memory addr (length bytes)) served.alike.alike
 untied {A} state (Input bytes) old new outcome (inl served) = told state outcome (Took _) (ap (λ (o : Outcome A). o.reply) served.alike.is) tt
 untied {A} state (Resize cols rows) old new outcome (inl served) = told state outcome Done (ap (λ (o : Outcome A). o.reply) served.alike.alike) tt
 untied state (Restore bytes) old new outcome (inl served) = restore_untied state bytes outcome served.alike.alike
