@@ -1,4 +1,5 @@
 -- When a write is refused.
+use Rattle.std.proofs.Common.{refl}
 use Rattle.board.specs.declared.event.EventKind.TheVariants.{Write}
 use Rattle.embed.specs.declared.refusal.Refusal.TheVariants.{BadSlot, Busy, NoRoom}
 use Rattle.embed.proofs.HostedExact.{exact, refused_only, refused_where, served_in}
