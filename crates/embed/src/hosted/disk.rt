@@ -41,9 +41,7 @@ impl<A: Allocator> HostedSession<A> {
         ensures asks { IfOk result (λ progress. progress ≡ progress_by before (operation_at slot self.now)) }
     {
         match reply {
-            Reply::Done => {
-                Ok(HostedProgress::between(before, self.operation(slot)))
-            }
+            Reply::Done => { Ok(HostedProgress::between(before, self.operation(slot))) }
             _ => Err(Refusal::of_hosted(reply)),
         }
     }
