@@ -5,7 +5,7 @@ use Rattle.std.specs.List.{slice_get}
 use Rattle.std.proofs.lemmas.Bool.Decides.{eqb_tells}
 use Rattle.board.specs.declared.event.Event.{Event}
 use Rattle.board.specs.declared.event.EventKind.{EventKind}
-use Rattle.board.specs.declared.event.EventKind.TheVariants.{Read, Write, MemRead, MemWrite, Input, Resize, Restore}
+use Rattle.board.specs.declared.event.EventKind.TheVariants.{Read, Write, MemRead, MemWrite, Input, Resize, Restore, Complete}
 use Rattle.board.specs.declared.reply.Reply.TheVariants.{NoMemory}
 use Rattle.board.specs.declared.reply.Record.{Record}
 use Rattle.board.specs.Image.{Health}
@@ -35,6 +35,7 @@ refused_shows state (MemWrite addr bytes) old new outcome refused answered stood
 refused_shows state (Input bytes) old new outcome refused answered stood = refused
 refused_shows state (Resize cols rows) old new outcome refused answered stood = refused
 refused_shows state (Restore bytes) old new outcome refused answered stood = refused
+refused_shows state (Complete verdict) old new outcome refused answered stood = refused
 
 -- an event that met no refusal came out as the one-slot machine has it
 pub served : {A : Type 0} (state : SlotState) (what : EventKind A) (old new : Health) (outcome : Outcome A) → MayGive state what old new outcome → outcome.reply ≢ NoMemory → new.failures ≡ old.failures → Gives state what old new outcome

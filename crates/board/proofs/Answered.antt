@@ -13,7 +13,7 @@ use Rattle.console_device.specs.Device.{transmit_fitting, transmit_within}
 use Rattle.console_device.proofs.Pieces.{fitting_within}
 use Rattle.board.specs.declared.event.Event.{Event}
 use Rattle.board.specs.declared.event.EventKind.{EventKind}
-use Rattle.board.specs.declared.event.EventKind.TheVariants.{Read, Write, MemRead, MemWrite, Input, Resize, Restore}
+use Rattle.board.specs.declared.event.EventKind.TheVariants.{Read, Write, MemRead, MemWrite, Input, Resize, Restore, Complete}
 use Rattle.board.specs.declared.pause.Service.TheVariants.{Transmit}
 use Rattle.board.specs.declared.pause.Turn.TheVariants.{Answered}
 use Rattle.board.specs.declared.reply.Reply.{Reply}
@@ -95,3 +95,4 @@ ended_within limit (MemWrite addr bytes) budget state new waiting left reply h =
 ended_within limit (Input bytes) budget state new waiting left reply h = tt
 ended_within limit (Resize cols rows) budget state new waiting left reply h = tt
 ended_within limit (Restore bytes) budget state new waiting left reply h = tt
+ended_within limit (Complete verdict) budget state new waiting left reply h = tt

@@ -10,9 +10,10 @@ use Rattle.mmio_window.specs.Window.{WindowState}
 use Rattle.mmio_window.specs.Writing.{written}
 use Rattle.block_device.specs.declared.device.BlockDevice.{BlockDevice}
 use Rattle.block_device.specs.declared.extent.Extent.{Extent}
+use Rattle.block_device.specs.declared.operation.Verdict.{Verdict}
 use Rattle.block_device.specs.Extent.{IsWithin, extent_disk}
-use Rattle.board.specs.declared.event.EventKind.TheVariants.{Read}
-use Rattle.board.specs.declared.reply.Reply.TheVariants.{Value}
+use Rattle.board.specs.declared.event.EventKind.TheVariants.{Read, Complete}
+use Rattle.board.specs.declared.reply.Reply.TheVariants.{Value, Idle}
 use Rattle.board.specs.Image.{Health, Tells, bytes_of, health_of, sectors_of, disk_with}
 use Rattle.board.specs.Machine.{register}
 use Rattle.board.specs.Outcome.{replies}
@@ -68,3 +69,7 @@ read_given state window offset width value health is = inl (record {
   answered = λ none. cc;
   failures = refl;
 })
+
+-- and a completion: nothing is in flight
+pub completion_given : {A : Type 0} (state : SlotState) (verdict : Verdict) (health : Health) → MayGive {A = A} state (Complete verdict) health health (replies state Idle)
+completion_given state verdict health = inl (record { alike = record { alike = refl; image = refl }; answered = λ none. cc; failures = refl })

@@ -79,6 +79,7 @@ served_clear state (event.MemWrite addr bytes) old new outcome clear h = same_ma
 served_clear state (event.Input bytes) old new outcome clear h = same_mark old new h.image clear
 served_clear state (event.Resize cols rows) old new outcome clear h = same_mark old new h.image clear
 served_clear state (event.Restore bytes) old new outcome clear h = same_mark old new h.image clear
+served_clear state (event.Complete verdict) old new outcome clear h = same_mark old new h.image clear
 
 cut_short_clear : {A : Type 0} (task : Task) (state : SlotState) (old new : Health) (outcome : Outcome A) → new.failures ≡ old.failures → old.mark ≡ false → IsCutShort task state old new outcome → new.mark ≡ false
 cut_short_clear Nothing state old new outcome same clear h = absurd h
@@ -96,6 +97,7 @@ refused_clear state (event.MemWrite addr bytes) old new outcome same clear h = a
 refused_clear state (event.Input bytes) old new outcome same clear h = absurd h
 refused_clear state (event.Resize cols rows) old new outcome same clear h = absurd h
 refused_clear state (event.Restore bytes) old new outcome same clear h = absurd h
+refused_clear state (event.Complete verdict) old new outcome same clear h = absurd h
 
 given_clear : {A : Type 0} (state : SlotState) (what : EventKind A) (old new : Health) (outcome : Outcome A) → new.failures ≡ old.failures → old.mark ≡ false → MayGive state what old new outcome → new.mark ≡ false
 given_clear state what old new outcome same clear (inl h) = served_clear state what old new outcome clear h.alike

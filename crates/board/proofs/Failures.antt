@@ -1,7 +1,7 @@
 -- The number of the image's failures never falls in an event of a slot.
 use Rattle.std.proofs.Common.{◌≡◌, inl, inr, ◌≤◌, ap, arith}
 use Rattle.board.specs.declared.event.EventKind.{EventKind}
-use Rattle.board.specs.declared.event.EventKind.TheVariants.{Read, Write, MemRead, MemWrite, Input, Resize, Restore}
+use Rattle.board.specs.declared.event.EventKind.TheVariants.{Read, Write, MemRead, MemWrite, Input, Resize, Restore, Complete}
 use Rattle.board.specs.Image.{Health}
 use Rattle.board.specs.Machine.{task_at, with_write}
 use Rattle.board.specs.Outcome.{Outcome}
@@ -27,6 +27,7 @@ refused_failures state (MemWrite addr bytes) old new outcome refused = absurd re
 refused_failures state (Input bytes) old new outcome refused = absurd refused
 refused_failures state (Resize cols rows) old new outcome refused = absurd refused
 refused_failures state (Restore bytes) old new outcome refused = absurd refused
+refused_failures state (Complete verdict) old new outcome refused = absurd refused
 
 -- in any event of a slot
 pub given_failures : {A : Type 0} (state : SlotState) (what : EventKind A) (old new : Health) (outcome : Outcome A) → MayGive state what old new outcome → old.failures ≤ new.failures

@@ -25,8 +25,7 @@ use Rattle.block_device.specs.Operation.{LieBy, LiesInside}
 use Rattle.block_device.proofs.Unasked.{flight_outlasts}
 use Rattle.sector_cache.specs.Disk.{Disk}
 use Rattle.board.specs.declared.event.EventKind.{EventKind}
-use Rattle.board.specs.declared.event.EventKind.TheVariants.{Read, Write, MemRead, MemWrite, Input, Resize, Restore}
-use Rattle.board.specs.declared.hosted.reply.HostedReply.TheVariants.{Answered, Idle}
+use Rattle.board.specs.declared.event.EventKind.TheVariants.{Read, Write, MemRead, MemWrite, Input, Resize, Restore, Complete}
 use Rattle.board.specs.declared.reply.Reply.TheVariants as reply
 use Rattle.board.specs.Hosting.{CompletionGives, HostedState, InFlight, IsHeld, IsHeldBy, IsSoundHosted, LooksAtQueue, answers, block_beside, device_at, flight_by, hosted_slot, in_rooms, must_wait, unlimited, unseen}
 use Rattle.board.specs.Image.{sectors_of}
@@ -49,6 +48,7 @@ keeps_queues (MemWrite addr bytes) slot free = keeps_all slot.block
 keeps_queues (Input bytes) slot free = keeps_all slot.block
 keeps_queues (Resize cols rows) slot free = keeps_all slot.block
 keeps_queues (Restore bytes) slot free = absurd (cc)
+keeps_queues (Complete verdict) slot free = keeps_all slot.block
 
 -- what lies in a memory lies in every one of its range
 lie_still : (what : OperationKind) (capacity : ℕ) (m m' : Memory) (runs : List Segment) → SameRange m m' → LieBy what capacity m runs → LieBy what capacity m' runs
@@ -146,9 +146,9 @@ held_of slot found flight buffers runs is held = subst (λ (o : Option Flight). 
 -- The slot once its chain was completed, and the queue looked at behind it.
 pub landed : (A : Type 0) (slot after : BoardSlot) (found : Option Flight) (flight : Flight) (buffers : List Buffer) (runs : List Segment) (verdict : Verdict) (new : HostedState) → found ≡ Some flight
     → CompletesIn flight verdict slot.memory after.memory slot.block after.block buffers → after ≡ with_served slot after.memory after.block → LooksAtQueue (hosted_slot after) new
-    → CompletionGives {A = A} (in_rooms found buffers runs) (record { slot = hosted_slot slot; flight = in_rooms found buffers runs }) verdict (answers new (Answered reply.Done))
+    → CompletionGives {A = A} (in_rooms found buffers runs) (record { slot = hosted_slot slot; flight = in_rooms found buffers runs }) verdict (answers new reply.Done)
 landed A slot after found flight buffers runs verdict new is completes rest then =
-    subst (λ (o : Option Flight). CompletionGives {A = A} (in_rooms o buffers runs) (record { slot = hosted_slot slot; flight = in_rooms o buffers runs }) verdict (answers new (Answered reply.Done))) (sym is) (
+    subst (λ (o : Option Flight). CompletionGives {A = A} (in_rooms o buffers runs) (record { slot = hosted_slot slot; flight = in_rooms o buffers runs }) verdict (answers new reply.Done)) (sym is) (
       record {
         memory = after.memory;
         block = after.block;
@@ -160,9 +160,9 @@ landed A slot after found flight buffers runs verdict new is completes rest then
 
 -- Nothing was in flight.
 pub idle : (A : Type 0) (slot : BoardSlot) (found : Option Flight) (buffers : List Buffer) (runs : List Segment) (verdict : Verdict) → found ≡ None
-    → CompletionGives {A = A} (in_rooms found buffers runs) (record { slot = hosted_slot slot; flight = in_rooms found buffers runs }) verdict (answers (record { slot = hosted_slot slot; flight = None }) Idle)
+    → CompletionGives {A = A} (in_rooms found buffers runs) (record { slot = hosted_slot slot; flight = in_rooms found buffers runs }) verdict (answers (record { slot = hosted_slot slot; flight = None }) reply.Idle)
 idle A slot found buffers runs verdict is =
-    subst (λ (o : Option Flight). CompletionGives {A = A} (in_rooms o buffers runs) (record { slot = hosted_slot slot; flight = in_rooms o buffers runs }) verdict (answers (record { slot = hosted_slot slot; flight = None }) Idle)) (sym is) refl
+    subst (λ (o : Option Flight). CompletionGives {A = A} (in_rooms o buffers runs) (record { slot = hosted_slot slot; flight = in_rooms o buffers runs }) verdict (answers (record { slot = hosted_slot slot; flight = None }) reply.Idle)) (sym is) refl
 
 -- whether anything is in flight
 pub some_in : (found : Option Flight) (buffers : List Buffer) (runs : List Segment) → is_some (in_rooms found buffers runs) ≡ is_some found

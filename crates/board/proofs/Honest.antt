@@ -24,10 +24,10 @@ use Rattle.block_device.specs.Asking.{IsAsked}
 use Rattle.block_device.specs.Hosting.{HostsTo, IsGivenBack, StopsAt, at_disk, wants_stable}
 use Rattle.block_device.proofs.Unasked.{honest_host_serves}
 use Rattle.board.specs.declared.event.EventKind.{EventKind}
-use Rattle.board.specs.declared.event.EventKind.TheVariants.{Read, Write, MemRead, MemWrite, Input, Resize, Restore}
+use Rattle.board.specs.declared.event.EventKind.TheVariants.{Read, Write, MemRead, MemWrite, Input, Resize, Restore, Complete}
 use Rattle.board.specs.declared.reply.Reply.TheVariants.{Bytes, BadRange}
-use Rattle.board.specs.Honest.{AreOwn, IsFlown, IsHonestlyServed, IsOwn}
-use Rattle.board.specs.Hosting.{Completed, GivesInFlight, HostedEvent, HostedOutcome, HostedState, InFlight, IsHostedNext, Own, OwnGives, WaitsOrGives, flight_by, in_rooms, is_block_task, must_wait, notifies_block, unlimited}
+use Rattle.board.specs.Honest.{AreOwn, IsFlown, IsHonestlyServed}
+use Rattle.board.specs.Hosting.{GivesInFlight, HostedOutcome, HostedState, InFlight, IsHostedNext, IsOwn, OwnGives, WaitsOrGives, flight_by, in_rooms, is_block_task, must_wait, notifies_block, unlimited}
 use Rattle.board.specs.HostedLine.{HostedCall, IsHostedCourse, Told}
 use Rattle.board.specs.Image.{Health}
 use Rattle.board.specs.Machine.{at_rest, with_write}
@@ -37,7 +37,7 @@ use Rattle.board.specs.Slot.{SlotState}
 use Rattle.board.specs.Task.{Task, Nothing, ServeBlock, ServeReceive, ServeTransmit, PutOut, Finishes, device_of}
 use Rattle.board.specs.World.{IsCutShort, MayGive}
 use Rattle.board.proofs.Flights.{keeps_all}
-use Rattle.board.proofs.Waiting.{outlasts}
+use Rattle.board.proofs.Waiting.{outlasts, own_next}
 
 -- ---- the guest's own events leave the queue where it is
 
@@ -80,6 +80,7 @@ given_keeps {A} state (MemRead addr len) outcome free other (inl served) = same_
 given_keeps {A} state (MemWrite addr bytes) outcome free other (inl served) = same_keeps state.block outcome.state.block (ap (λ (o : Outcome A). o.state.block) served.alike.alike ∙ write_stays A state _ _)
 given_keeps {A} state (Input bytes) outcome free other (inl served) = same_keeps state.block outcome.state.block (ap (λ (o : Outcome A). o.state.block) served.alike.is)
 given_keeps {A} state (Resize cols rows) outcome free other (inl served) = same_keeps state.block outcome.state.block (ap (λ (o : Outcome A). o.state.block) served.alike.alike)
+given_keeps {A} state (Complete verdict) outcome free other (inl served) = same_keeps state.block outcome.state.block (ap (λ (o : Outcome A). o.state.block) served.alike.alike)
 given_keeps state (Read window offset width) outcome free other (inr never) = absurd never
 given_keeps {A} state (Write window offset width value) outcome free other (inr cut) =
     subst (λ (w : WindowState). KeepsQueues state.block w) (sym (cut_block _ _ at_rest at_rest outcome other cut)) (write_keeps A window offset width value state free)
@@ -87,6 +88,7 @@ given_keeps {A} state (MemRead addr len) outcome free other (inr unread) = same_
 given_keeps state (MemWrite addr bytes) outcome free other (inr never) = absurd never
 given_keeps state (Input bytes) outcome free other (inr never) = absurd never
 given_keeps state (Resize cols rows) outcome free other (inr never) = absurd never
+given_keeps state (Complete verdict) outcome free other (inr never) = absurd never
 given_keeps state (Restore bytes) outcome free other gives = absurd (cc free)
 
 readied_keeps : {A : Type 0} (state : SlotState) (what : EventKind A) → must_wait what ≡ false → KeepsQueues state.block (readied what state).block
@@ -97,6 +99,7 @@ readied_keeps state (MemWrite addr bytes) free = keeps_all state.block
 readied_keeps state (Input bytes) free = keeps_all state.block
 readied_keeps state (Resize cols rows) free = keeps_all state.block
 readied_keeps state (Restore bytes) free = keeps_all state.block
+readied_keeps state (Complete verdict) free = keeps_all state.block
 
 passing_keeps : {A : Type 0} (old : HostedState) (what : EventKind A) (outcome : HostedOutcome A) (rings : Bool) → must_wait what ≡ false → notifies_block what old.slot ≡ rings → GivesInFlight rings old what outcome → KeepsQueues old.slot.block outcome.state.slot.block
 passing_keeps {A} old what outcome true free rings gives =
@@ -122,9 +125,9 @@ record Kept (old new : HostedState) (here : InFlight) : Type 0 where
   keeps : KeepsQueues old.slot.block new.slot.block
   flies : new.flight ≡ Some here
 
-call_keeps : {A : Type 0} (old : HostedState) (event : HostedEvent A) (outcome : HostedOutcome A) (here : InFlight) → old.flight ≡ Some here → IsOwn event → IsHostedNext old event outcome → Kept old outcome.state here
-call_keeps old (Own what) outcome here flies own next = record { keeps = own_keeps old what outcome here old.flight flies next; flies = outlasts old here what outcome flies next }
-call_keeps old (Completed verdict) outcome here flies own next = absurd own
+call_keeps : {A : Type 0} (old : HostedState) (what : EventKind A) (outcome : HostedOutcome A) (here : InFlight) → old.flight ≡ Some here → IsOwn what → IsHostedNext old what outcome → Kept old outcome.state here
+call_keeps old what outcome here flies own next =
+    record { keeps = own_keeps old what outcome here old.flight flies (own_next old what outcome own next); flies = outlasts old here what outcome own flies next }
 
 -- and so do all of them
 life_keeps : {A : Type 0} (old : HostedState) (calls : List (HostedCall A)) (told : List (Told A)) (last : HostedState) (here : InFlight) → old.flight ≡ Some here → AreOwn calls → IsHostedCourse old calls told last → KeepsQueues old.slot.block last.slot.block

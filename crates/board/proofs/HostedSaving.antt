@@ -7,12 +7,11 @@ use Rattle.chain.specs.declared.segment.Buffer.{Buffer}
 use Rattle.chain.specs.declared.segment.Segment.{Segment}
 use Rattle.block_device.specs.declared.hosting.Flight.{Flight}
 use Rattle.board.specs.declared.event.EventKind.TheVariants.{Restore}
-use Rattle.board.specs.declared.hosted.reply.HostedReply.{HostedReply}
-use Rattle.board.specs.declared.hosted.reply.HostedReply.TheVariants.{Answered, Busy, Idle}
+use Rattle.board.specs.declared.reply.Reply.{Reply}
 use Rattle.board.specs.declared.reply.Reply.TheVariants.{BadSlot}
 use Rattle.board.specs.declared.saved.RestoreFault.{RestoreFault}
 use Rattle.board.specs.declared.saved.RestoreRefusal.{RestoreRefusal}
-use Rattle.board.specs.Hosting.{AnswersWithin, HostedState, Own, TakesHosted, device_at, hosted_slot, in_rooms, unseen}
+use Rattle.board.specs.Hosting.{HostedState, TakesHosted, device_at, hosted_slot, in_rooms, unseen}
 use Rattle.board.specs.HostedLine.{TakesQuietly}
 use Rattle.board.specs.Machine.{at_rest, block_irq, console_irq}
 use Rattle.board.specs.Outcome.{replies}
@@ -28,22 +27,20 @@ use Rattle.board.proofs.Restoring.{restore_given}
 
 -- ---- what the slot does
 
-same_reply : {A : Type 0} (r : Result (Unit {0}) RestoreFault) → hosted_restore_reply {A = A} (refusal_of r) ≡ Answered (restore_reply r)
+same_reply : {A : Type 0} (r : Result (Unit {0}) RestoreFault) → hosted_restore_reply {A = A} (refusal_of r) ≡ restore_reply r
 same_reply (Ok done) = refl
 same_reply (Err why) = refl
 
 restored_next : {A : Type 0} (slot new : BoardSlot) (bytes : List ℕ) (r : Result (Unit {0}) RestoreFault) (out : List ℕ) → slot.extent.start ≡ 0 → device_at new ≡ device_at slot
     → OnOk r (IsRestored slot bytes new) → IfErr r (IsCauseOf slot bytes) → OnErr r (new ≡ slot)
-    → TakesHosted {A = A} (record { slot = hosted_slot slot; flight = None }) (Own (Restore bytes)) (record { slot = hosted_slot new; flight = None }) (Answered (restore_reply r)) out out
+    → TakesHosted {A = A} (record { slot = hosted_slot slot; flight = None }) (Restore bytes) (record { slot = hosted_slot new; flight = None }) (restore_reply r) out out
 restored_next {A} slot new bytes r out own device ok fault kept = record {
   output = [];
   next = record {
-    reply = restore_reply r;
     given =
         subst (λ (s : SlotState). MayGive {A = A} (hosted_slot slot) (Restore bytes) at_rest at_rest (replies s (restore_reply r))) (own_after slot new device)
         (restore_given A (unseen slot.extent.count) slot new bytes r at_rest (own_count slot own) ok fault kept);
     flight = refl;
-    replied = refl;
   };
   appended = sym (append-nil out);
 }
@@ -51,34 +48,28 @@ restored_next {A} slot new bytes r out own device ok fault kept = record {
 pub restored_takes : {A : Type 0} (slot new : BoardSlot) (flight : Option Flight) (buffers : List Buffer) (runs : List Segment) (bytes : List ℕ) (r : Result (Unit {0}) RestoreFault) (told : Result (Unit {0}) RestoreRefusal) (out : List ℕ)
     → is_some flight ≡ false → told ≡ refusal_of r → slot.extent.start ≡ 0 → device_at new ≡ device_at slot
     → OnOk r (IsRestored slot bytes new) → IfErr r (IsCauseOf slot bytes) → OnErr r (new ≡ slot)
-    → TakesHosted {A = A} (record { slot = hosted_slot slot; flight = in_rooms flight buffers runs }) (Own (Restore bytes)) (record { slot = hosted_slot new; flight = in_rooms flight buffers runs }) (hosted_restore_reply told) out out
+    → TakesHosted {A = A} (record { slot = hosted_slot slot; flight = in_rooms flight buffers runs }) (Restore bytes) (record { slot = hosted_slot new; flight = in_rooms flight buffers runs }) (hosted_restore_reply told) out out
 restored_takes {A} slot new None buffers runs bytes r told out rests is own device ok fault kept =
     rw (is, same_reply {A = A} r) (restored_next slot new bytes r out own device ok fault kept)
 restored_takes slot new (Some flight) buffers runs bytes r told out rests is own device ok fault kept = absurd (cc)
 
 -- ---- as a call of the board
 
-quiet_within : {A : Type 0} (limit : ℕ) (old : HostedState) (bytes : List ℕ) (new : HostedState) (waiting left : List ℕ) (reply : HostedReply A) → AnswersWithin limit old (Restore bytes) new waiting left reply
-quiet_within limit old bytes new waiting left (Answered reply) = tt
-quiet_within limit old bytes new waiting left Busy = tt
-quiet_within limit old bytes new waiting left Idle = tt
-
-pub restored_quietly : (A : Type 0) (slots : List HostedState) (h : ℕ) (state new : HostedState) (bytes : List ℕ) (reply : HostedReply A) → slice_get slots h ≡ Some state
-    → ((out : List ℕ) → TakesHosted state (Own (Restore bytes)) new reply out out)
-    → TakesQuietly {A = A} slots h (Own (Restore bytes)) reply (slice_set slots h new)
+pub restored_quietly : (A : Type 0) (slots : List HostedState) (h : ℕ) (state new : HostedState) (bytes : List ℕ) (reply : Reply A) → slice_get slots h ≡ Some state
+    → ((out : List ℕ) → TakesHosted state (Restore bytes) new reply out out)
+    → TakesQuietly {A = A} slots h (Restore bytes) reply (slice_set slots h new)
 restored_quietly A slots h state new bytes reply here takes = record {
   block = block_irq new.slot;
   console = console_irq new.slot;
   takes = λ limit waiting.
-      calls_there slots h state (Own (Restore bytes)) limit new reply waiting waiting here (takes waiting)
-      (λ n is. quiet_within n state bytes new waiting waiting reply);
+      calls_there slots h state (Restore bytes) limit new reply waiting waiting here (takes waiting) (λ n is. tt);
 }
 
-pub restored_nowhere : (A : Type 0) (slots : List HostedState) (h : ℕ) (bytes : List ℕ) → length slots ≤ h → TakesQuietly {A = A} slots h (Own (Restore bytes)) (Answered BadSlot) slots
+pub restored_nowhere : (A : Type 0) (slots : List HostedState) (h : ℕ) (bytes : List ℕ) → length slots ≤ h → TakesQuietly {A = A} slots h (Restore bytes) BadSlot slots
 restored_nowhere A slots h bytes past = record {
   block = 0;
   console = 0;
-  takes = λ limit waiting. calls_missing {A = A} slots h (Own (Restore bytes)) limit waiting (slice_get_past slots h past);
+  takes = λ limit waiting. calls_missing {A = A} slots h (Restore bytes) limit waiting (slice_get_past slots h past);
 }
 
 one_item : (o : Option HostedState) (x y : HostedState) → o ≡ Some x → o ≡ Some y → x ≡ y

@@ -4,22 +4,23 @@ use Rattle.std.specs.Prelude.{slice_set, IfNone, MatchOption}
 use Rattle.std.specs.Slice.{IsItemAt}
 use Rattle.std.proofs.lemmas.Option.{slice_get_past}
 use Rattle.std.specs.List.{slice_get}
-use Rattle.board.specs.declared.hosted.reply.HostedReply.{HostedReply}
-use Rattle.board.specs.declared.hosted.reply.HostedReply.TheVariants.{Answered}
+use Rattle.board.specs.declared.event.EventKind.{EventKind}
+use Rattle.board.specs.declared.reply.Reply.{Reply}
 use Rattle.board.specs.declared.reply.Reply.TheVariants.{BadSlot}
-use Rattle.board.specs.Hosting.{HostedEvent, HostedState, HostedWithin, TakesHosted}
+use Rattle.board.specs.Hosting.{HostedState, TakesHosted}
 use Rattle.board.specs.HostedLine.{CallsNone, CallsSlot, DecidesBy, HostedCall, TakesCall, Told}
 use Rattle.board.specs.Machine.{block_irq, console_irq}
+use Rattle.board.specs.Within.{TakesWithin}
 use Rattle.board.proofs.Alone.{get_set_other}
 
-decides : {A : Type 0} (limit : Option ℕ) (old : HostedState) (event : HostedEvent A) (new : HostedState) (reply : HostedReply A) (waiting output left : List ℕ) → left ≡ waiting ++ output
-    → ((n : ℕ) → limit ≡ Some n → HostedWithin n old event new waiting left reply) → DecidesBy limit old event new waiting (waiting ++ output) reply
+decides : {A : Type 0} (limit : Option ℕ) (old : HostedState) (event : EventKind A) (new : HostedState) (reply : Reply A) (waiting output left : List ℕ) → left ≡ waiting ++ output
+    → ((n : ℕ) → limit ≡ Some n → TakesWithin n old.slot event new.slot waiting left reply) → DecidesBy limit old event new waiting (waiting ++ output) reply
 decides None old event new reply waiting output left is h = tt
-decides (Some n) old event new reply waiting output left is h = subst (λ l. HostedWithin n old event new waiting l reply) is (h n refl)
+decides (Some n) old event new reply waiting output left is h = subst (λ l. TakesWithin n old.slot event new.slot waiting l reply) is (h n refl)
 
 -- a slot that is there takes the call
-pub calls_there : {A : Type 0} (slots : List HostedState) (h : ℕ) (state : HostedState) (event : HostedEvent A) (limit : Option ℕ) (new : HostedState) (reply : HostedReply A) (waiting left : List ℕ) → slice_get slots h ≡ Some state
-    → TakesHosted state event new reply waiting left → ((n : ℕ) → limit ≡ Some n → HostedWithin n state event new waiting left reply)
+pub calls_there : {A : Type 0} (slots : List HostedState) (h : ℕ) (state : HostedState) (event : EventKind A) (limit : Option ℕ) (new : HostedState) (reply : Reply A) (waiting left : List ℕ) → slice_get slots h ≡ Some state
+    → TakesHosted state event new reply waiting left → ((n : ℕ) → limit ≡ Some n → TakesWithin n state.slot event new.slot waiting left reply)
     → TakesCall slots h event limit reply (block_irq new.slot) (console_irq new.slot) waiting left (slice_set slots h new)
 calls_there {A} slots h state event limit new reply waiting left here takes within =
     let call : HostedCall A = record { event = event; limit = limit; waiting = waiting } in
@@ -37,11 +38,11 @@ calls_there {A} slots h state event limit new reply waiting left here takes with
     }
 
 -- and one that isn't there changes nothing
-pub calls_missing : {A : Type 0} (slots : List HostedState) (h : ℕ) (event : HostedEvent A) (limit : Option ℕ) (waiting : List ℕ) → slice_get slots h ≡ None
-    → TakesCall slots h event limit (Answered BadSlot) 0 0 waiting waiting slots
+pub calls_missing : {A : Type 0} (slots : List HostedState) (h : ℕ) (event : EventKind A) (limit : Option ℕ) (waiting : List ℕ) → slice_get slots h ≡ None
+    → TakesCall slots h event limit BadSlot 0 0 waiting waiting slots
 calls_missing {A} slots h event limit waiting none =
     let call : HostedCall A = record { event = event; limit = limit; waiting = waiting } in
-    let told : Told A = record { reply = Answered BadSlot; output = []; block_irq = 0; console_irq = 0 } in
+    let told : Told A = record { reply = BadSlot; output = []; block_irq = 0; console_irq = 0 } in
     record {
       output = [];
       calls = subst (λ (o : Option HostedState). MatchOption o (CallsNone slots told slots) (λ s. CallsSlot slots h s call told slots)) (sym none) (record { told_is = refl; same = refl });

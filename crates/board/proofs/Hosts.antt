@@ -1,23 +1,26 @@
 -- What a slot does whose disk the host serves, as the one-slot machine has it.
-use Rattle.std.proofs.Common.{◌≡◌, ℕ, Bool, true, false, Option, Some, None, List, [], refl, sym, ◌∙◌, ap, subst, append-nil}
+use Rattle.std.proofs.Common.{◌≡◌, ℕ, zero, suc, Bool, true, false, Option, Some, None, List, [], refl, sym, ◌∙◌, ap, subst, append-nil}
 use Rattle.std.specs.Prelude.{◌&&◌, IsSome, is_some}
+use Rattle.mmio_window.specs.declared.action.Action.{Action}
+use Rattle.mmio_window.specs.declared.action.Action.TheVariants as action
+use Rattle.mmio_window.specs.declared.device_kind.DeviceKind.TheVariants.{Block, Console}
 use Rattle.board.specs.declared.event.EventKind.{EventKind}
-use Rattle.board.specs.declared.event.EventKind.TheVariants.{Read, Write, MemRead, MemWrite, Input, Resize, Restore}
-use Rattle.board.specs.declared.hosted.reply.HostedReply.TheVariants.{Answered, Busy}
+use Rattle.board.specs.declared.event.EventKind.TheVariants.{Read, Write, MemRead, MemWrite, Input, Resize, Restore, Complete}
 use Rattle.board.specs.declared.pause.Turn.TheVariants as turn
 use Rattle.board.specs.declared.reply.Reply.{Reply}
-use Rattle.board.specs.declared.reply.Reply.TheVariants.{Done}
+use Rattle.board.specs.declared.reply.Reply.TheVariants.{Busy, Done}
 use Rattle.block_device.specs.declared.device.BlockDevice.{BlockDevice}
 use Rattle.block_device.specs.declared.extent.Extent.{Extent}
 use Rattle.board.specs.Image.{Health, sectors_of}
-use Rattle.board.specs.Hosting.{AnswersWithin, GivesAtRest, GivesInFlight, HostedOutcome, HostedState, InFlight, IsBesideDisk, LooksAtQueue, OwnGives, Own, TakesHosted, WaitsOrGives, answers, device_at, hosted_slot, is_block_task, must_wait, notifies_block, unlimited, unseen}
+use Rattle.board.specs.Hosting.{GivesAtRest, GivesInFlight, HostedOutcome, HostedState, InFlight, IsBesideDisk, IsOwn, LooksAtQueue, OwnGives, TakesHosted, WaitsOrGives, answers, device_at, hosted_slot, is_block_task, must_wait, notifies_block, unlimited, unseen}
 use Rattle.board.specs.Machine.{at_rest, task_at, with_write}
 use Rattle.board.specs.Pausing.{Begins, ServesTurn, readied}
 use Rattle.board.specs.Slot.{BoardSlot, SlotState, state_of}
-use Rattle.board.specs.Task.{Task, Nothing, ServeBlock, ServeReceive, ServeTransmit, PutOut}
+use Rattle.board.specs.Task.{Task, Nothing, ServeBlock, ServeReceive, ServeTransmit, PutOut, task_of}
 use Rattle.board.specs.Within.{BeginsWithin, PutsOutWithin, TakesWithin}
 use Rattle.board.proofs.Answered.{ended_within}
 use Rattle.board.proofs.Flights.{own_count}
+use Rattle.board.proofs.Waiting.{next_own}
 use Rattle.board.proofs.Whole.{whole}
 
 -- the event waits
@@ -25,8 +28,9 @@ waits_at : {A : Type 0} (old : HostedState) (what : EventKind A) (flight : Optio
 waits_at old what None waits = absurd (cc)
 waits_at old what (Some here) waits = subst (λ (b : Bool). WaitsOrGives b old what (answers old Busy)) (sym waits) refl
 
-pub busy : {A : Type 0} (old : HostedState) (what : EventKind A) (out : List ℕ) → (is_some old.flight && must_wait what) ≡ true → TakesHosted old (Own what) old Busy out out
-busy old what out waits = record { output = []; next = waits_at old what old.flight waits; appended = sym (append-nil out) }
+pub busy : {A : Type 0} (old : HostedState) (what : EventKind A) (out : List ℕ) → IsOwn what → (is_some old.flight && must_wait what) ≡ true → TakesHosted old what old Busy out out
+busy old what out own waits =
+    record { output = []; next = next_own old what (answers old Busy) own (waits_at old what old.flight waits); appended = sym (append-nil out) }
 
 -- the disk has no part in it
 pub beside_at : {A : Type 0} (old : HostedState) (what : EventKind A) (outcome : HostedOutcome A) (flight : Option InFlight) (waits : Bool) → must_wait what ≡ waits → (is_some flight && waits) ≡ false → notifies_block what old.slot ≡ false → IsBesideDisk old what outcome → OwnGives flight old what outcome
@@ -35,52 +39,72 @@ beside_at old what outcome (Some here) true same free other h = absurd (cc)
 beside_at old what outcome (Some here) false same free other h =
     subst (λ (b : Bool). WaitsOrGives b old what outcome) (sym same) (subst (λ (b : Bool). GivesInFlight b old what outcome) (sym other) h)
 
-pub beside : {A : Type 0} (old new : HostedState) (what : EventKind A) (reply : Reply A) (out out' : List ℕ) → (is_some old.flight && must_wait what) ≡ false → notifies_block what old.slot ≡ false → new.flight ≡ old.flight
-    → ServesTurn (Begins what unlimited) old.slot at_rest at_rest new.slot (turn.Answered reply) out out' → TakesHosted old (Own what) new (Answered reply) out out'
-beside old new what reply out out' free other flight h = record {
-  output = h.output;
-  next =
-      beside_at old what (record { state = new; reply = Answered reply; output = h.output }) old.flight (must_wait what) refl free other (record {
-        reply = reply;
-        given = whole what unlimited old.slot at_rest at_rest new.slot h.output reply h.comes;
-        flight = flight;
-        replied = refl;
-      });
-  appended = h.appended;
-}
+pub beside : {A : Type 0} (old new : HostedState) (what : EventKind A) (reply : Reply A) (out out' : List ℕ) → IsOwn what → (is_some old.flight && must_wait what) ≡ false → notifies_block what old.slot ≡ false → new.flight ≡ old.flight
+    → ServesTurn (Begins what unlimited) old.slot at_rest at_rest new.slot (turn.Answered reply) out out' → TakesHosted old what new reply out out'
+beside {A} old new what reply out out' own free other flight h =
+    let outcome : HostedOutcome A = record { state = new; reply = reply; output = h.output } in
+    record {
+      output = h.output;
+      next =
+          next_own old what outcome own
+          (beside_at old what outcome old.flight (must_wait what) refl free other
+          (record { given = whole what unlimited old.slot at_rest at_rest new.slot h.output reply h.comes; flight = flight }));
+      appended = h.appended;
+    }
 
 -- the block device is notified: it looks at its queue
-looks_at : {A : Type 0} (old new : HostedState) (what : EventKind A) (flight : Option InFlight) → flight ≡ None → notifies_block what old.slot ≡ true → LooksAtQueue (readied what old.slot) new → OwnGives flight old what (answers new (Answered Done))
-looks_at old new what None none rings h = subst (λ (b : Bool). GivesAtRest b old what (answers new (Answered Done))) (sym rings) (h, refl)
+looks_at : {A : Type 0} (old new : HostedState) (what : EventKind A) (flight : Option InFlight) → flight ≡ None → notifies_block what old.slot ≡ true → LooksAtQueue (readied what old.slot) new → OwnGives flight old what (answers new Done)
+looks_at old new what None none rings h = subst (λ (b : Bool). GivesAtRest b old what (answers new Done)) (sym rings) (h, refl)
 looks_at old new what (Some here) none rings h = absurd (cc)
 
 -- or something is in flight, and the notification is of no account
 passes_at : {A : Type 0} (old : HostedState) (what : EventKind A) (flight : Option InFlight) → is_some flight ≡ true → must_wait what ≡ false → notifies_block what old.slot ≡ true
-    → OwnGives flight old what (answers (record old { slot = readied what old.slot }) (Answered Done))
+    → OwnGives flight old what (answers (record old { slot = readied what old.slot }) Done)
 passes_at old what None some free rings = absurd (cc)
 passes_at old what (Some here) some free rings =
-    let outcome = answers (record old { slot = readied what old.slot }) (Answered Done) in
+    let outcome = answers (record old { slot = readied what old.slot }) Done in
     subst (λ (b : Bool). WaitsOrGives b old what outcome) (sym free) (subst (λ (b : Bool). GivesInFlight b old what outcome) (sym rings) refl)
 
 notified_at : {A : Type 0} (old mid new : HostedState) (what : EventKind A) (flight : Option InFlight) → old.flight ≡ flight → (is_some flight && must_wait what) ≡ false → notifies_block what old.slot ≡ true → mid ≡ record old { slot = readied what old.slot }
-    → (mid.flight ≡ None → LooksAtQueue mid.slot new) → (IsSome mid.flight → new ≡ mid) → OwnGives flight old what (answers new (Answered Done))
+    → (mid.flight ≡ None → LooksAtQueue mid.slot new) → (IsSome mid.flight → new ≡ mid) → OwnGives flight old what (answers new Done)
 notified_at old mid new what None same free rings is looks stays =
     let none : mid.flight ≡ None = ap (λ (s : HostedState). s.flight) is ∙ same in
     looks_at old new what None refl rings (subst (λ (s : HostedState). LooksAtQueue s.slot new) is (looks none))
 notified_at {A} old mid new what (Some here) same free rings is looks stays =
     let some : IsSome mid.flight = subst (λ (o : Option InFlight). IsSome o) (sym (ap (λ (s : HostedState). s.flight) is ∙ same)) refl in
-    subst (λ (s : HostedState). OwnGives {A = A} (Some here) old what (answers s (Answered Done))) (sym (stays some ∙ is))
+    subst (λ (s : HostedState). OwnGives {A = A} (Some here) old what (answers s Done)) (sym (stays some ∙ is))
     (passes_at old what (Some here) refl free rings)
 
-pub notified : {A : Type 0} (old mid new : HostedState) (what : EventKind A) (out : List ℕ) → (is_some old.flight && must_wait what) ≡ false → notifies_block what old.slot ≡ true → mid ≡ record old { slot = readied what old.slot }
-    → (mid.flight ≡ None → LooksAtQueue mid.slot new) → (IsSome mid.flight → new ≡ mid) → TakesHosted old (Own what) new (Answered Done) out out
-notified old mid new what out free rings is looks stays =
-    record { output = []; next = notified_at old mid new what old.flight refl free rings is looks stays; appended = sym (append-nil out) }
+pub notified : {A : Type 0} (old mid new : HostedState) (what : EventKind A) (out : List ℕ) → IsOwn what → (is_some old.flight && must_wait what) ≡ false → notifies_block what old.slot ≡ true → mid ≡ record old { slot = readied what old.slot }
+    → (mid.flight ≡ None → LooksAtQueue mid.slot new) → (IsSome mid.flight → new ≡ mid) → TakesHosted old what new Done out out
+notified old mid new what out own free rings is looks stays =
+    record {
+      output = [];
+      next = next_own old what (answers new Done) own (notified_at old mid new what old.flight refl free rings is looks stays);
+      appended = sym (append-nil out);
+    }
 
 -- ---- within a limit
 
-pub beside_within : {A : Type 0} (limit : ℕ) (old new : HostedState) (what : EventKind A) (reply : Reply A) (waiting left : List ℕ) → BeginsWithin limit what unlimited old.slot new.slot waiting left (turn.Answered reply) → AnswersWithin limit old what new waiting left (Answered reply)
-beside_within limit old new what reply waiting left h = ended_within limit what unlimited old.slot new.slot waiting left reply h
+-- a write of the block window puts nothing out
+block_puts : {A : Type 0} (limit : ℕ) (left_to_do : Action) (mid new : SlotState) (waiting left : List ℕ) (reply : Reply A) → PutsOutWithin limit (task_of Block left_to_do) mid new waiting left reply
+block_puts limit (action.Notify zero) mid new waiting left reply = tt
+block_puts limit (action.Notify (suc q)) mid new waiting left reply = tt
+block_puts limit action.Reset mid new waiting left reply = tt
+block_puts limit (action.ConfigWrite offset width value) mid new waiting left reply = tt
+block_puts limit action.None mid new waiting left reply = tt
+
+-- nor does an event that waits
+pub busy_within : {A : Type 0} (limit : ℕ) (old : SlotState) (what : EventKind A) (new : SlotState) (waiting left : List ℕ) (reply : Reply A) → must_wait what ≡ true → TakesWithin limit old what new waiting left reply
+busy_within limit old (Write Block offset width value) new waiting left reply is = block_puts limit _ _ new waiting left reply
+busy_within limit old (Write Console offset width value) new waiting left reply is = absurd (cc)
+busy_within limit old (Read window offset width) new waiting left reply is = tt
+busy_within limit old (MemRead addr len) new waiting left reply is = tt
+busy_within limit old (MemWrite addr bytes) new waiting left reply is = tt
+busy_within limit old (Input bytes) new waiting left reply is = tt
+busy_within limit old (Resize cols rows) new waiting left reply is = tt
+busy_within limit old (Restore bytes) new waiting left reply is = tt
+busy_within limit old (Complete verdict) new waiting left reply is = tt
 
 block_within : {A : Type 0} (limit : ℕ) (task : Task) (mid new : SlotState) (waiting left : List ℕ) (reply : Reply A) → is_block_task task ≡ true → PutsOutWithin limit task mid new waiting left reply
 block_within limit Nothing mid new waiting left reply is = absurd (cc)
@@ -99,6 +123,7 @@ notified_within limit old (MemWrite addr bytes) new waiting left reply is = absu
 notified_within limit old (Input bytes) new waiting left reply is = absurd (cc)
 notified_within limit old (Resize cols rows) new waiting left reply is = absurd (cc)
 notified_within limit old (Restore bytes) new waiting left reply is = absurd (cc)
+notified_within limit old (Complete verdict) new waiting left reply is = absurd (cc)
 
 -- ---- a slot's own disk
 
@@ -113,12 +138,12 @@ same_extent slot new device = ap (λ (d : BlockDevice). d.extent) device
 pub own_after : (slot new : BoardSlot) → device_at new ≡ device_at slot → state_of (unseen slot.extent.count) new ≡ hosted_slot new
 own_after slot new device = ap (λ (e : Extent). state_of (unseen e.count) new) (sym (same_extent slot new device))
 
-pub beside_slot : {A : Type 0} (slot new : BoardSlot) (flight : Option InFlight) (what : EventKind A) (reply : Reply A) (out out' : List ℕ) → slot.extent.start ≡ 0 → device_at new ≡ device_at slot → IsFree flight what
+pub beside_slot : {A : Type 0} (slot new : BoardSlot) (flight : Option InFlight) (what : EventKind A) (reply : Reply A) (out out' : List ℕ) → IsOwn what → slot.extent.start ≡ 0 → device_at new ≡ device_at slot → IsFree flight what
     → false ≡ notifies_block what (hosted_slot slot)
     → ((image : List ℕ) (health : Health) → sectors_of (state_of image slot).extent ≡ slot.extent.count → ServesTurn (Begins what unlimited) (state_of image slot) health health (state_of image new) (turn.Answered reply) out out')
-    → TakesHosted (record { slot = hosted_slot slot; flight = flight }) (Own what) (record { slot = hosted_slot new; flight = flight }) (Answered reply) out out'
-beside_slot slot new flight what reply out out' own device free other serves =
-    beside (record { slot = hosted_slot slot; flight = flight }) (record { slot = hosted_slot new; flight = flight }) what reply out out' free (sym other) refl
+    → TakesHosted (record { slot = hosted_slot slot; flight = flight }) what (record { slot = hosted_slot new; flight = flight }) reply out out'
+beside_slot slot new flight what reply out out' mine own device free other serves =
+    beside (record { slot = hosted_slot slot; flight = flight }) (record { slot = hosted_slot new; flight = flight }) what reply out out' mine free (sym other) refl
     (subst (λ (s : SlotState). ServesTurn (Begins what unlimited) (hosted_slot slot) at_rest at_rest s (turn.Answered reply) out out') (own_after slot new device)
     (serves (unseen slot.extent.count) at_rest (own_count slot own)))
 
@@ -129,11 +154,11 @@ beside_slot_within slot new what reply out out' o device within limit limited =
     ended_within limit what unlimited (hosted_slot slot) (hosted_slot new) out out' reply
     (subst (λ (s : SlotState). BeginsWithin limit what unlimited (hosted_slot slot) s out out' (turn.Answered reply)) (own_after slot new device) (within (unseen slot.extent.count) limit limited))
 
-pub notified_slot : {A : Type 0} (slot mid : BoardSlot) (flight : Option InFlight) (what : EventKind A) (new : HostedState) (out : List ℕ) → device_at mid ≡ device_at slot → IsFree flight what
+pub notified_slot : {A : Type 0} (slot mid : BoardSlot) (flight : Option InFlight) (what : EventKind A) (new : HostedState) (out : List ℕ) → IsOwn what → device_at mid ≡ device_at slot → IsFree flight what
     → true ≡ notifies_block what (hosted_slot slot) → ((image : List ℕ) → state_of image mid ≡ readied what (state_of image slot))
     → (flight ≡ None → LooksAtQueue (hosted_slot mid) new) → (IsSome flight → new ≡ record { slot = hosted_slot mid; flight = flight })
-    → TakesHosted (record { slot = hosted_slot slot; flight = flight }) (Own what) new (Answered Done) out out
-notified_slot slot mid flight what new out device free rings readied_is looks stays =
+    → TakesHosted (record { slot = hosted_slot slot; flight = flight }) what new Done out out
+notified_slot slot mid flight what new out mine device free rings readied_is looks stays =
     let old : HostedState = record { slot = hosted_slot slot; flight = flight } in
     let is : hosted_slot mid ≡ readied what (hosted_slot slot) = sym (own_after slot mid device) ∙ readied_is (unseen slot.extent.count) in
-    notified old (record { slot = hosted_slot mid; flight = flight }) new what out free (sym rings) (ap (λ (s : SlotState). record { slot = s; flight = flight }) is) looks stays
+    notified old (record { slot = hosted_slot mid; flight = flight }) new what out mine free (sym rings) (ap (λ (s : SlotState). record { slot = s; flight = flight }) is) looks stays

@@ -8,7 +8,7 @@ use Rattle.mmio_window.specs.declared.device_kind.DeviceKind.{DeviceKind}
 use Rattle.mmio_window.specs.declared.device_kind.DeviceKind.TheVariants.{Block, Console}
 use Rattle.board.specs.declared.event.Event.{Event}
 use Rattle.board.specs.declared.event.EventKind.{EventKind}
-use Rattle.board.specs.declared.event.EventKind.TheVariants.{Read, Write, MemRead, MemWrite, Input, Resize, Restore}
+use Rattle.board.specs.declared.event.EventKind.TheVariants.{Read, Write, MemRead, MemWrite, Input, Resize, Restore, Complete}
 use Rattle.board.specs.declared.reply.Reply.TheVariants.{Bytes, BadRange}
 use Rattle.board.specs.declared.reply.Record.{Record}
 use Rattle.board.specs.Image.{Health}
@@ -65,6 +65,7 @@ served_named {A} state (MemWrite addr bytes) old new outcome h = named outcome _
 served_named state (Input bytes) old new outcome h = named outcome _ h.is
 served_named state (Resize cols rows) old new outcome h = named outcome _ h.alike
 served_named state (Restore bytes) old new outcome h = restored_named state bytes outcome h.alike
+served_named state (Complete verdict) old new outcome h = named outcome _ h.alike
 
 refused_named : {A : Type 0} (state : SlotState) (what : EventKind A) (old new : Health) (outcome : Outcome A) → IsRefused state what old new outcome → outcome.state.identity ≡ state.identity
 refused_named state (Read window offset width) old new outcome h = absurd h
@@ -75,6 +76,7 @@ refused_named state (MemWrite addr bytes) old new outcome h = absurd h
 refused_named state (Input bytes) old new outcome h = absurd h
 refused_named state (Resize cols rows) old new outcome h = absurd h
 refused_named state (Restore bytes) old new outcome h = absurd h
+refused_named state (Complete verdict) old new outcome h = absurd h
 
 given_named : {A : Type 0} (state : SlotState) (what : EventKind A) (old new : Health) (outcome : Outcome A) → MayGive state what old new outcome → outcome.state.identity ≡ state.identity
 given_named state what old new outcome (inl h) = served_named state what old new outcome h.alike

@@ -288,6 +288,7 @@ refused_beside state (event.MemWrite addr bytes) before after outcome rose h = a
 refused_beside state (event.Input bytes) before after outcome rose h = absurd h
 refused_beside state (event.Resize cols rows) before after outcome rose h = absurd h
 refused_beside state (event.Restore bytes) before after outcome rose h = absurd h
+refused_beside state (event.Complete verdict) before after outcome rose h = absurd h
 
 given_beside : {A : Type 0} (state : SlotState) (what : EventKind A) (before after : Health) (outcome : Came A) → before.failures < after.failures → MayGive state what before after outcome → KeepsBesideDisk state outcome.state
 given_beside state what before after outcome rose (inl h) = let same : after.failures ≡ before.failures = h.failures in absurd (omega arith)
@@ -447,6 +448,7 @@ refused_lacks state (event.MemWrite addr bytes) old new outcome lacks h = absurd
 refused_lacks state (event.Input bytes) old new outcome lacks h = absurd h
 refused_lacks state (event.Resize cols rows) old new outcome lacks h = absurd h
 refused_lacks state (event.Restore bytes) old new outcome lacks h = absurd h
+refused_lacks state (event.Complete verdict) old new outcome lacks h = absurd h
 
 given_lacks : {A : Type 0} (state : SlotState) (what : EventKind A) (old new : Health) (outcome : Came A) → outcome.reply ≡ NoMemory → MayGive state what old new outcome → Lacks state old new outcome
 given_lacks state what old new outcome lacks (inl h) = absurd (h.answered lacks)

@@ -25,6 +25,8 @@ had_memory reply.BadSlot had = refl
 had_memory reply.BadRange had = refl
 had_memory reply.BadState had = refl
 had_memory reply.NoMemory had = absurd (had refl)
+had_memory reply.Busy had = refl
+had_memory reply.Idle had = refl
 
 -- no refusal was met, as a test and as two facts
 pub unmet : {A : Type 0} (answer : Reply A) (f g : ℕ) → f ≤ g → met_refusal answer f g ≡ false → (answer ≢ reply.NoMemory) × (g ≡ f)

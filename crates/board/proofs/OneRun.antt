@@ -16,7 +16,7 @@ use Rattle.console_device.specs.Device.{receive, exact_transmit}
 use Rattle.console_device.specs.Input.{fitting}
 use Rattle.console_device.proofs.Services.{receive_once, receive_never_refused}
 use Rattle.board.specs.declared.event.EventKind.{EventKind}
-use Rattle.board.specs.declared.event.EventKind.TheVariants.{Read, Write, MemRead, MemWrite, Input, Resize, Restore}
+use Rattle.board.specs.declared.event.EventKind.TheVariants.{Read, Write, MemRead, MemWrite, Input, Resize, Restore, Complete}
 use Rattle.board.specs.declared.reply.Reply.{Reply}
 use Rattle.board.specs.declared.reply.Reply.TheVariants.{Done, Took}
 use Rattle.board.specs.declared.reply.Record.{Record}
@@ -56,6 +56,7 @@ next_of state (MemWrite addr bytes) before after outcome h = record { after = at
 next_of state (Input bytes) before after outcome h = record { after = at_rest; gives = record { notified = h.notified; is = h.is; image = refl } }
 next_of state (Resize cols rows) before after outcome h = record { after = at_rest; gives = record { alike = h.alike; image = refl } }
 next_of state (Restore bytes) before after outcome h = record { after = at_rest; gives = record { alike = h.alike; image = refl } }
+next_of state (Complete verdict) before after outcome h = record { after = at_rest; gives = record { alike = h.alike; image = refl } }
 
 -- ---- there is at most one outcome
 
@@ -176,6 +177,7 @@ next_once state (Input bytes) one other a b =
     received_once (with_input bytes state) (Took (fitting state.pending bytes)) a.after b.after one other a.gives b.gives
 next_once state (Resize cols rows) one other a b = a.gives.alike ∙ sym b.gives.alike
 next_once state (Restore bytes) one other a b = restored_once state bytes one other a.gives.alike b.gives.alike
+next_once state (Complete verdict) one other a b = a.gives.alike ∙ sym b.gives.alike
 
 record OneCourse {A : Type 0} (one other : List (Outcome A)) (s t : SlotState) : Type 0 where
   outcomes : one ≡ other

@@ -12,7 +12,7 @@ use Rattle.block_device.specs.Device.{block_device, exact_device}
 use Rattle.console_device.specs.Device.{receive, exact_transmit, transmit}
 use Rattle.console_device.specs.Input.{fitting}
 use Rattle.board.specs.declared.event.EventKind.{EventKind}
-use Rattle.board.specs.declared.event.EventKind.TheVariants.{Read, Write, MemRead, MemWrite, Input, Resize, Restore}
+use Rattle.board.specs.declared.event.EventKind.TheVariants.{Read, Write, MemRead, MemWrite, Input, Resize, Restore, Complete}
 use Rattle.board.specs.declared.pause.Service.TheVariants.{Block, Receive, Transmit}
 use Rattle.board.specs.declared.pause.Turn.TheVariants.{Answered}
 use Rattle.board.specs.declared.reply.Reply.{Reply}
@@ -127,3 +127,4 @@ whole (MemWrite addr bytes) budget state before after new output reply h = h
 whole (Input bytes) budget state before after new output reply h = input_whole state bytes budget before after new output reply h
 whole (Resize cols rows) budget state before after new output reply h = h
 whole (Restore bytes) budget state before after new output reply h = h
+whole (Complete verdict) budget state before after new output reply h = h

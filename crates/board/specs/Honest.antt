@@ -16,16 +16,12 @@ use Rattle.block_device.specs.Extent.{extent_disk}
 use Rattle.block_device.specs.Hosting.{at_disk, wants_stable}
 use Rattle.block_device.specs.Operation.{operation_of}
 use Rattle.block_device.specs.Progress.{IsDone}
-use Rattle.board.specs.Hosting.{Completed, HostedEvent, HostedState, InFlight, Lands, LooksAtQueue, Own}
+use Rattle.board.specs.Hosting.{HostedState, InFlight, IsOwn, Lands, LooksAtQueue}
 use Rattle.board.specs.HostedLine.{HostedCall, IsHostedCourse, Told}
 use Rattle.board.specs.Slot.{SlotState}
 use Rattle.board.specs.Task.{device_of}
 
 -- calls of the guest's own: none is a completion
-abbrev pub IsOwn : {A : Type 0} → HostedEvent A → Type 0
-IsOwn (Own what) = ⊤
-IsOwn (Completed verdict) = ⊥
-
 abbrev pub AreOwn : {A : Type 0} → List (HostedCall A) → Type 0
 AreOwn [] = ⊤
 AreOwn (call ∷ calls) = IsOwn call.event × AreOwn calls

@@ -3,23 +3,23 @@
 use Rattle.std.specs.Prelude.{◌≡◌, ◌≢◌, ℕ, ◌==◌, ⊤, Bool, true, false, nat_lt, if◌then◌else◌, Option, Some, None, List, [], ◌∷◌, ◌++◌, map, filter, slice_set, MatchOption}
 use Rattle.std.specs.List.{slice_get}
 use Rattle.guest_memory.specs.Memory.{Memory, put}
-use Rattle.board.specs.declared.hosted.reply.HostedReply.{HostedReply}
-use Rattle.board.specs.declared.hosted.reply.HostedReply.TheVariants.{Answered}
+use Rattle.board.specs.declared.event.EventKind.{EventKind}
 use Rattle.board.specs.declared.reply.Reply.{Reply}
 use Rattle.board.specs.declared.reply.Reply.TheVariants.{BadRange, BadSlot, Bytes, Done}
-use Rattle.board.specs.Hosting.{HostedEvent, HostedOutcome, HostedState, HostedWithin, IsHostedNext}
+use Rattle.board.specs.Hosting.{HostedOutcome, HostedState, IsHostedNext}
 use Rattle.board.specs.Machine.{block_irq, console_irq}
+use Rattle.board.specs.Within.{TakesWithin}
 
 -- One call for a guest: what is done, and the outlet of its console, with its limit where that alone decides what it
 -- refuses, and what waits there.
 pub record HostedCall (A : Type 0) : Type 0 where
-  pub event : HostedEvent A
+  pub event : EventKind A
   pub limit : Option ℕ
   pub waiting : List ℕ
 
 -- what is told of it: the reply, what the console put out, and InterruptStatus of both windows after it (4.2.2)
 pub record Told (A : Type 0) : Type 0 where
-  pub reply : HostedReply A
+  pub reply : Reply A
   pub output : List ℕ
   pub block_irq : ℕ
   pub console_irq : ℕ
@@ -34,10 +34,10 @@ told_of outcome = record {
 
 -- ---- a guest alone
 
--- what an outlet decides
-abbrev pub DecidesBy : {A : Type 0} → Option ℕ → HostedState → HostedEvent A → HostedState → List ℕ → List ℕ → HostedReply A → Type 0
+-- What waits in an outlet with a limit decides what of an event is refused.
+abbrev pub DecidesBy : {A : Type 0} → Option ℕ → HostedState → EventKind A → HostedState → List ℕ → List ℕ → Reply A → Type 0
 DecidesBy None old event new waiting left reply = ⊤
-DecidesBy (Some limit) old event new waiting left reply = HostedWithin limit old event new waiting left reply
+DecidesBy (Some limit) old event new waiting left reply = TakesWithin limit old.slot event new.slot waiting left reply
 
 -- one call of a guest that is alone with its outlet
 pub record IsCalledNext {A : Type 0} (old : HostedState) (call : HostedCall A) (outcome : HostedOutcome A) : Type 0 where
@@ -66,7 +66,7 @@ pub record CallsSlot {A : Type 0} (old : List HostedState) (h : ℕ) (state : Ho
 
 -- A call for a slot that isn't there changes nothing.
 pub record CallsNone {A : Type 0} (old : List HostedState) (told : Told A) (new : List HostedState) : Type 0 where
-  pub told_is : told ≡ record { reply = Answered BadSlot; output = []; block_irq = 0; console_irq = 0 }
+  pub told_is : told ≡ record { reply = BadSlot; output = []; block_irq = 0; console_irq = 0 }
   pub same : new ≡ old
 
 abbrev pub Calls : {A : Type 0} → List HostedState → ℕ → HostedCall A → Told A → List HostedState → Type 0
@@ -74,8 +74,8 @@ Calls old h call told new =
     MatchOption (slice_get old h) (CallsNone old told new) (λ state. CallsSlot old h state call told new)
 
 -- The board takes a call, whose output was appended to what waited.
-pub record TakesCall {A : Type 0} (old : List HostedState) (h : ℕ) (event : HostedEvent A) (limit : Option ℕ)
-    (reply : HostedReply A) (block console : ℕ) (waiting left : List ℕ) (new : List HostedState) : Type 0 where
+pub record TakesCall {A : Type 0} (old : List HostedState) (h : ℕ) (event : EventKind A) (limit : Option ℕ)
+    (reply : Reply A) (block console : ℕ) (waiting left : List ℕ) (new : List HostedState) : Type 0 where
   pub output : List ℕ
   pub calls :
       Calls old h (record { event = event; limit = limit; waiting = waiting })
@@ -83,7 +83,7 @@ pub record TakesCall {A : Type 0} (old : List HostedState) (h : ℕ) (event : Ho
   pub appended : left ≡ waiting ++ output
 
 -- A call that puts nothing out, by whichever outlet the guest has.
-pub record TakesQuietly {A : Type 0} (old : List HostedState) (h : ℕ) (event : HostedEvent A) (reply : HostedReply A)
+pub record TakesQuietly {A : Type 0} (old : List HostedState) (h : ℕ) (event : EventKind A) (reply : Reply A)
     (new : List HostedState) : Type 0 where
   pub block : ℕ
   pub console : ℕ

@@ -12,8 +12,8 @@ use Rattle.block_device.specs.Config as block
 use Rattle.console_device.specs.Config as console
 use Rattle.console_device.specs.Input.{fitting}
 use Rattle.board.specs.declared.event.EventKind.{EventKind}
-use Rattle.board.specs.declared.event.EventKind.TheVariants.{Read, Write, MemRead, MemWrite, Input, Resize, Restore}
-use Rattle.board.specs.declared.reply.Reply.TheVariants.{Value, Bytes, BadRange, Took}
+use Rattle.board.specs.declared.event.EventKind.TheVariants.{Read, Write, MemRead, MemWrite, Input, Resize, Restore, Complete}
+use Rattle.board.specs.declared.reply.Reply.TheVariants.{Value, Bytes, BadRange, Took, Idle}
 use Rattle.board.specs.declared.reply.Record.{Record}
 use Rattle.board.specs.Image.{Health, sectors_of}
 use Rattle.board.specs.Outcome.{Outcome, replies, does, IsDetermined}
@@ -81,7 +81,7 @@ resized cols rows state =
 
 -- What comes of an event where memory is found for it and no call of the image fails; the image fares so
 -- before and after it. A write to a window writes its registers, and then the device does its part. What is
--- typed is pending, and then the console serves its receive queue.
+-- typed is pending, and then the console serves its receive queue. Nothing is in flight to be completed.
 abbrev pub Gives : {A : Type 0} → SlotState → EventKind A → Health → Health → Outcome A → Type 0
 Gives state (Read window offset width) before after outcome =
     IsDetermined outcome (replies state (Value (register state window offset width))) before after
@@ -97,6 +97,7 @@ Gives state (Input bytes) before after outcome =
 Gives state (Resize cols rows) before after outcome =
     IsDetermined outcome (does (resized cols rows state)) before after
 Gives state (Restore bytes) before after outcome = Restores state bytes before after outcome
+Gives state (Complete verdict) before after outcome = IsDetermined outcome (replies state Idle) before after
 
 -- ---- a guest alone
 

@@ -1,9 +1,7 @@
 -- A restore as an event of a slot: what its guest finds that takes up a snapshot.
 use Rattle.std.specs.Prelude.{◌≡◌, ◌⊎◌, ℕ, Bool, false, List, Ok, Err, Result}
 use Rattle.board.specs.declared.reply.Reply.{Reply}
-use Rattle.board.specs.declared.reply.Reply.TheVariants.{BadSlot, BadState, Done}
-use Rattle.board.specs.declared.hosted.reply.HostedReply.{HostedReply}
-use Rattle.board.specs.declared.hosted.reply.HostedReply.TheVariants as hosted
+use Rattle.board.specs.declared.reply.Reply.TheVariants.{BadSlot, BadState, Busy, Done}
 use Rattle.board.specs.declared.saved.RestoreFault.{RestoreFault}
 use Rattle.board.specs.declared.saved.RestoreRefusal.{RestoreRefusal}
 use Rattle.board.specs.declared.saved.RestoreRefusal.TheVariants as refusal
@@ -59,8 +57,8 @@ refusal_of (Ok done) = Ok done
 refusal_of (Err why) = Err (refusal.Fault why)
 
 -- and what a restore by a call is answered of a board whose disks the host serves
-abbrev pub hosted_restore_reply : {A : Type 0} → Result (Unit {0}) RestoreRefusal → HostedReply A
-hosted_restore_reply (Ok done) = hosted.Answered Done
-hosted_restore_reply (Err refusal.BadSlot) = hosted.Answered BadSlot
-hosted_restore_reply (Err refusal.Busy) = hosted.Busy
-hosted_restore_reply (Err (refusal.Fault why)) = hosted.Answered BadState
+abbrev pub hosted_restore_reply : {A : Type 0} → Result (Unit {0}) RestoreRefusal → Reply A
+hosted_restore_reply (Ok done) = Done
+hosted_restore_reply (Err refusal.BadSlot) = BadSlot
+hosted_restore_reply (Err refusal.Busy) = Busy
+hosted_restore_reply (Err (refusal.Fault why)) = BadState

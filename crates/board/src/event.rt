@@ -1,6 +1,7 @@
 //! What comes in: the events of the guests and of their consoles.
 
 use crate::bytes::Bytes;
+use block_device::Verdict;
 use mmio_window::DeviceKind;
 use std::alloc::{Allocator, Global};
 
@@ -53,5 +54,9 @@ pub enum EventKind<A: Allocator = Global> {
     /// The guest's devices are put into the state that a snapshot has.
     Restore {
         bytes: Bytes<A>,
+    },
+    /// What the host does for the guest's disk is done, or failed. Over an image nothing ever is in flight.
+    Complete {
+        verdict: Verdict,
     },
 }

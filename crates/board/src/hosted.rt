@@ -3,16 +3,17 @@
 //!
 //! `slot` has one guest, of whose requests one is in flight at most; `access` is what an embedder reaches between events,
 //! `saved` a slot's snapshot,
-//! `reply` what a call is answered, and `laws` has what holds of all calls, whatever their order. Nothing is shared between slots: there is no image.
+//! `reply` what a call comes to, and `laws` has what holds of all calls, whatever their order. Nothing is shared between slots: there is no image.
 
 ghost use Rattle.std.specs.Prelude.{◌≡◌, ◌≢◌, ◌↔◌, ◌<◌, ◌≤◌, ℕ, List, Option, Some, None, length, map, IfOk, IfSome, IfNone, IsSome, IsSomeAnd, IfErr, IsErrAnd, OnOk};
 ghost use Rattle.std.specs.List.{slice_get};
 ghost use Rattle.std.specs.Option.{option_and_then};
 ghost use Rattle.block_device.specs.Operation.{LiesInside};
+ghost use Rattle.board.specs.declared.event.EventKind.{EventKind};
 ghost use Rattle.board.specs.declared.fault.BoardFault.{BoardFault};
 ghost use Rattle.board.specs.Image.{sectors_of};
 ghost use Rattle.board.specs.Fault.{AreGoodHosted, RefusesHosted};
-ghost use Rattle.board.specs.Hosting.{HostedEvent, hosted_opened, operation_in};
+ghost use Rattle.board.specs.Hosting.{hosted_opened, operation_in};
 ghost use Rattle.board.specs.HostedLine.{KeepsOtherGuests, TakesCall};
 
 mod access;
@@ -28,7 +29,7 @@ pub use crate::hosted::laws::{
     a_flight_outlasts_own_events, an_honest_host_serves, each_hosted_guest_is_alone,
     what_waits_changes_nothing,
 };
-pub use crate::hosted::reply::{HostedReply, HostedTaken};
+pub use crate::hosted::reply::HostedTaken;
 use crate::hosted::slot::HostedSlot;
 use crate::spec::SlotSpec;
 use block_device::{Operation, Verdict};
@@ -72,9 +73,10 @@ impl<A: Allocator + Copy> HostedBoard<A> {
         }
     }
 
-    /// Handles one event of a slot. What its console puts out is appended to `out`.
+    /// Handles one event of a slot, which may be the completion of what is in flight. What its console puts out is
+    /// appended to `out`.
     pub fn step<O: Outlet>(&mut self, slot: u8, what: &EventKind<A>, out: &mut O) -> HostedTaken<A>
-        ensures takes { TakesCall self.old slot (HostedEvent.Own what.now) (O.limit out.old) result.reply
+        ensures takes { TakesCall self.old slot what.now (O.limit out.old) result.reply
             result.block_irq result.console_irq (O.bytes out.old) (O.bytes out.new) self.new }
         ensures others { KeepsOtherGuests slot self.old self.new }
         ensures limit { O.limit out.new ≡ O.limit out.old }
@@ -90,10 +92,10 @@ impl<A: Allocator + Copy> HostedBoard<A> {
 }
 
 impl<A: Allocator> HostedBoard<A> {
-    /// Completes what is in flight of a slot by what came of it.
+    /// Completes what is in flight of a slot by what came of it: the event of that completion.
     pub fn complete(&mut self, slot: u8, verdict: Verdict) -> HostedTaken<A>
         ensures takes { (limit : Option ℕ) (waiting : List ℕ) →
-            TakesCall self.old slot (HostedEvent.Completed verdict) limit result.reply
+            TakesCall self.old slot (EventKind.Complete verdict) limit result.reply
             result.block_irq result.console_irq waiting waiting self.new }
         ensures others { KeepsOtherGuests slot self.old self.new }
         ensures block_word { result.block_irq ≤ 3 }

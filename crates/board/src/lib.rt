@@ -34,7 +34,7 @@ pub use event::{Event, EventKind};
 pub use fault::BoardFault;
 pub use guest_memory::{GuestMemory, MemoryFault};
 pub use hosted::{
-    HostedBoard, HostedReply, HostedTaken, a_flight_outlasts_own_events, an_honest_host_serves,
+    HostedBoard, HostedTaken, a_flight_outlasts_own_events, an_honest_host_serves,
     each_hosted_guest_is_alone, what_waits_changes_nothing,
 };
 pub use laws::{

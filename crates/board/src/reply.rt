@@ -24,6 +24,10 @@ pub enum Reply<A: Allocator = Global> {
     BadState,
     /// There was no memory for the answer.
     NoMemory,
+    /// The event waits for what is in flight: make it again behind the completion. Nothing changed.
+    Busy,
+    /// Nothing of the slot is in flight. Nothing changed.
+    Idle,
 }
 
 /// An event that was handled: whose it was, what it was answered, and what could be seen after it.

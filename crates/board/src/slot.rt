@@ -238,6 +238,7 @@ impl<A: Allocator + Copy> Slot<A> {
             }
             EventKind::Resize { cols, rows } => self.resize(*cols, *rows),
             EventKind::Restore { bytes } => self.answer_restore(bytes.as_slice()),
+            EventKind::Complete { .. } => Reply::Idle,
         };
         Answer {
             turn: Turn::Answered(reply),

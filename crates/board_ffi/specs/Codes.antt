@@ -9,8 +9,6 @@ use Rattle.sector_cache.specs.declared.fault.CacheFault.TheVariants as cache
 use Rattle.board.specs.declared.reply.Reply.{Reply}
 use Rattle.board.specs.declared.reply.Reply.TheVariants as reply
 use Rattle.paced.specs.declared.response.Response.{Response}
-use Rattle.board.specs.declared.hosted.reply.HostedReply.{HostedReply}
-use Rattle.board.specs.declared.hosted.reply.HostedReply.TheVariants as hosted
 use Rattle.paced.specs.declared.response.Response.TheVariants as response
 use Rattle.board.specs.declared.fault.BoardFault.{BoardFault}
 use Rattle.board.specs.declared.fault.BoardFault.TheVariants as board
@@ -51,13 +49,13 @@ is_response code = (code == 0) || (code == 3) || (code == 4) || (code == 15) || 
 
 -- the reply of a board whose disks the host serves that a number stands for, where this one is what a call that is done is
 -- replied; what a disk is then asked for is told aside
-abbrev pub hosted_reply_of : {A : Type 0} → ℕ → Reply A → HostedReply A
+abbrev pub hosted_reply_of : {A : Type 0} → ℕ → Reply A → Reply A
 hosted_reply_of code done =
-    if (code == 0) || (code == 20) then hosted.Answered done
-    else (if code == 3 then hosted.Answered reply.BadSlot
-    else (if code == 4 then hosted.Answered reply.BadRange
-    else (if code == 15 then hosted.Answered reply.NoMemory
-    else (if code == 19 then hosted.Busy else hosted.Idle))))
+    if (code == 0) || (code == 20) then done
+    else (if code == 3 then reply.BadSlot
+    else (if code == 4 then reply.BadRange
+    else (if code == 15 then reply.NoMemory
+    else (if code == 19 then reply.Busy else reply.Idle))))
 
 -- the numbers that a call answers which comes to such a reply
 abbrev pub is_hosted : ℕ → Bool

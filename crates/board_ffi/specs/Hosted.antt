@@ -16,7 +16,7 @@ use Rattle.board.specs.declared.reply.Reply.TheVariants as reply
 use Rattle.board.specs.declared.saved.RestoreFault.{RestoreFault}
 use Rattle.board.specs.declared.saved.RestoreRefusal.{RestoreRefusal}
 use Rattle.board.specs.declared.saved.RestoreRefusal.TheVariants.{Fault}
-use Rattle.board.specs.Hosting.{HostedEvent, HostedState, InFlight}
+use Rattle.board.specs.Hosting.{HostedState, InFlight}
 use Rattle.board.specs.HostedLine.{words_of}
 use Rattle.board.specs.Image.{sectors_of}
 use Rattle.board.specs.Restoring.{hosted_restore_reply, slot_in}
@@ -32,7 +32,7 @@ use Rattle.board_ffi.specs.Codes.{asking_code, code_at, hosted_reply_of, is_host
 -- The board takes a call for this event of a slot, and its reply is the one that the number stands for: where the call is
 -- done it is this one.
 pub record Takes (slot : ℕ) (what : EventKind Global) (code : ℕ) (done : Reply Global) (old new : HostedSessionState) : Type 0 where
-  pub call : IsHostedCall old slot (HostedEvent.Own what) (hosted_reply_of code done) new
+  pub call : IsHostedCall old slot what (hosted_reply_of code done) new
   pub code_is : IsTrue (is_hosted code)
 
 -- the numbers of a call that is done: the second tells that the disk is asked for something from now on
@@ -40,7 +40,7 @@ abbrev pub is_done : ℕ → Bool
 is_done code = (code == 0) || (code == 20)
 
 -- The board takes a call for a slot in which its disk may come to be asked for something.
-pub record MayAsk (slot : ℕ) (event : HostedEvent Global) (before : Option disk.Operation) (code : ℕ)
+pub record MayAsk (slot : ℕ) (event : EventKind Global) (before : Option disk.Operation) (code : ℕ)
     (old new : HostedSessionState) : Type 0 where
   pub call : IsHostedCall old slot event (hosted_reply_of code reply.Done) new
   pub code_is : IsTrue (is_done code || is_hosted code)
@@ -48,7 +48,7 @@ pub record MayAsk (slot : ℕ) (event : HostedEvent Global) (before : Option dis
 
 -- a guest's write
 abbrev pub Writes : ℕ → EventKind Global → ℕ → HostedSessionState → HostedSessionState → Type 0
-Writes slot what code old new = MayAsk slot (HostedEvent.Own what) (operation_at slot old) code old new
+Writes slot what code old new = MayAsk slot what (operation_at slot old) code old new
 
 -- what came of an operation
 abbrev pub verdict_of : Bool → Verdict
@@ -56,7 +56,7 @@ verdict_of failed = if failed then verdict.Failed else verdict.Done
 
 -- what is in flight of a slot is completed
 abbrev pub Completes : ℕ → Bool → ℕ → HostedSessionState → HostedSessionState → Type 0
-Completes slot failed code old new = MayAsk slot (HostedEvent.Completed (verdict_of failed)) None code old new
+Completes slot failed code old new = MayAsk slot (EventKind.Complete (verdict_of failed)) None code old new
 
 -- no service is ever paused, and nothing changes
 pub record HasNoPause (slot code : ℕ) (old new : HostedSessionState) : Type 0 where
@@ -122,7 +122,7 @@ pub record Saves (slot code : ℕ) (room into : List ℕ) (len : ℕ) (old new :
 pub record Restores (slot : ℕ) (bytes : List ℕ) (code : ℕ) (old new : HostedSessionState) : Type 0 where
   pub result : Result (Unit {0}) RestoreRefusal
   pub code_is : code ≡ restore_code result
-  pub call : IsHostedCall {A = Global} old slot (HostedEvent.Own (EventKind.Restore bytes)) (hosted_restore_reply result) new
+  pub call : IsHostedCall {A = Global} old slot (EventKind.Restore bytes) (hosted_restore_reply result) new
   pub fault :
       (why : RestoreFault) → IsErrOf result (Fault why) →
       IsSomeAnd (slice_get old.slots slot) (λ found. IsCauseOf (slot_in found.slot) bytes why)

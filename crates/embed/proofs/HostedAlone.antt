@@ -3,8 +3,9 @@ use Rattle.std.proofs.Common.{◌≡◌, ◌≢◌, ◌⊎◌, inl, inr, ℕ, eq
 use Rattle.std.specs.Prelude.{MatchOption, unwrap_or}
 use Rattle.std.specs.List.{slice_get}
 use Rattle.std.proofs.lemmas.Bool.Decides.{eqb_tells}
-use Rattle.board.specs.declared.hosted.reply.HostedReply.{HostedReply}
-use Rattle.board.specs.Hosting.{HostedEvent, HostedState}
+use Rattle.board.specs.declared.event.EventKind.{EventKind}
+use Rattle.board.specs.declared.reply.Reply.{Reply}
+use Rattle.board.specs.Hosting.{HostedState}
 use Rattle.board.specs.HostedLine.{CallsNone, CallsSlot, HostedCall, IsCalledNext, Told}
 use Rattle.board.proofs.Alone.{get_set}
 use Rattle.embed.specs.Hosted.{HostedSessionState, IsHostedCall}
@@ -12,12 +13,12 @@ use Rattle.embed.specs.HostedCourse.{Called, HostedAnswer, HostedAsking, HostedD
 use Rattle.embed.specs.Session.{KeepsOtherOutputs, Waiting, none_waiting, waiting_at}
 
 -- what a guest's own call comes to
-record OwnCall {A : Type 0} (h : ℕ) (state : HostedState) (event : HostedEvent A) (reply : HostedReply A) (old new : HostedSessionState) : Type 0 where
+record OwnCall {A : Type 0} (h : ℕ) (state : HostedState) (event : EventKind A) (reply : Reply A) (old new : HostedSessionState) : Type 0 where
   last : HostedState
   next : IsSeatCalled (waiting_at h old.outputs).limit (hosted_seat h state old) event reply (hosted_seat h last new)
   there : slice_get new.slots h ≡ Some last
 
-own_call : {A : Type 0} (old new : HostedSessionState) (h : ℕ) (event : HostedEvent A) (reply : HostedReply A) (state : HostedState) → IsHostedCall old h event reply new → slice_get old.slots h ≡ Some state → OwnCall h state event reply old new
+own_call : {A : Type 0} (old new : HostedSessionState) (h : ℕ) (event : EventKind A) (reply : Reply A) (state : HostedState) → IsHostedCall old h event reply new → slice_get old.slots h ≡ Some state → OwnCall h state event reply old new
 own_call {A} old new h event reply state is here =
     let waits = waiting_at h old.outputs in
     let call : HostedCall A = record { event = event; limit = Some waits.limit; waiting = waits.bytes } in
@@ -31,7 +32,7 @@ own_call {A} old new h event reply state is here =
       last = outcome.state;
       next = record {
         output = outcome.output;
-        next = subst (λ (r : HostedReply A). IsCalledNext state call (record { state = outcome.state; reply = r; output = outcome.output })) (sym said) calls.next;
+        next = subst (λ (r : Reply A). IsCalledNext state call (record { state = outcome.state; reply = r; output = outcome.output })) (sym said) calls.next;
         behind = is.takes.appended ∙ ap (λ (bytes : List ℕ). waits.bytes ++ bytes) put;
       };
       there = ap (λ (slots : List HostedState). slice_get slots h) calls.slots ∙ get_set old.slots h state outcome.state here;
@@ -55,7 +56,7 @@ abbrev Rests : {A : Type 0} → ℕ → HostedSessionState → List (HostedDeed 
 Rests g after deeds new = (state : HostedState) → slice_get after.slots g ≡ Some state → IsHostedAlone g state after deeds new
 
 -- a call for this guest, or for another
-called_either : {A : Type 0} (g slot : ℕ) (old : HostedSessionState) (event : HostedEvent A) (reply : HostedReply A) (after : HostedSessionState) (deeds : List (HostedDeed A)) (new : HostedSessionState) (state : HostedState) → ((eqb slot g ≡ true) × (slot ≡ g)) ⊎ ((eqb slot g ≡ false) × (slot ≢ g)) →
+called_either : {A : Type 0} (g slot : ℕ) (old : HostedSessionState) (event : EventKind A) (reply : Reply A) (after : HostedSessionState) (deeds : List (HostedDeed A)) (new : HostedSessionState) (state : HostedState) → ((eqb slot g ≡ true) × (slot ≡ g)) ⊎ ((eqb slot g ≡ false) × (slot ≢ g)) →
     IsHostedCall old slot event reply after → slice_get old.slots g ≡ Some state → Rests g after deeds new → IsHostedAlone g state old (Called slot event reply after ∷ deeds) new
 called_either {A} g slot old event reply after deeds new state (inl is) h here rest =
     let came : OwnCall g state event reply old after =

@@ -6,13 +6,11 @@ use Rattle.std.proofs.lemmas.Option.{slice_get_within, slice_get_cases, same_Som
 use Rattle.mmio_window.specs.declared.device_kind.DeviceKind.{DeviceKind}
 use Rattle.block_device.specs.declared.operation.Verdict.{Verdict}
 use Rattle.board.specs.declared.event.EventKind.{EventKind}
-use Rattle.board.specs.declared.event.EventKind.TheVariants.{Read, Write, MemRead, MemWrite, Input, Resize, Restore}
-use Rattle.board.specs.declared.hosted.reply.HostedReply.{HostedReply}
-use Rattle.board.specs.declared.hosted.reply.HostedReply.TheVariants.{Answered, Busy, Idle}
+use Rattle.board.specs.declared.event.EventKind.TheVariants.{Read, Write, MemRead, MemWrite, Input, Resize, Restore, Complete}
 use Rattle.board.specs.declared.reply.Reply.{Reply}
 use Rattle.board.specs.declared.reply.Reply.TheVariants as reply
-use Rattle.board.specs.declared.reply.Reply.TheVariants.{Done, Bytes, BadSlot, BadRange, NoMemory}
-use Rattle.board.specs.Hosting.{CompletionGives, Completed, GivesAtRest, GivesInFlight, HostedOutcome, HostedState, InFlight, IsBesideDisk, Own, OwnGives, WaitsOrGives, must_wait, notifies_block}
+use Rattle.board.specs.declared.reply.Reply.TheVariants.{Done, Bytes, BadSlot, BadRange, NoMemory, Busy, Idle}
+use Rattle.board.specs.Hosting.{CompletionGives, GivesAtRest, GivesInFlight, HostedOutcome, HostedState, InFlight, IsBesideDisk, IsOwn, OwnGives, WaitsOrGives, must_wait, notifies_block}
 use Rattle.board.specs.Image.{Health}
 use Rattle.board.specs.Machine.{at_rest, task_at}
 use Rattle.board.specs.Outcome.{Outcome, replies}
@@ -21,6 +19,7 @@ use Rattle.board.specs.Slot.{SlotState}
 use Rattle.board.specs.Task.{Task, Nothing, ServeBlock, ServeReceive, ServeTransmit, PutOut, Finishes}
 use Rattle.board.specs.Within.{IsPuttingOut, MayPutOut}
 use Rattle.board.specs.World.{IsCutShort, MayGive}
+use Rattle.board.proofs.Waiting.{own_next, untied}
 use Rattle.embed.specs.declared.hosted.progress.HostedProgress.{HostedProgress}
 use Rattle.embed.specs.declared.refusal.Refusal.{Refusal}
 use Rattle.embed.specs.declared.refusal.Refusal.TheVariants as refusal
@@ -77,6 +76,7 @@ given_fair {A} state (MemWrite addr bytes) old new outcome (inl served) = write_
 given_fair {A} state (Input bytes) old new outcome (inl served) = let is = ap (λ (o : Outcome A). o.reply) served.alike.is in (λ no. absurd (cc), λ no any. absurd (cc))
 given_fair {A} state (Resize cols rows) old new outcome (inl served) = fair_done state (Resize cols rows) outcome.reply (ap (λ (o : Outcome A). o.reply) served.alike.alike)
 given_fair state (Restore bytes) old new outcome (inl served) = restore_fair state bytes outcome served.alike.alike
+given_fair {A} state (Complete verdict) old new outcome (inl served) = let is = ap (λ (o : Outcome A). o.reply) served.alike.alike in (λ no. absurd (cc), λ no any. absurd (cc))
 given_fair state (Read window offset width) old new outcome (inr never) = absurd never
 given_fair state (Write window offset width value) old new outcome (inr cut) = cut_fair state window offset width value outcome.reply (cut_to _ _ old new outcome cut)
 given_fair {A} state (MemRead addr len) old new outcome (inr unread) = let is = ap (λ (o : Outcome A). o.reply) unread.unchanged in (λ no. absurd (cc), λ no any. absurd any)
@@ -84,27 +84,27 @@ given_fair state (MemWrite addr bytes) old new outcome (inr never) = absurd neve
 given_fair state (Input bytes) old new outcome (inr never) = absurd never
 given_fair state (Resize cols rows) old new outcome (inr never) = absurd never
 given_fair state (Restore bytes) old new outcome (inr never) = absurd never
+given_fair state (Complete verdict) old new outcome (inr never) = absurd never
 
 -- ---- and so with a disk that the host serves
 
 -- what an own call is told: Busy where it waits, and else a reply
-record IsFair {A : Type 0} (old : HostedState) (what : EventKind A) (flight : Option InFlight) (reply : HostedReply A) : Type 0 where
-  there : reply ≢ Answered BadSlot
-  room : reply ≡ Answered NoMemory → HasNoRead what → MayPutOut old.slot what
+record IsFair {A : Type 0} (old : HostedState) (what : EventKind A) (flight : Option InFlight) (reply : Reply A) : Type 0 where
+  there : reply ≢ BadSlot
+  room : reply ≡ NoMemory → HasNoRead what → MayPutOut old.slot what
   busy : reply ≡ Busy → (is_some flight && must_wait what) ≡ true
   waits : (is_some flight && must_wait what) ≡ true → reply ≡ Busy
 
-hosted_done_fair : {A : Type 0} (old : HostedState) (what : EventKind A) (flight : Option InFlight) (reply : HostedReply A) → (is_some flight && must_wait what) ≡ false → reply ≡ Answered Done → IsFair old what flight reply
+hosted_done_fair : {A : Type 0} (old : HostedState) (what : EventKind A) (flight : Option InFlight) (reply : Reply A) → (is_some flight && must_wait what) ≡ false → reply ≡ Done → IsFair old what flight reply
 hosted_done_fair old what flight reply free is = record { there = λ no. absurd (cc); room = λ no any. absurd (cc); busy = λ no. absurd (cc); waits = λ no. absurd (cc) }
 
 beside_fair : {A : Type 0} (old : HostedState) (what : EventKind A) (flight : Option InFlight) (outcome : HostedOutcome A) → (is_some flight && must_wait what) ≡ false → IsBesideDisk old what outcome → IsFair old what flight outcome.reply
 beside_fair old what flight outcome free h =
     let fair = given_fair old.slot what at_rest at_rest _ h.given in
-    let told = h.replied in
     record {
-      there = λ no. fair.0 (cc (no, told));
-      room = λ no any. fair.1 (cc (no, told)) any;
-      busy = λ no. absurd (cc);
+      there = fair.0;
+      room = fair.1;
+      busy = λ no. absurd ((untied old.slot what at_rest at_rest _ h.given).free no);
       waits = λ no. absurd (cc);
     }
 
@@ -129,23 +129,23 @@ own_fair old what outcome (Some here) gives = waiting_fair old what here outcome
 -- ---- a call of a session
 
 -- what each refusal of an own call says
-pub record IsExact {A : Type 0} (slots : List HostedState) (h : ℕ) (what : EventKind A) (reply : HostedReply A) : Type 0 where
-  pub bad_slot : (reply ≡ Answered BadSlot) ↔ (length slots ≤ h)
+pub record IsExact {A : Type 0} (slots : List HostedState) (h : ℕ) (what : EventKind A) (reply : Reply A) : Type 0 where
+  pub bad_slot : (reply ≡ BadSlot) ↔ (length slots ≤ h)
   pub busy : (reply ≡ Busy) ↔ HoldsUp slots h what
-  pub no_room : reply ≡ Answered NoMemory → HasNoRead what → IsSomeAnd (slice_get slots h) (λ found. MayPutOut found.slot what)
+  pub no_room : reply ≡ NoMemory → HasNoRead what → IsSomeAnd (slice_get slots h) (λ found. MayPutOut found.slot what)
 
-exact_from : {A : Type 0} (old new : HostedSessionState) (h : ℕ) (what : EventKind A) (reply : HostedReply A) (o : Option HostedState) → slice_get old.slots h ≡ o → IsHostedCall old h (Own what) reply new → IsExact old.slots h what reply
-exact_from old new h what reply None here is =
-    let told = told_none old new h (Own what) reply here is in
+exact_from : {A : Type 0} (old new : HostedSessionState) (h : ℕ) (what : EventKind A) (reply : Reply A) (o : Option HostedState) → IsOwn what → slice_get old.slots h ≡ o → IsHostedCall old h what reply new → IsExact old.slots h what reply
+exact_from old new h what reply None own here is =
+    let told = told_none old new h what reply here is in
     let past : length old.slots ≤ h = grind (arith, slice_get_cases old.slots h) in
     record {
       bad_slot = (λ yes. past, λ yes. told);
       busy = rw here (λ no. absurd (cc), λ no. absurd no);
       no_room = λ no any. absurd (cc);
     }
-exact_from {A} old new h what reply (Some state) here is =
-    let came = came_to old new h (Own what) reply state here is in
-    let fair : IsFair state what state.flight reply = subst (λ (r : HostedReply A). IsFair state what state.flight r) (sym came.replied) (own_fair state what came.outcome state.flight came.next) in
+exact_from {A} old new h what reply (Some state) own here is =
+    let came = came_to old new h what reply state here is in
+    let fair : IsFair state what state.flight reply = subst (λ (r : Reply A). IsFair state what state.flight r) (sym came.replied) (own_fair state what came.outcome state.flight (own_next state what came.outcome own came.next)) in
     let below = slice_get_within old.slots h state here in
     record {
       bad_slot = (λ no. absurd (fair.there no), λ past. absurd (omega (arith, below, past)));
@@ -153,25 +153,25 @@ exact_from {A} old new h what reply (Some state) here is =
       no_room = λ none any. rw here (fair.room none any);
     }
 
-pub exact : {A : Type 0} (old new : HostedSessionState) (h : ℕ) (what : EventKind A) (reply : HostedReply A) → IsHostedCall old h (Own what) reply new → IsExact old.slots h what reply
-exact old new h what reply is = exact_from old new h what reply (slice_get old.slots h) refl is
+pub exact : {A : Type 0} (old new : HostedSessionState) (h : ℕ) (what : EventKind A) (reply : Reply A) → IsOwn what → IsHostedCall old h what reply new → IsExact old.slots h what reply
+exact old new h what reply own is = exact_from old new h what reply (slice_get old.slots h) own refl is
 
 -- and of a completion
-pub record IsExactCompletion {A : Type 0} (slots : List HostedState) (h : ℕ) (reply : HostedReply A) : Type 0 where
-  pub bad_slot : (reply ≡ Answered BadSlot) ↔ (length slots ≤ h)
+pub record IsExactCompletion {A : Type 0} (slots : List HostedState) (h : ℕ) (reply : Reply A) : Type 0 where
+  pub bad_slot : (reply ≡ BadSlot) ↔ (length slots ≤ h)
   pub idle : (reply ≡ Idle) ↔ IsAtRest slots h
 
-completed_from : {A : Type 0} (slots : List HostedState) (h : ℕ) (state : HostedState) (verdict : Verdict) (outcome : HostedOutcome A) (flight : Option InFlight) → CompletionGives flight state verdict outcome → (outcome.reply ≢ Answered BadSlot) × ((outcome.reply ≡ Idle) ↔ (flight ≡ None))
+completed_from : {A : Type 0} (slots : List HostedState) (h : ℕ) (state : HostedState) (verdict : Verdict) (outcome : HostedOutcome A) (flight : Option InFlight) → CompletionGives flight state verdict outcome → (outcome.reply ≢ BadSlot) × ((outcome.reply ≡ Idle) ↔ (flight ≡ None))
 completed_from {A} slots h state verdict outcome None gives = let told = ap (λ (o : HostedOutcome A). o.reply) gives in (λ no. absurd (cc), (λ is. refl, λ is. told))
 completed_from {A} slots h state verdict outcome (Some here) gives = let told = ap (λ (o : HostedOutcome A). o.reply) gives.1 in (λ no. absurd (cc), (λ is. absurd (cc), λ is. absurd (cc)))
 
-exact_completion_from : {A : Type 0} (old new : HostedSessionState) (h : ℕ) (verdict : Verdict) (reply : HostedReply A) (o : Option HostedState) → slice_get old.slots h ≡ o → IsHostedCall old h (Completed verdict) reply new → IsExactCompletion old.slots h reply
+exact_completion_from : {A : Type 0} (old new : HostedSessionState) (h : ℕ) (verdict : Verdict) (reply : Reply A) (o : Option HostedState) → slice_get old.slots h ≡ o → IsHostedCall old h (Complete verdict) reply new → IsExactCompletion old.slots h reply
 exact_completion_from old new h verdict reply None here is =
-    let told = told_none old new h (Completed verdict) reply here is in
+    let told = told_none old new h (Complete verdict) reply here is in
     let past : length old.slots ≤ h = grind (arith, slice_get_cases old.slots h) in
     record { bad_slot = (λ yes. past, λ yes. told); idle = rw here (λ no. absurd (cc), λ no. absurd no) }
 exact_completion_from {A} old new h verdict reply (Some state) here is =
-    let came = came_to old new h (Completed verdict) reply state here is in
+    let came = came_to old new h (Complete verdict) reply state here is in
     let fair = completed_from old.slots h state verdict came.outcome state.flight came.next in
     let below = slice_get_within old.slots h state here in
     record {
@@ -179,21 +179,21 @@ exact_completion_from {A} old new h verdict reply (Some state) here is =
       idle = rw here (λ yes. fair.1.0 (sym came.replied ∙ yes), λ none. came.replied ∙ fair.1.1 none);
     }
 
-pub exact_completion : {A : Type 0} (old new : HostedSessionState) (h : ℕ) (verdict : Verdict) (reply : HostedReply A) → IsHostedCall old h (Completed verdict) reply new → IsExactCompletion old.slots h reply
+pub exact_completion : {A : Type 0} (old new : HostedSessionState) (h : ℕ) (verdict : Verdict) (reply : Reply A) → IsHostedCall old h (Complete verdict) reply new → IsExactCompletion old.slots h reply
 exact_completion old new h verdict reply is = exact_completion_from old new h verdict reply (slice_get old.slots h) refl is
 
 -- ---- and what a call answers
 
 -- the refusal that a reply says, and that a call answers
-abbrev pub refusal_in : {A : Type 0} → HostedReply A → Option Refusal
-refusal_in (Answered BadSlot) = Some refusal.BadSlot
-refusal_in (Answered BadRange) = Some refusal.BadRange
-refusal_in (Answered reply.BadState) = None
-refusal_in (Answered NoMemory) = Some refusal.NoRoom
-refusal_in (Answered (reply.Value value)) = None
-refusal_in (Answered Done) = None
-refusal_in (Answered (Bytes bytes)) = None
-refusal_in (Answered (reply.Took taken)) = None
+abbrev pub refusal_in : {A : Type 0} → Reply A → Option Refusal
+refusal_in BadSlot = Some refusal.BadSlot
+refusal_in BadRange = Some refusal.BadRange
+refusal_in reply.BadState = None
+refusal_in NoMemory = Some refusal.NoRoom
+refusal_in (reply.Value value) = None
+refusal_in Done = None
+refusal_in (Bytes bytes) = None
+refusal_in (reply.Took taken) = None
 refusal_in Busy = Some refusal.Busy
 refusal_in Idle = Some refusal.Idle
 
@@ -208,15 +208,15 @@ refusing_in A refusal.NoRoom = refl
 refusing_in A refusal.Busy = refl
 refusing_in A refusal.Idle = refl
 
-telling : {A : Type 0} (r : HostedReply A) (why : Refusal) → refusal_in r ≡ Some why → r ≡ hosted_refusing why
-telling {A} (Answered BadSlot) why is = ap (λ w. hosted_refusing {A = A} w) (same_Some refusal.BadSlot why is)
-telling {A} (Answered BadRange) why is = ap (λ w. hosted_refusing {A = A} w) (same_Some refusal.BadRange why is)
-telling {A} (Answered NoMemory) why is = ap (λ w. hosted_refusing {A = A} w) (same_Some refusal.NoRoom why is)
-telling (Answered reply.BadState) why is = absurd (cc)
-telling (Answered (reply.Value value)) why is = absurd (cc)
-telling (Answered Done) why is = absurd (cc)
-telling (Answered (Bytes bytes)) why is = absurd (cc)
-telling (Answered (reply.Took taken)) why is = absurd (cc)
+telling : {A : Type 0} (r : Reply A) (why : Refusal) → refusal_in r ≡ Some why → r ≡ hosted_refusing why
+telling {A} BadSlot why is = ap (λ w. hosted_refusing {A = A} w) (same_Some refusal.BadSlot why is)
+telling {A} BadRange why is = ap (λ w. hosted_refusing {A = A} w) (same_Some refusal.BadRange why is)
+telling {A} NoMemory why is = ap (λ w. hosted_refusing {A = A} w) (same_Some refusal.NoRoom why is)
+telling reply.BadState why is = absurd (cc)
+telling (reply.Value value) why is = absurd (cc)
+telling Done why is = absurd (cc)
+telling (Bytes bytes) why is = absurd (cc)
+telling (reply.Took taken) why is = absurd (cc)
 telling {A} Busy why is = ap (λ w. hosted_refusing {A = A} w) (same_Some refusal.Busy why is)
 telling {A} Idle why is = ap (λ w. hosted_refusing {A = A} w) (same_Some refusal.Idle why is)
 
@@ -224,21 +224,21 @@ is_err : {T : Type 0} (r : Result T Refusal) (why : Refusal) → refused r ≡ S
 is_err (Ok value) why is = absurd (cc)
 is_err (Err w) why is = ap (λ x. Err x) (same_Some w why is)
 
-pub refused_only : {A T : Type 0} (told : HostedReply A) (r : Result T Refusal) (why : Refusal) (P : Type 0) → refusal_in told ≡ refused r → (told ≡ hosted_refusing why → P) → IsErrOf r why → P
+pub refused_only : {A T : Type 0} (told : Reply A) (r : Result T Refusal) (why : Refusal) (P : Type 0) → refusal_in told ≡ refused r → (told ≡ hosted_refusing why → P) → IsErrOf r why → P
 refused_only {A} {T} told r why P same says is = says (telling told why (same ∙ ap (λ (x : Result T Refusal). refused x) is))
 
-pub refused_where : {A T : Type 0} (told : HostedReply A) (r : Result T Refusal) (why : Refusal) (P : Type 0) → refusal_in told ≡ refused r → (told ≡ hosted_refusing why) ↔ P → IsErrOf r why ↔ P
+pub refused_where : {A T : Type 0} (told : Reply A) (r : Result T Refusal) (why : Refusal) (P : Type 0) → refusal_in told ≡ refused r → (told ≡ hosted_refusing why) ↔ P → IsErrOf r why ↔ P
 refused_where {A} told r why P same when =
-    (refused_only told r why P same when.0, λ p. is_err r why (sym same ∙ (ap (λ (t : HostedReply A). refusal_in t) (when.1 p) ∙ refusing_in A why)))
+    (refused_only told r why P same when.0, λ p. is_err r why (sym same ∙ (ap (λ (t : Reply A). refusal_in t) (when.1 p) ∙ refusing_in A why)))
 
-pub served_in : {A : Type 0} (told : HostedReply A) (r : Result HostedProgress Refusal) → told ≡ hosted_served r → refusal_in told ≡ refused r
+pub served_in : {A : Type 0} (told : Reply A) (r : Result HostedProgress Refusal) → told ≡ hosted_served r → refusal_in told ≡ refused r
 served_in told (Ok progress) is = rw is refl
 served_in {A} told (Err why) is = rw is (refusing_in A why)
 
-pub value_in : {A : Type 0} (told : HostedReply A) (r : Result ℕ Refusal) → told ≡ hosted_value r → refusal_in told ≡ refused r
+pub value_in : {A : Type 0} (told : Reply A) (r : Result ℕ Refusal) → told ≡ hosted_value r → refusal_in told ≡ refused r
 value_in told (Ok value) is = rw is refl
 value_in {A} told (Err why) is = rw is (refusing_in A why)
 
-pub done_in : {A : Type 0} (told : HostedReply A) (r : Result (Unit {0}) Refusal) → told ≡ hosted_done r → refusal_in told ≡ refused r
+pub done_in : {A : Type 0} (told : Reply A) (r : Result (Unit {0}) Refusal) → told ≡ hosted_done r → refusal_in told ≡ refused r
 done_in told (Ok value) is = rw is refl
 done_in {A} told (Err why) is = rw is (refusing_in A why)

@@ -6,18 +6,17 @@ use Rattle.std.proofs.lemmas.List.{length-set}
 use Rattle.std.proofs.lemmas.Option.{slice_get_past, slice_get_within}
 use Rattle.mmio_window.specs.declared.device_kind.DeviceKind.{DeviceKind}
 use Rattle.board.specs.declared.event.EventKind.{EventKind}
-use Rattle.board.specs.declared.event.EventKind.TheVariants.{Read, Write, MemRead, MemWrite, Input, Resize, Restore}
-use Rattle.board.specs.declared.hosted.reply.HostedReply.{HostedReply}
-use Rattle.board.specs.declared.hosted.reply.HostedReply.TheVariants.{Answered, Busy, Idle}
+use Rattle.board.specs.declared.event.EventKind.TheVariants.{Read, Write, MemRead, MemWrite, Input, Resize, Restore, Complete}
 use Rattle.board.specs.declared.reply.Reply.{Reply}
 use Rattle.board.specs.declared.reply.Reply.TheVariants as reply
-use Rattle.board.specs.declared.reply.Reply.TheVariants.{Done, BadSlot, BadRange, Took}
+use Rattle.board.specs.declared.reply.Reply.TheVariants.{Done, BadSlot, BadRange, Took, Busy}
 use Rattle.block_device.specs.declared.operation.Verdict.{Verdict}
-use Rattle.board.specs.Hosting.{CompletionGives, Completed, GivesAtRest, GivesInFlight, HostedEvent, HostedOutcome, HostedState, InFlight, IsBesideDisk, Own, OwnGives, WaitsOrGives, must_wait, notifies_block}
+use Rattle.board.specs.Hosting.{CompletionGives, GivesAtRest, GivesInFlight, HostedOutcome, HostedState, InFlight, IsBesideDisk, IsOwn, OwnGives, WaitsOrGives, must_wait, notifies_block}
 use Rattle.board.specs.HostedLine.{CallsNone, CallsSlot, HostedCall, KeepsOtherGuests, TakesCall, TakesQuietly, Told}
 use Rattle.board.specs.Machine.{at_rest}
 use Rattle.board.specs.Slot.{SlotState}
 use Rattle.board.proofs.HostedSeats.{calls_missing}
+use Rattle.board.proofs.Waiting.{own_next, untied}
 use Rattle.embed.specs.declared.refusal.Refusal.{Refusal}
 use Rattle.embed.specs.declared.refusal.Refusal.TheVariants as refusal
 use Rattle.embed.specs.Answering.{Suits}
@@ -41,7 +40,7 @@ waits_so : (outputs : List Waiting) (h : ℕ) (queue : Waiting) → slice_get ou
 waits_so outputs h queue here = ap (λ (o : Option Waiting). unwrap_or o (none_waiting 0)) here
 
 -- by the slot's own outlet
-pub came : {A : Type 0} (slots new : List HostedState) (outputs : List Waiting) (h : ℕ) (event : HostedEvent A) (reply : HostedReply A) (block console : ℕ) (queue later : Waiting) → slice_get outputs h ≡ Some queue
+pub came : {A : Type 0} (slots new : List HostedState) (outputs : List Waiting) (h : ℕ) (event : EventKind A) (reply : Reply A) (block console : ℕ) (queue later : Waiting) → slice_get outputs h ≡ Some queue
     → TakesCall slots h event (Some queue.limit) reply block console queue.bytes later.bytes new → KeepsOtherGuests h slots new → later.limit ≡ queue.limit
     → IsHostedCall (hosted_shown slots outputs) h event reply (hosted_shown new (slice_set outputs h later))
 came slots new outputs h event reply block console queue later here takes others limit = record {
@@ -56,7 +55,7 @@ came slots new outputs h event reply block console queue later here takes others
 }
 
 -- one that puts nothing out
-pub quiet : {A : Type 0} (slots new : List HostedState) (outputs : List Waiting) (h : ℕ) (event : HostedEvent A) (reply : HostedReply A) → TakesQuietly slots h event reply new → KeepsOtherGuests h slots new
+pub quiet : {A : Type 0} (slots new : List HostedState) (outputs : List Waiting) (h : ℕ) (event : EventKind A) (reply : Reply A) → TakesQuietly slots h event reply new → KeepsOtherGuests h slots new
     → IsHostedCall (hosted_shown slots outputs) h event reply (hosted_shown new outputs)
 quiet slots new outputs h event reply takes others = record {
   block = takes.block;
@@ -68,14 +67,14 @@ quiet slots new outputs h event reply takes others = record {
 }
 
 -- and one for a slot that isn't there
-pub no_such_slot : {A : Type 0} (slots : List HostedState) (outputs : List Waiting) (h : ℕ) (event : HostedEvent A) → length slots ≤ h → IsHostedCall (hosted_shown slots outputs) h event (Answered BadSlot) (hosted_shown slots outputs)
+pub no_such_slot : {A : Type 0} (slots : List HostedState) (outputs : List Waiting) (h : ℕ) (event : EventKind A) → length slots ≤ h → IsHostedCall (hosted_shown slots outputs) h event BadSlot (hosted_shown slots outputs)
 no_such_slot {A} slots outputs h event past =
-    quiet slots slots outputs h event (Answered BadSlot)
+    quiet slots slots outputs h event BadSlot
     (record { block = 0; console = 0; takes = λ limit waiting. calls_missing {A = A} slots h event limit waiting (slice_get_past slots h past) })
     (λ other differ. refl)
 
 -- a range that isn't there
-pub refusing_range : {A : Type 0} (inside : Bool) → hosted_refusing {A = A} (if inside then refusal.BadRange else refusal.BadSlot) ≡ Answered (if inside then BadRange else BadSlot)
+pub refusing_range : {A : Type 0} (inside : Bool) → hosted_refusing {A = A} (if inside then refusal.BadRange else refusal.BadSlot) ≡ (if inside then BadRange else BadSlot)
 refusing_range true = refl
 refusing_range false = refl
 
@@ -85,7 +84,7 @@ many_at : {A : Type 0} (slots : List HostedState) (h : ℕ) (call : HostedCall A
 many_at slots h call told new None calls = ap (λ (s : List HostedState). length s) calls.same
 many_at slots h call told new (Some state) calls = ap (λ (s : List HostedState). length s) calls.slots ∙ length-set slots h calls.outcome.state
 
-pub as_many_slots : {A : Type 0} (slots : List HostedState) (h : ℕ) (event : HostedEvent A) (limit : Option ℕ) (reply : HostedReply A) (block console : ℕ) (waiting left : List ℕ) (new : List HostedState)
+pub as_many_slots : {A : Type 0} (slots : List HostedState) (h : ℕ) (event : EventKind A) (limit : Option ℕ) (reply : Reply A) (block console : ℕ) (waiting left : List ℕ) (new : List HostedState)
     → TakesCall slots h event limit reply block console waiting left new → length new ≡ length slots
 as_many_slots slots h event limit reply block console waiting left new takes = many_at slots h _ _ new (slice_get slots h) takes.calls
 
@@ -99,6 +98,7 @@ rings_write (MemWrite addr bytes) state is = tt
 rings_write (Input bytes) state is = absurd (cc)
 rings_write (Resize cols rows) state is = tt
 rings_write (Restore bytes) state is = absurd (cc)
+rings_write (Complete verdict) state is = absurd (cc)
 
 waits_write : {A : Type 0} (what : EventKind A) → must_wait what ≡ true → SuitsHosted what Busy
 waits_write (Write window offset width value) is = tt
@@ -108,19 +108,33 @@ waits_write (MemWrite addr bytes) is = absurd (cc)
 waits_write (Input bytes) is = absurd (cc)
 waits_write (Resize cols rows) is = absurd (cc)
 waits_write (Restore bytes) is = tt
+waits_write (Complete verdict) is = absurd (cc)
 
-told_suits : {A : Type 0} (what : EventKind A) (reply told : HostedReply A) → reply ≡ told → SuitsHosted what told → SuitsHosted what reply
-told_suits {A} what reply told is suits = subst (λ (r : HostedReply A). SuitsHosted what r) (sym is) suits
+told_suits : {A : Type 0} (what : EventKind A) (reply told : Reply A) → reply ≡ told → SuitsHosted what told → SuitsHosted what reply
+told_suits {A} what reply told is suits = subst (λ (r : Reply A). SuitsHosted what r) (sym is) suits
+
+suits_too : {A : Type 0} (what : EventKind A) (r : Reply A) → (r ≡ Busy → ⊥) → Suits what r → SuitsHosted what r
+suits_too what (reply.Value n) free suits = suits
+suits_too what reply.Done free suits = suits
+suits_too what (reply.Bytes bytes) free suits = suits
+suits_too what (reply.Took taken) free suits = suits
+suits_too what reply.BadSlot free suits = suits
+suits_too what reply.BadRange free suits = suits
+suits_too what reply.BadState free suits = suits
+suits_too what reply.NoMemory free suits = suits
+suits_too what reply.Busy free suits = absurd (free refl)
+suits_too what reply.Idle free suits = suits
 
 beside_suits : {A : Type 0} (old : HostedState) (what : EventKind A) (outcome : HostedOutcome A) → IsBesideDisk old what outcome → SuitsHosted what outcome.reply
-beside_suits old what outcome h = told_suits what outcome.reply (Answered h.reply) h.replied (given_suits old.slot what at_rest at_rest _ h.given)
+beside_suits old what outcome h =
+    suits_too what outcome.reply (untied old.slot what at_rest at_rest _ h.given).free (given_suits old.slot what at_rest at_rest _ h.given)
 
 rest_suits : {A : Type 0} (old : HostedState) (what : EventKind A) (outcome : HostedOutcome A) (b : Bool) → notifies_block what old.slot ≡ b → GivesAtRest b old what outcome → SuitsHosted what outcome.reply
-rest_suits {A} old what outcome true is gives = told_suits what outcome.reply (Answered Done) (ap (λ (o : HostedOutcome A). o.reply) gives.1) (rings_write what old.slot is)
+rest_suits {A} old what outcome true is gives = told_suits what outcome.reply Done (ap (λ (o : HostedOutcome A). o.reply) gives.1) (rings_write what old.slot is)
 rest_suits old what outcome false is gives = beside_suits old what outcome gives
 
 flying_suits : {A : Type 0} (old : HostedState) (what : EventKind A) (outcome : HostedOutcome A) (b : Bool) → notifies_block what old.slot ≡ b → GivesInFlight b old what outcome → SuitsHosted what outcome.reply
-flying_suits {A} old what outcome true is gives = told_suits what outcome.reply (Answered Done) (ap (λ (o : HostedOutcome A). o.reply) gives) (rings_write what old.slot is)
+flying_suits {A} old what outcome true is gives = told_suits what outcome.reply Done (ap (λ (o : HostedOutcome A). o.reply) gives) (rings_write what old.slot is)
 flying_suits old what outcome false is gives = beside_suits old what outcome gives
 
 waiting_suits : {A : Type 0} (old : HostedState) (what : EventKind A) (outcome : HostedOutcome A) (b : Bool) → must_wait what ≡ b → WaitsOrGives b old what outcome → SuitsHosted what outcome.reply
@@ -132,75 +146,69 @@ own_suits old what outcome None gives = rest_suits old what outcome (notifies_bl
 own_suits old what outcome (Some here) gives = waiting_suits old what outcome (must_wait what) refl gives
 
 completed_suits : {A : Type 0} (old : HostedState) (verdict : Verdict) (outcome : HostedOutcome A) (flight : Option InFlight) → CompletionGives flight old verdict outcome → SuitsCompletion outcome.reply
-completed_suits {A} old verdict outcome None gives = subst (λ (r : HostedReply A). SuitsCompletion r) (sym (ap (λ (o : HostedOutcome A). o.reply) gives)) tt
-completed_suits {A} old verdict outcome (Some here) gives = subst (λ (r : HostedReply A). SuitsCompletion r) (sym (ap (λ (o : HostedOutcome A). o.reply) gives.1)) tt
+completed_suits {A} old verdict outcome None gives = subst (λ (r : Reply A). SuitsCompletion r) (sym (ap (λ (o : HostedOutcome A). o.reply) gives)) tt
+completed_suits {A} old verdict outcome (Some here) gives = subst (λ (r : Reply A). SuitsCompletion r) (sym (ap (λ (o : HostedOutcome A). o.reply) gives.1)) tt
 
-own_at : {A : Type 0} (slots : List HostedState) (h : ℕ) (what : EventKind A) (limit : Option ℕ) (waiting : List ℕ) (told : Told A) (new : List HostedState) (o : Option HostedState)
-    → MatchOption o (CallsNone slots told new) (λ s. CallsSlot slots h s (record { event = Own what; limit = limit; waiting = waiting }) told new) → SuitsHosted what told.reply
-own_at {A} slots h what limit waiting told new None calls = told_suits what told.reply (Answered BadSlot) (ap (λ (t : Told A). t.reply) calls.told_is) tt
-own_at {A} slots h what limit waiting told new (Some state) calls =
-    told_suits what told.reply calls.outcome.reply (ap (λ (t : Told A). t.reply) calls.told_is) (own_suits state what calls.outcome state.flight calls.next.next)
+own_at : {A : Type 0} (slots : List HostedState) (h : ℕ) (what : EventKind A) (limit : Option ℕ) (waiting : List ℕ) (told : Told A) (new : List HostedState) (o : Option HostedState) → IsOwn what
+    → MatchOption o (CallsNone slots told new) (λ s. CallsSlot slots h s (record { event = what; limit = limit; waiting = waiting }) told new) → SuitsHosted what told.reply
+own_at {A} slots h what limit waiting told new None own calls = told_suits what told.reply BadSlot (ap (λ (t : Told A). t.reply) calls.told_is) tt
+own_at {A} slots h what limit waiting told new (Some state) own calls =
+    told_suits what told.reply calls.outcome.reply (ap (λ (t : Told A). t.reply) calls.told_is) (own_suits state what calls.outcome state.flight (own_next state what calls.outcome own calls.next.next))
 
-pub suits_hosted : {A : Type 0} (slots : List HostedState) (h : ℕ) (what : EventKind A) (limit : Option ℕ) (reply : HostedReply A) (block console : ℕ) (waiting left : List ℕ) (new : List HostedState)
-    → TakesCall slots h (Own what) limit reply block console waiting left new → SuitsHosted what reply
-suits_hosted slots h what limit reply block console waiting left new takes = own_at slots h what limit waiting _ new (slice_get slots h) takes.calls
+pub suits_hosted : {A : Type 0} (slots : List HostedState) (h : ℕ) (what : EventKind A) (limit : Option ℕ) (reply : Reply A) (block console : ℕ) (waiting left : List ℕ) (new : List HostedState) → IsOwn what
+    → TakesCall slots h what limit reply block console waiting left new → SuitsHosted what reply
+suits_hosted slots h what limit reply block console waiting left new own takes = own_at slots h what limit waiting _ new (slice_get slots h) own takes.calls
 
 completed_at : {A : Type 0} (slots : List HostedState) (h : ℕ) (verdict : Verdict) (limit : Option ℕ) (waiting : List ℕ) (told : Told A) (new : List HostedState) (o : Option HostedState)
-    → MatchOption o (CallsNone slots told new) (λ s. CallsSlot slots h s (record { event = Completed verdict; limit = limit; waiting = waiting }) told new) → SuitsCompletion told.reply
-completed_at {A} slots h verdict limit waiting told new None calls = subst (λ (r : HostedReply A). SuitsCompletion r) (sym (ap (λ (t : Told A). t.reply) calls.told_is)) tt
+    → MatchOption o (CallsNone slots told new) (λ s. CallsSlot slots h s (record { event = Complete verdict; limit = limit; waiting = waiting }) told new) → SuitsCompletion told.reply
+completed_at {A} slots h verdict limit waiting told new None calls = subst (λ (r : Reply A). SuitsCompletion r) (sym (ap (λ (t : Told A). t.reply) calls.told_is)) tt
 completed_at {A} slots h verdict limit waiting told new (Some state) calls =
-    subst (λ (r : HostedReply A). SuitsCompletion r) (sym (ap (λ (t : Told A). t.reply) calls.told_is)) (completed_suits state verdict calls.outcome state.flight calls.next.next)
+    subst (λ (r : Reply A). SuitsCompletion r) (sym (ap (λ (t : Told A). t.reply) calls.told_is)) (completed_suits state verdict calls.outcome state.flight calls.next.next)
 
-pub suits_completion : {A : Type 0} (slots : List HostedState) (h : ℕ) (verdict : Verdict) (limit : Option ℕ) (reply : HostedReply A) (block console : ℕ) (waiting left : List ℕ) (new : List HostedState)
-    → TakesCall slots h (Completed verdict) limit reply block console waiting left new → SuitsCompletion reply
+pub suits_completion : {A : Type 0} (slots : List HostedState) (h : ℕ) (verdict : Verdict) (limit : Option ℕ) (reply : Reply A) (block console : ℕ) (waiting left : List ℕ) (new : List HostedState)
+    → TakesCall slots h (Complete verdict) limit reply block console waiting left new → SuitsCompletion reply
 suits_completion slots h verdict limit reply block console waiting left new takes = completed_at slots h verdict limit waiting _ new (slice_get slots h) takes.calls
 
 -- ---- what a write or a completion is answered
 
-serving_at : {A : Type 0} (window : DeviceKind) (offset width value : ℕ) (r : Reply A) → Suits (Write window offset width value) r → IsHostedServing (Answered r)
-serving_at window offset width value (reply.Value n) suits = absurd suits
-serving_at window offset width value reply.Done suits = tt
-serving_at window offset width value (reply.Bytes bytes) suits = absurd suits
-serving_at window offset width value (reply.Took taken) suits = absurd suits
-serving_at window offset width value reply.BadSlot suits = tt
-serving_at window offset width value reply.BadRange suits = tt
-serving_at window offset width value reply.BadState suits = absurd suits
-serving_at window offset width value reply.NoMemory suits = tt
+pub serving_write : {A : Type 0} (window : DeviceKind) (offset width value : ℕ) (r : Reply A) → SuitsHosted (Write window offset width value) r → IsHostedServing r
+serving_write window offset width value (reply.Value n) suits = absurd suits
+serving_write window offset width value reply.Done suits = tt
+serving_write window offset width value (reply.Bytes bytes) suits = absurd suits
+serving_write window offset width value (reply.Took taken) suits = absurd suits
+serving_write window offset width value reply.BadSlot suits = tt
+serving_write window offset width value reply.BadRange suits = tt
+serving_write window offset width value reply.BadState suits = absurd suits
+serving_write window offset width value reply.NoMemory suits = tt
+serving_write window offset width value reply.Busy suits = tt
+serving_write window offset width value reply.Idle suits = tt
 
-pub serving_write : {A : Type 0} (window : DeviceKind) (offset width value : ℕ) (r : HostedReply A) → SuitsHosted (Write window offset width value) r → IsHostedServing r
-serving_write window offset width value (Answered r) suits = serving_at window offset width value r suits
-serving_write window offset width value Busy suits = tt
-serving_write window offset width value Idle suits = tt
-
-landing_at : {A : Type 0} (r : Reply A) → SuitsCompletion (Answered r) → IsHostedServing (Answered r)
-landing_at (reply.Value n) suits = absurd suits
-landing_at reply.Done suits = tt
-landing_at (reply.Bytes bytes) suits = absurd suits
-landing_at (reply.Took taken) suits = absurd suits
-landing_at reply.BadSlot suits = tt
-landing_at reply.BadRange suits = tt
-landing_at reply.BadState suits = absurd suits
-landing_at reply.NoMemory suits = tt
-
-pub serving_completion : {A : Type 0} (r : HostedReply A) → SuitsCompletion r → IsHostedServing r
-serving_completion (Answered r) suits = landing_at r suits
-serving_completion Busy suits = tt
-serving_completion Idle suits = tt
+pub serving_completion : {A : Type 0} (r : Reply A) → SuitsCompletion r → IsHostedServing r
+serving_completion (reply.Value n) suits = absurd suits
+serving_completion reply.Done suits = tt
+serving_completion (reply.Bytes bytes) suits = absurd suits
+serving_completion (reply.Took taken) suits = absurd suits
+serving_completion reply.BadSlot suits = tt
+serving_completion reply.BadRange suits = tt
+serving_completion reply.BadState suits = absurd suits
+serving_completion reply.NoMemory suits = tt
+serving_completion reply.Busy suits = tt
+serving_completion reply.Idle suits = tt
 
 -- ---- what is typed
 
-pub typed_call : (A : Type 0) (slots new : List HostedState) (outputs : List Waiting) (h : ℕ) (bytes : List ℕ) (taken : Option ℕ) → IfSome taken (λ n. TakesQuietly {A = A} slots h (Own (Input bytes)) (Answered (Took n)) new)
+pub typed_call : (A : Type 0) (slots new : List HostedState) (outputs : List Waiting) (h : ℕ) (bytes : List ℕ) (taken : Option ℕ) → IfSome taken (λ n. TakesQuietly {A = A} slots h (Input bytes) (Took n) new)
     → KeepsOtherGuests h slots new → (IsSome taken → h < length slots) × (h < length slots → IsSome taken) → IfNone taken (new ≡ slots) → (result : Result ℕ Refusal) → result ≡ typed_or taken
-    → IsHostedCall {A = A} (hosted_shown slots outputs) h (Own (Input bytes)) (hosted_typed result) (hosted_shown new outputs)
+    → IsHostedCall {A = A} (hosted_shown slots outputs) h (Input bytes) (hosted_typed result) (hosted_shown new outputs)
 typed_call A slots new outputs h bytes None takes others there missing result is =
     let past : length slots ≤ h = grind (arith, there.1) in
-    rw (is, missing) (no_such_slot {A = A} slots outputs h (Own (Input bytes)) past)
+    rw (is, missing) (no_such_slot {A = A} slots outputs h (Input bytes) past)
 typed_call A slots new outputs h bytes (Some n) takes others there missing result is =
-    rw is (quiet slots new outputs h (Own (Input bytes)) (Answered (Took n)) takes others)
+    rw is (quiet slots new outputs h (Input bytes) (Took n) takes others)
 
-pub typed_many : (A : Type 0) (slots new : List HostedState) (h : ℕ) (bytes : List ℕ) (taken : Option ℕ) → IfSome taken (λ n. TakesQuietly {A = A} slots h (Own (Input bytes)) (Answered (Took n)) new) → IfNone taken (new ≡ slots) → length new ≡ length slots
+pub typed_many : (A : Type 0) (slots new : List HostedState) (h : ℕ) (bytes : List ℕ) (taken : Option ℕ) → IfSome taken (λ n. TakesQuietly {A = A} slots h (Input bytes) (Took n) new) → IfNone taken (new ≡ slots) → length new ≡ length slots
 typed_many A slots new h bytes None takes missing = ap (λ (s : List HostedState). length s) missing
-typed_many A slots new h bytes (Some n) takes missing = as_many_slots slots h (Own (Input bytes)) None (Answered (Took n)) takes.block takes.console [] [] new (takes.takes None [])
+typed_many A slots new h bytes (Some n) takes missing = as_many_slots slots h (Input bytes) None (Took n) takes.block takes.console [] [] new (takes.takes None [])
 
 pub typed_missing : (count h : ℕ) (taken : Option ℕ) (result : Result ℕ Refusal) → (IsSome taken → h < count) × (h < count → IsSome taken) → result ≡ typed_or taken → IsErrOf result refusal.BadSlot ↔ (count ≤ h)
 typed_missing count h None result there is =

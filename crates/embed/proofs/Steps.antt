@@ -14,7 +14,7 @@ use Rattle.mmio_window.specs.declared.device_kind.DeviceKind.{DeviceKind}
 use Rattle.block_device.specs.declared.extent.Extent.{Extent}
 use Rattle.board.specs.declared.event.Event.{Event}
 use Rattle.board.specs.declared.event.EventKind.{EventKind}
-use Rattle.board.specs.declared.event.EventKind.TheVariants.{Read, Write, MemRead, MemWrite, Input, Resize, Restore}
+use Rattle.board.specs.declared.event.EventKind.TheVariants.{Read, Write, MemRead, MemWrite, Input, Resize, Restore, Complete}
 use Rattle.board.specs.declared.pause.Pause.{Pause}
 use Rattle.board.specs.declared.pause.Turn.{Turn}
 use Rattle.board.specs.declared.pause.Turn.TheVariants as turn
@@ -86,6 +86,7 @@ given_suits {A} state (MemWrite addr bytes) old new outcome (inl served) = rw se
 given_suits {A} state (Input bytes) old new outcome (inl served) = rw (ap (λ (o : Outcome A). o.reply) served.alike.is) tt
 given_suits state (Resize cols rows) old new outcome (inl served) = rw served.alike.alike tt
 given_suits state (Restore bytes) old new outcome (inl served) = restore_suits state bytes outcome served.alike.alike
+given_suits state (Complete verdict) old new outcome (inl served) = rw served.alike.alike tt
 given_suits state (Read window offset width) old new outcome (inr never) = absurd never
 given_suits state (Write window offset width value) old new outcome (inr cut) = cut_suits window offset width value _ _ old new outcome cut
 given_suits {A} state (MemRead addr len) old new outcome (inr unread) = rw unread.unchanged tt
@@ -93,6 +94,7 @@ given_suits {A} state (MemWrite addr bytes) old new outcome (inr never) = absurd
 given_suits state (Input bytes) old new outcome (inr never) = absurd never
 given_suits state (Resize cols rows) old new outcome (inr never) = absurd never
 given_suits state (Restore bytes) old new outcome (inr never) = absurd never
+given_suits state (Complete verdict) old new outcome (inr never) = absurd never
 
 suits_bad_slot : {A : Type 0} (what : EventKind A) → Suits what BadSlot
 suits_bad_slot what = tt
@@ -135,6 +137,8 @@ given_silent state (Input bytes) old new outcome (inr never) is = absurd never
 given_silent state (Resize cols rows) old new outcome (inr never) is = absurd never
 given_silent state (Restore bytes) old new outcome (inl served) is = restore_is_silent state bytes outcome served.alike.alike
 given_silent state (Restore bytes) old new outcome (inr never) is = absurd never
+given_silent {A} state (Complete verdict) old new outcome (inl served) is = ap (λ (o : Outcome A). o.output) served.alike.alike
+given_silent state (Complete verdict) old new outcome (inr never) is = absurd never
 given_silent state (Write window offset width value) old new outcome given is =
     absurd (not_of_window window offset width value outcome.reply (given_suits state (Write window offset width value) old new outcome given) is)
 
@@ -310,6 +314,7 @@ lacks_puts state (MemWrite addr bytes) why h = h
 lacks_puts state (Input bytes) why h = h
 lacks_puts state (Resize cols rows) why h = h
 lacks_puts state (Restore bytes) why h = h
+lacks_puts state (Complete verdict) why h = h
 
 lacks_at : {A : Type 0} (o : Option BoardSlot) (image : List ℕ) (slot : BoardSlot) (what : EventKind A) → o ≡ Some slot → IsSomeAnd o (λ s. (bytes : List ℕ) → MayLackMemory (state_of bytes s) what) → MayLackMemory (state_of image slot) what
 lacks_at o image slot what is h = (rw is at h) image
@@ -330,6 +335,7 @@ paused_suits (MemWrite addr bytes) budget state before after new output (turn.Mo
 paused_suits (Input bytes) budget state before after new output (turn.More pause) told h = tt
 paused_suits (Resize cols rows) budget state before after new output (turn.More pause) told h = h
 paused_suits (Restore bytes) budget state before after new output (turn.More pause) told h = h
+paused_suits (Complete verdict) budget state before after new output (turn.More pause) told h = h
 
 -- what stands in a place stays where it is put there again
 pub stays : {X : Type 0} (xs : List X) (h : ℕ) (x : X) → slice_get xs h ≡ Some x → slice_set xs h x ≡ xs

@@ -3,7 +3,7 @@ use Rattle.std.specs.Prelude.{ℕ, List, ⊤, Result, Ok, Err}
 use Rattle.chain.specs.declared.budget.Progress.{Progress}
 use Rattle.chain.specs.declared.budget.Progress.TheVariants as progress
 use Rattle.board.specs.declared.event.EventKind.{EventKind}
-use Rattle.board.specs.declared.event.EventKind.TheVariants.{Read, Write, MemRead, MemWrite, Input, Resize, Restore}
+use Rattle.board.specs.declared.event.EventKind.TheVariants.{Read, Write, MemRead, MemWrite, Input, Resize, Restore, Complete}
 use Rattle.board.specs.declared.reply.Reply.{Reply}
 use Rattle.board.specs.declared.reply.Reply.TheVariants as reply
 use Rattle.paced.specs.declared.response.Response.{Response}
@@ -82,6 +82,7 @@ Suits (Input bytes) (reply.Took taken) = ⊤
 Suits (Resize cols rows) reply.Done = ⊤
 Suits (Restore bytes) reply.Done = ⊤
 Suits (Restore bytes) reply.BadState = ⊤
+Suits (Complete verdict) reply.Idle = ⊤
 Suits what answer = ⊥
 
 -- the responses

@@ -6,9 +6,9 @@ use Rattle.guest_memory.specs.Memory.{Inside}
 use Rattle.block_device.specs.declared.operation.Operation.{Operation}
 use Rattle.board.specs.declared.event.EventKind.{EventKind}
 use Rattle.board.specs.declared.fault.BoardFault.{BoardFault}
-use Rattle.board.specs.declared.hosted.reply.HostedReply.{HostedReply}
+use Rattle.board.specs.declared.reply.Reply.{Reply}
 use Rattle.board.specs.Fault.{RefusesHosted}
-use Rattle.board.specs.Hosting.{HostedEvent, HostedState, InFlight, hosted_opened, must_wait, operation_in}
+use Rattle.board.specs.Hosting.{HostedState, InFlight, hosted_opened, must_wait, operation_in}
 use Rattle.board.specs.HostedLine.{KeepsOtherGuests, TakesCall, with_slot_bytes}
 use Rattle.embed.specs.declared.fault.SessionFault.{SessionFault}
 use Rattle.embed.specs.declared.fault.SessionFault.TheVariants.{BadImage, BadOutlet, SpentBudget, Board, NoMemory}
@@ -32,7 +32,7 @@ new_hosted_session guests = record {
 
 -- A call for a slot: a call of the board by the slot's outlet, whose output stands behind what waits there. Nothing else
 -- of the session changes.
-pub record IsHostedCall {A : Type 0} (old : HostedSessionState) (slot : ℕ) (event : HostedEvent A) (reply : HostedReply A)
+pub record IsHostedCall {A : Type 0} (old : HostedSessionState) (slot : ℕ) (event : EventKind A) (reply : Reply A)
     (new : HostedSessionState) : Type 0 where
   pub block : ℕ
   pub console : ℕ

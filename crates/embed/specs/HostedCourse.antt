@@ -1,8 +1,9 @@
 -- What happens to a session whose disks the host serves, one thing after another, and each guest of it alone.
 use Rattle.std.specs.Prelude.{◌≡◌, ℕ, ◌==◌, if◌then◌else◌, List, [], ◌∷◌, ◌++◌, take, drop, Some}
 use Rattle.std.specs.List.{slice_get}
-use Rattle.board.specs.declared.hosted.reply.HostedReply.{HostedReply}
-use Rattle.board.specs.Hosting.{HostedEvent, HostedState}
+use Rattle.board.specs.declared.event.EventKind.{EventKind}
+use Rattle.board.specs.declared.reply.Reply.{Reply}
+use Rattle.board.specs.Hosting.{HostedState}
 use Rattle.board.specs.HostedLine.{IsCalledNext}
 use Rattle.embed.specs.Hosted.{HostedSessionState, IsHostedCall}
 use Rattle.embed.specs.Session.{KeepsOtherOutputs, waiting_at}
@@ -12,7 +13,7 @@ use Rattle.embed.specs.Session.{KeepsOtherOutputs, waiting_at}
 -- Something that happened, and the session after it: a call for a slot was answered so, an event of its guest or a
 -- completion, or these bytes of what its console put out were taken, where there was room for so many.
 pub data HostedDeed (A : Type 0) : Type 0 where
-  Called : ℕ → HostedEvent A → HostedReply A → HostedSessionState → HostedDeed A
+  Called : ℕ → EventKind A → Reply A → HostedSessionState → HostedDeed A
   Took : ℕ → ℕ → List ℕ → HostedSessionState → HostedDeed A
 
 -- The first bytes of what a slot's console put out were taken, as many as found room, and nothing else changed.
@@ -36,12 +37,12 @@ IsHostedCourse old (Took slot room bytes after ∷ deeds) new =
 -- What is asked for one guest: an event of it or a completion, or the bytes that its console put out, as many as find so
 -- much room.
 pub data HostedAsking (A : Type 0) : Type 0 where
-  Does : HostedEvent A → HostedAsking A
+  Does : EventKind A → HostedAsking A
   Takes : ℕ → HostedAsking A
 
 -- and what is answered
 pub data HostedAnswer (A : Type 0) : Type 0 where
-  Replied : HostedReply A → HostedAnswer A
+  Replied : Reply A → HostedAnswer A
   Gave : List ℕ → HostedAnswer A
 
 -- All that one guest can see with what is in flight, and the bytes of its output that wait.
@@ -50,7 +51,7 @@ pub record HostedSeat : Type 0 where
   pub waiting : List ℕ
 
 -- one event or completion of a guest that is alone with an outlet of this limit
-pub record IsSeatCalled {A : Type 0} (limit : ℕ) (old : HostedSeat) (event : HostedEvent A) (reply : HostedReply A)
+pub record IsSeatCalled {A : Type 0} (limit : ℕ) (old : HostedSeat) (event : EventKind A) (reply : Reply A)
     (new : HostedSeat) : Type 0 where
   pub output : List ℕ
   pub next :

@@ -8,7 +8,7 @@ ghost use Rattle.std.specs.Prelude.{◌≡◌, ◌⊎◌, ◌↔◌, map, IfOk, 
 ghost use Rattle.board.specs.declared.event.EventKind.{EventKind};
 ghost use Rattle.board.specs.declared.fault.BoardFault.{BoardFault};
 ghost use Rattle.board.specs.Fault.{AreGoodHosted};
-ghost use Rattle.board.specs.Hosting.{HostedEvent, hosted_opened};
+ghost use Rattle.board.specs.Hosting.{IsOwn, hosted_opened};
 ghost use Rattle.embed.specs.declared.fault.SessionFault.{SessionFault};
 ghost use Rattle.embed.specs.Hosted.{IsHostedBoardFault, IsHostedCall, IsHostedRefusedFor, new_hosted_session};
 ghost use Rattle.embed.specs.HostedAnswering.{SuitsCompletion, SuitsHosted};
@@ -32,7 +32,7 @@ pub use crate::hosted::laws::{
 pub use crate::hosted::progress::HostedProgress;
 use crate::output_queue::OutputQueue;
 use block_device::Verdict;
-use board::{EventKind, HostedBoard, HostedReply, Reply};
+use board::{EventKind, HostedBoard, Reply};
 use std::alloc::{AllocError, Allocator, Global};
 use std::marker::Model;
 
@@ -78,13 +78,14 @@ impl<A: Allocator + Copy> HostedSession<A> {
         }
     }
 
-    // Handles an event of a slot.
-    fn step(&mut self, slot: u8, what: &EventKind<A>) -> HostedReply<A>
-        ensures call { IsHostedCall self.old slot (HostedEvent.Own what.now) result self.new }
+    // Handles an event of a slot's guest.
+    fn step(&mut self, slot: u8, what: &EventKind<A>) -> Reply<A>
+        requires own { IsOwn what.now }
+        ensures call { IsHostedCall self.old slot what.now result self.new }
         ensures suits { SuitsHosted what.now result }
     {
         let Some(output) = self.outputs.get_mut(slot as usize) else {
-            return HostedReply::Answered(Reply::BadSlot);
+            return Reply::BadSlot;
         };
         output.step_hosted(&mut self.board, slot, what).reply
     }
@@ -92,8 +93,8 @@ impl<A: Allocator + Copy> HostedSession<A> {
 
 impl<A: Allocator> HostedSession<A> {
     // Completes what is in flight of a slot.
-    fn land(&mut self, slot: u8, verdict: Verdict) -> HostedReply<A>
-        ensures call { IsHostedCall self.old slot (HostedEvent.Completed verdict) result self.new }
+    fn land(&mut self, slot: u8, verdict: Verdict) -> Reply<A>
+        ensures call { IsHostedCall self.old slot (EventKind.Complete verdict) result self.new }
         ensures suits { SuitsCompletion result }
     {
         self.board.complete(slot, verdict).reply

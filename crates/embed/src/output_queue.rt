@@ -6,7 +6,6 @@ ghost use Rattle.sector_cache.specs.MemoryImage.{disk_of};
 ghost use Rattle.board.specs.declared.pause.Pause.{Pause};
 ghost use Rattle.board.specs.declared.pause.Turn.{Turn};
 ghost use Rattle.board.specs.declared.reply.Reply.{Reply};
-ghost use Rattle.board.specs.Hosting.{HostedEvent};
 ghost use Rattle.board.specs.HostedLine.{KeepsOtherGuests, TakesCall};
 ghost use Rattle.board.specs.Image.{bytes_of};
 ghost use Rattle.board.specs.Pausing.{HasLimit};
@@ -173,7 +172,7 @@ impl<A: Allocator + Copy> OutputQueue<A> {
         slot: u8,
         what: &EventKind<A>,
     ) -> HostedTaken<A>
-        ensures takes { TakesCall board.old slot (HostedEvent.Own what.now) (Some self.old.limit) result.reply
+        ensures takes { TakesCall board.old slot what.now (Some self.old.limit) result.reply
             result.block_irq result.console_irq self.old.bytes self.new.bytes board.new }
         ensures others { KeepsOtherGuests slot board.old board.new }
         ensures limit { self.new.limit ≡ self.old.limit }

@@ -4,7 +4,7 @@ ghost use Rattle.std.specs.Prelude.{◌≡◌};
 ghost use Rattle.embed.specs.Answering.{IsRefusing, refusing_response};
 ghost use Rattle.embed.specs.HostedAnswering.{IsHostedRefusing, hosted_refusing};
 
-use board::{HostedReply, Reply};
+use board::Reply;
 use paced::Response;
 use std::alloc::Allocator;
 use thiserror::Error;
@@ -44,16 +44,16 @@ impl Refusal {
     }
 
     /// The refusal that a reply of a board says whose disks the host serves.
-    pub(crate) fn of_hosted<A: Allocator>(reply: &HostedReply<A>) -> Refusal
+    pub(crate) fn of_hosted<A: Allocator>(reply: &Reply<A>) -> Refusal
         requires { IsHostedRefusing reply.now }
         ensures { reply.now ≡ hosted_refusing result }
     {
         match reply {
-            HostedReply::Answered(Reply::NoMemory) => Refusal::NoRoom,
-            HostedReply::Answered(Reply::BadRange) => Refusal::BadRange,
-            HostedReply::Answered(_) => Refusal::BadSlot,
-            HostedReply::Busy => Refusal::Busy,
-            HostedReply::Idle => Refusal::Idle,
+            Reply::NoMemory => Refusal::NoRoom,
+            Reply::BadRange => Refusal::BadRange,
+            Reply::Busy => Refusal::Busy,
+            Reply::Idle => Refusal::Idle,
+            _ => Refusal::BadSlot,
         }
     }
 }

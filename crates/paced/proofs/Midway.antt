@@ -22,7 +22,7 @@ use Rattle.block_device.proofs.Guests.{exact_same}
 use Rattle.console_device.specs.Device.{receive, exact_transmit}
 use Rattle.console_device.specs.Input.{fitting}
 use Rattle.board.specs.declared.event.EventKind.{EventKind}
-use Rattle.board.specs.declared.event.EventKind.TheVariants.{Read, Write, MemRead, MemWrite, Input, Resize, Restore}
+use Rattle.board.specs.declared.event.EventKind.TheVariants.{Read, Write, MemRead, MemWrite, Input, Resize, Restore, Complete}
 use Rattle.board.specs.declared.pause.Pause.{Pause}
 use Rattle.board.specs.declared.pause.Service.{Service}
 use Rattle.board.specs.declared.pause.Service.TheVariants.{Block, Receive, Transmit}
@@ -319,6 +319,7 @@ next_ended {A} (Input bytes) state pause new out asks e =
     (λ e. record { after = at_rest; gives = e (Took (fitting state.pending bytes)) }) e
 next_ended (Resize cols rows) state pause new out asks e = absurd (cc)
 next_ended (Restore bytes) state pause new out asks e = absurd (cc)
+next_ended (Complete verdict) state pause new out asks e = absurd (cc)
 
 -- So what it comes to is what comes of its event for a guest that is alone.
 pub next_of_pieces : {A : Type 0} (what : EventKind A) (budget : Budget) (state : SlotState) (pause : Pause) (now : SlotState) (out : List ℕ) (before after : Health) (new : SlotState) (output : List ℕ)

@@ -9,9 +9,7 @@ ghost use Rattle.std.specs.List.{slice_get};
 ghost use Rattle.std.specs.Option.{option_map};
 ghost use Rattle.guest_memory.specs.Memory.{Inside, part_of, put};
 ghost use Rattle.board.specs.declared.event.EventKind.{EventKind};
-ghost use Rattle.board.specs.declared.hosted.reply.HostedReply.{HostedReply};
 ghost use Rattle.board.specs.declared.reply.Reply.{Reply};
-ghost use Rattle.board.specs.Hosting.{HostedEvent};
 ghost use Rattle.board.specs.HostedLine.{KeepsOtherGuests, TakesQuietly, read_reply, with_memory, with_slot_bytes, words_of, write_reply};
 ghost use Rattle.board.specs.contracts.hosted.HostedBoard.{the_row};
 
@@ -62,8 +60,8 @@ impl<A: Allocator> HostedBoard<A> {
     /// a slice. False where there is no such slot, or not all of the range lies in its memory: `into` is then left as it
     /// was.
     pub fn read_memory(&self, slot: u8, addr: u64, into: &mut [u8]) -> bool
-        ensures takes { TakesQuietly {A = A} self.now slot (HostedEvent.Own (EventKind.MemRead addr (length into.old)))
-            (HostedReply.Answered (read_reply result into.new slot (length self.now))) self.now }
+        ensures takes { TakesQuietly {A = A} self.now slot (EventKind.MemRead addr (length into.old))
+            (read_reply result into.new slot (length self.now)) self.now }
         ensures inside { IsTrue result ↔ IsSomeAnd (slice_get self.now slot)
             (λ found. Inside found.slot.memory addr (length into.old)) }
         ensures read { OnTrue result (IsSomeAnd (slice_get self.now slot)
@@ -84,8 +82,8 @@ impl<A: Allocator> HostedBoard<A> {
     /// has the bytes in a slice. False where there is no such slot, or not all of the range lies in its
     /// memory: nothing has changed then.
     pub fn write_memory(&mut self, slot: u8, addr: u64, from: &[u8]) -> bool
-        ensures takes { TakesQuietly {A = A} self.old slot (HostedEvent.Own (EventKind.MemWrite addr from.now))
-            (HostedReply.Answered (write_reply result slot (length self.old))) self.new }
+        ensures takes { TakesQuietly {A = A} self.old slot (EventKind.MemWrite addr from.now)
+            (write_reply result slot (length self.old)) self.new }
         ensures inside { IsTrue result ↔ IsSomeAnd (slice_get self.old slot)
             (λ found. Inside found.slot.memory addr (length from.now)) }
         ensures put { OnTrue result (IsSomeAnd (slice_get self.old slot) (λ found.
@@ -105,8 +103,8 @@ impl<A: Allocator + Copy> HostedBoard<A> {
     /// the bytes in a slice. There is no answer for a slot that isn't there.
     pub fn input(&mut self, slot: u8, bytes: &[u8]) -> Option<usize>
         ensures takes { IfSome result (λ taken.
-            TakesQuietly {A = A} self.old slot (HostedEvent.Own (EventKind.Input bytes.now))
-            (HostedReply.Answered (Reply.Took taken)) self.new) }
+            TakesQuietly {A = A} self.old slot (EventKind.Input bytes.now)
+            (Reply.Took taken) self.new) }
         ensures there { IsSome result ↔ (slot < length self.old) }
         ensures missing { IfNone result (self.new ≡ self.old) }
         ensures others { KeepsOtherGuests slot self.old self.new }

@@ -4,12 +4,12 @@
 ghost use Rattle.std.specs.Prelude.{◌≡◌, ℕ, List, Some, true};
 ghost use Rattle.std.specs.List.{slice_get};
 ghost use Rattle.board.specs.declared.event.EventKind.{EventKind};
-ghost use Rattle.board.specs.declared.hosted.reply.HostedReply.{HostedReply};
+ghost use Rattle.board.specs.declared.reply.Reply.{Reply};
 ghost use Rattle.sector_cache.specs.Disk.{Disk};
 ghost use Rattle.block_device.specs.declared.operation.Verdict.{Verdict};
 ghost use Rattle.board.specs.Honest.{IsFlown, IsHonestlyServed};
 ghost use Rattle.board.specs.Slot.{SlotState};
-ghost use Rattle.board.specs.Hosting.{HostedEvent, HostedOutcome, HostedState, InFlight, IsHostedNext, must_wait};
+ghost use Rattle.board.specs.Hosting.{HostedOutcome, HostedState, InFlight, IsHostedNext, IsOwn, must_wait};
 ghost use Rattle.board.specs.HostedLine.{HostedMove, IsHostedLine, RunsHostedAlone};
 
 use std::alloc::Allocator;
@@ -24,16 +24,16 @@ pub fn each_hosted_guest_is_alone<A: Allocator>()
 /// What is in flight stays in flight, whatever its guest does: only the completion ends it.
 pub fn a_flight_outlasts_own_events<A: Allocator>()
     ensures { (old : HostedState) (here : InFlight) (what : EventKind A) (outcome : HostedOutcome A) →
-        old.flight ≡ Some here → IsHostedNext old (HostedEvent.Own what) outcome → outcome.state.flight ≡ Some here }
+        IsOwn what → old.flight ≡ Some here → IsHostedNext old what outcome → outcome.state.flight ≡ Some here }
 {}
 
 /// A write that waits changes nothing, and only the two writes that may wait do; nor does a completion of nothing.
 pub fn what_waits_changes_nothing<A: Allocator>()
     ensures busy { (old : HostedState) (what : EventKind A) (outcome : HostedOutcome A) →
-        IsHostedNext old (HostedEvent.Own what) outcome → outcome.reply ≡ HostedReply.Busy →
+        IsHostedNext old what outcome → outcome.reply ≡ Reply.Busy →
         (outcome.state ≡ old) × (must_wait what ≡ true) }
-    ensures idle { (old : HostedState) (event : HostedEvent A) (outcome : HostedOutcome A) →
-        IsHostedNext old event outcome → outcome.reply ≡ HostedReply.Idle → outcome.state ≡ old }
+    ensures idle { (old : HostedState) (what : EventKind A) (outcome : HostedOutcome A) →
+        IsHostedNext old what outcome → outcome.reply ≡ Reply.Idle → outcome.state ≡ old }
 {}
 
 /// Where a host did with a guest's disk what may become of the request that was asked for, and says so, the slot's block

@@ -6,7 +6,7 @@ ghost use Rattle.board.specs.declared.event.EventKind.{EventKind};
 ghost use Rattle.board.specs.declared.saved.RestoreFault.{RestoreFault};
 ghost use Rattle.board.specs.declared.saved.RestoreRefusal.{RestoreRefusal};
 ghost use Rattle.board.specs.declared.saved.SaveRefusal.{SaveRefusal};
-ghost use Rattle.board.specs.Hosting.{HostedEvent, HostedState};
+ghost use Rattle.board.specs.Hosting.{HostedState};
 ghost use Rattle.board.specs.HostedLine.{KeepsOtherGuests, TakesQuietly};
 ghost use Rattle.board.specs.Restoring.{hosted_restore_reply, slot_in};
 ghost use Rattle.board.specs.Saved.{IsAs, IsCauseOf, IsLike, IsSavedTo, IsSnapshotOf, snapshot_of};
@@ -53,7 +53,7 @@ impl<A: Allocator> HostedBoard<A> {
     /// of that restore. It is refused for a bad slot, while something of the slot is in flight, and for bytes that the
     /// slot doesn't take up, with their fault; what is refused changes nothing.
     pub fn restore(&mut self, slot: u8, from: &[u8]) -> Result<(), RestoreRefusal>
-        ensures takes { TakesQuietly {A = A} self.old slot (HostedEvent.Own (EventKind.Restore from.now))
+        ensures takes { TakesQuietly {A = A} self.old slot (EventKind.Restore from.now)
             (hosted_restore_reply result) self.new }
         ensures missing { IsErrOf result RestoreRefusal.BadSlot ↔ (length self.old ≤ slot) }
         ensures busy { IsErrOf result RestoreRefusal.Busy ↔ IsSomeAnd (slice_get self.old slot) (λ found. IsSome found.flight) }

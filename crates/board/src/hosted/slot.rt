@@ -4,20 +4,21 @@
 //! completion, and everything else is done at once. `access` is what an embedder reaches between its events, and `saved` its
 //! snapshot.
 
-ghost use Rattle.std.specs.Prelude.{◌≡◌, ◌≤◌, ◌<◌, ◌*◌, ◌^◌, ℕ, Some, None, [], IfOk, IfSome, IsSome, is_some, ◌&&◌};
+ghost use Rattle.std.specs.Prelude.{◌≡◌, ◌≤◌, ◌<◌, ◌*◌, ◌^◌, ℕ, List, Some, None, IfOk, IfSome, IsSome, is_some, ◌&&◌};
 ghost use Rattle.block_device.specs.Extent.{sector_len};
 ghost use Rattle.block_device.specs.Operation.{LiesInside};
+ghost use Rattle.board.specs.declared.event.EventKind.{EventKind};
 ghost use Rattle.board.specs.Fault.{IsMemory};
 ghost use Rattle.board.specs.Image.{sectors_of};
 ghost use Rattle.board.specs.Machine.{block_irq, console_irq};
-ghost use Rattle.board.specs.Hosting.{HostedEvent, HostedWithin, IsHostedNext, LooksAtQueue, TakesHosted, flight_by, hosted_opened, must_wait, operation_in};
+ghost use Rattle.board.specs.Hosting.{IsOwn, LooksAtQueue, TakesHosted, flight_by, hosted_opened, must_wait, operation_in};
+ghost use Rattle.board.specs.Within.{TakesWithin};
 
 mod access;
 mod saved;
 
 use crate::check::own_disk;
 use crate::event::EventKind;
-use crate::hosted::reply::HostedReply;
 use crate::pause::Turn;
 use crate::reply::Reply;
 use crate::slot::Slot;
@@ -66,31 +67,40 @@ impl<A: Allocator + Copy> HostedSlot<A> {
         })
     }
 
-    /// Handles one event of the slot's guest, unless it waits for what is in flight. What its console puts out is
-    /// appended to `out`.
-    pub(crate) fn step<O: Outlet>(
-        &mut self,
-        alloc: A,
-        what: &EventKind<A>,
-        out: &mut O,
-    ) -> HostedReply<A>
-        ensures takes { TakesHosted self.old (HostedEvent.Own what.now) self.new result (O.bytes out.old) (O.bytes out.new) }
+    /// Handles one event of the slot's guest, or completes what is in flight. What its console puts out is appended to
+    /// `out`.
+    pub(crate) fn step<O: Outlet>(&mut self, alloc: A, what: &EventKind<A>, out: &mut O) -> Reply<A>
+        ensures takes { TakesHosted self.old what.now self.new result (O.bytes out.old) (O.bytes out.new) }
         ensures within { (limit : ℕ) → O.limit out.old ≡ Some limit →
-            HostedWithin limit self.old (HostedEvent.Own what.now) self.new (O.bytes out.old) (O.bytes out.new) result }
+            TakesWithin limit self.old.slot what.now self.new.slot (O.bytes out.old) (O.bytes out.new) result }
+        ensures limit { O.limit out.new ≡ O.limit out.old }
+    {
+        match what {
+            EventKind::Complete { verdict } => self.complete(*verdict),
+            _ => self.answer_own(alloc, what, out),
+        }
+    }
+
+    // Handles one event of the slot's guest, unless it waits for what is in flight.
+    fn answer_own<O: Outlet>(&mut self, alloc: A, what: &EventKind<A>, out: &mut O) -> Reply<A>
+        requires own { IsOwn what.now }
+        ensures takes { TakesHosted self.old what.now self.new result (O.bytes out.old) (O.bytes out.new) }
+        ensures within { (limit : ℕ) → O.limit out.old ≡ Some limit →
+            TakesWithin limit self.old.slot what.now self.new.slot (O.bytes out.old) (O.bytes out.new) result }
         ensures limit { O.limit out.new ≡ O.limit out.old }
     {
         if self.holds_up(what) {
-            return HostedReply::Busy;
+            return Reply::Busy;
         }
         match self
             .slot
             .answer_beside_disk(alloc, what, Budget::UNLIMITED, out)
         {
-            Some(Turn::Answered(reply)) => HostedReply::Answered(reply),
+            Some(Turn::Answered(reply)) => reply,
             Some(Turn::More(_)) => unreachable!(),
             None => {
                 self.notified();
-                HostedReply::Answered(Reply::Done)
+                Reply::Done
             }
         }
     }
@@ -136,16 +146,16 @@ impl<A: Allocator> HostedSlot<A> {
     }
 
     /// Completes what is in flight by what came of it, and looks at the queue again.
-    pub(crate) fn complete(&mut self, verdict: Verdict) -> HostedReply<A>
-        ensures next { IsHostedNext self.old (HostedEvent.Completed verdict)
-            (record { state = self.new; reply = result; output = [] }) }
+    pub(crate) fn complete(&mut self, verdict: Verdict) -> Reply<A>
+        ensures { (out : List ℕ) →
+            TakesHosted {A = A} self.old (EventKind.Complete verdict) self.new result out out }
     {
         let Some(flight) = self.flight.take() else {
-            return HostedReply::Idle;
+            return Reply::Idle;
         };
         self.slot.complete(flight, &self.room, verdict);
         self.look();
-        HostedReply::Answered(Reply::Done)
+        Reply::Done
     }
 
     // The block device was notified: it looks at its queue, unless something is in flight.

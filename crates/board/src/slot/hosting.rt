@@ -72,6 +72,7 @@ impl<A: Allocator + Copy> Slot<A> {
             EventKind::Input { bytes } => return Some(self.input(bytes.as_slice(), budget)),
             EventKind::Resize { cols, rows } => self.resize(*cols, *rows),
             EventKind::Restore { bytes } => self.answer_restore(bytes.as_slice()),
+            EventKind::Complete { .. } => Reply::Idle,
         };
         Some(Turn::Answered(reply))
     }

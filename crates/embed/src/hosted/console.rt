@@ -2,7 +2,6 @@
 
 ghost use Rattle.std.specs.Prelude.{◌≡◌, ◌<◌, ◌≤◌, ◌↔◌, length, min, take, drop, ◌++◌, IsSome, IfSome, IfNone, IsErrOf};
 ghost use Rattle.board.specs.declared.event.EventKind.{EventKind};
-ghost use Rattle.board.specs.Hosting.{HostedEvent};
 ghost use Rattle.embed.specs.declared.refusal.Refusal.{Refusal};
 ghost use Rattle.embed.specs.Hosted.{IsHostedCall};
 ghost use Rattle.embed.specs.HostedAnswering.{hosted_done, hosted_typed};
@@ -11,14 +10,14 @@ ghost use Rattle.embed.specs.Session.{waiting_at};
 
 use crate::hosted::HostedSession;
 use crate::refusal::Refusal;
-use board::{EventKind, HostedReply, Reply};
+use board::{EventKind, Reply};
 use std::alloc::Allocator;
 
 impl<A: Allocator + Copy> HostedSession<A> {
     /// Types bytes to the guest's console, and answers how many were taken: the first ones. A console keeps
     /// 4096 until its guest reads them. It is refused for a bad slot.
     pub fn input(&mut self, slot: u8, bytes: &[u8]) -> Result<usize, Refusal>
-        ensures call { IsHostedCall {A = A} self.old slot (HostedEvent.Own (EventKind.Input bytes.now))
+        ensures call { IsHostedCall {A = A} self.old slot (EventKind.Input bytes.now)
             (hosted_typed result) self.new }
         ensures bad_slot { IsErrOf result Refusal.BadSlot ↔ (length self.old.slots ≤ slot) }
     {
@@ -30,13 +29,13 @@ impl<A: Allocator + Copy> HostedSession<A> {
 
     /// Gives the guest's console another size, of which its driver is told. It is refused for a bad slot.
     pub fn resize(&mut self, slot: u8, cols: u16, rows: u16) -> Result<(), Refusal>
-        ensures call { IsHostedCall {A = A} self.old slot (HostedEvent.Own (EventKind.Resize cols rows))
+        ensures call { IsHostedCall {A = A} self.old slot (EventKind.Resize cols rows)
             (hosted_done result) self.new }
         ensures bad_slot { IsErrOf result Refusal.BadSlot ↔ (length self.old.slots ≤ slot) }
     {
         let what = EventKind::Resize { cols, rows };
         match self.step(slot, &what) {
-            HostedReply::Answered(Reply::Done) => Ok(()),
+            Reply::Done => Ok(()),
             reply => Err(Refusal::of_hosted(&reply)),
         }
     }

@@ -3,7 +3,7 @@
 ghost use Rattle.std.specs.Prelude.{◌≡◌, ◌↔◌, ◌≤◌, None, length, IfOk, IfSome, IsErrOf, IsSome, IsSomeAnd};
 ghost use Rattle.std.specs.List.{slice_get};
 ghost use Rattle.block_device.specs.Operation.{LiesInside};
-ghost use Rattle.board.specs.Hosting.{HostedEvent};
+ghost use Rattle.board.specs.declared.event.EventKind.{EventKind};
 ghost use Rattle.board.specs.Image.{sectors_of};
 ghost use Rattle.embed.specs.declared.refusal.Refusal.{Refusal};
 ghost use Rattle.embed.specs.Hosted.{IsAtRest, IsHostedCall, operation_at, progress_by};
@@ -12,7 +12,7 @@ ghost use Rattle.embed.specs.HostedAnswering.{IsHostedServing, hosted_served};
 use crate::hosted::{HostedProgress, HostedSession};
 use crate::refusal::Refusal;
 use block_device::{Operation, Verdict};
-use board::{HostedReply, Reply};
+use board::Reply;
 use chain::Segment;
 use std::alloc::Allocator;
 
@@ -20,7 +20,7 @@ impl<A: Allocator> HostedSession<A> {
     /// Completes what is in flight of a slot by what came of it. The next request may ask for something, too. It is
     /// refused for a bad slot, and where nothing of the slot is in flight.
     pub fn completed(&mut self, slot: u8, verdict: Verdict) -> Result<HostedProgress, Refusal>
-        ensures call { IsHostedCall {A = A} self.old slot (HostedEvent.Completed verdict) (hosted_served result) self.new }
+        ensures call { IsHostedCall {A = A} self.old slot (EventKind.Complete verdict) (hosted_served result) self.new }
         ensures asks { IfOk result (λ progress. progress ≡ progress_by None (operation_at slot self.new)) }
         ensures bad_slot { IsErrOf result Refusal.BadSlot ↔ (length self.old.slots ≤ slot) }
         ensures idle { IsErrOf result Refusal.Idle ↔ IsAtRest self.old.slots slot }
@@ -34,16 +34,14 @@ impl<A: Allocator> HostedSession<A> {
         &self,
         slot: u8,
         before: Option<Operation>,
-        reply: &HostedReply<A>,
+        reply: &Reply<A>,
     ) -> Result<HostedProgress, Refusal>
         requires { IsHostedServing reply.now }
         ensures told { reply.now ≡ hosted_served result }
         ensures asks { IfOk result (λ progress. progress ≡ progress_by before (operation_at slot self.now)) }
     {
         match reply {
-            HostedReply::Answered(Reply::Done) => {
-                Ok(HostedProgress::between(before, self.operation(slot)))
-            }
+            Reply::Done => { Ok(HostedProgress::between(before, self.operation(slot))) }
             _ => Err(Refusal::of_hosted(reply)),
         }
     }

@@ -4,7 +4,6 @@ ghost use Rattle.std.specs.Prelude.{◌≡◌, ◌<◌, ◌↔◌, ◌≤◌, le
 ghost use Rattle.std.specs.Borrow.{sem, u8, Array, Lends};
 ghost use Rattle.std.specs.List.{slice_get};
 ghost use Rattle.board.specs.declared.event.EventKind.{EventKind};
-ghost use Rattle.board.specs.Hosting.{HostedEvent};
 ghost use Rattle.embed.specs.declared.refusal.Refusal.{Refusal};
 ghost use Rattle.embed.specs.Hosted.{IsHostedCall, IsOutside, with_hosted_bytes};
 ghost use Rattle.embed.specs.HostedAnswering.{hosted_bytes, hosted_done};
@@ -19,7 +18,7 @@ impl<A: Allocator> HostedSession<A> {
     /// Copies bytes out of the slot's memory, from address `addr` on: the event of that read. After a
     /// refusal `into` is as it was.
     pub fn read_memory(&self, slot: u8, addr: u64, into: &mut [u8]) -> Result<(), Refusal>
-        ensures call { IsHostedCall {A = A} self.now slot (HostedEvent.Own (EventKind.MemRead addr (length into.old)))
+        ensures call { IsHostedCall {A = A} self.now slot (EventKind.MemRead addr (length into.old))
             (hosted_bytes result into.new) self.now }
         ensures bad_slot { IsErrOf result Refusal.BadSlot ↔ (length self.now.slots ≤ slot) }
         ensures bad_range { IsErrOf result Refusal.BadRange ↔ IsOutside slot addr (length into.old) self.now }
@@ -33,7 +32,7 @@ impl<A: Allocator> HostedSession<A> {
 
     /// Copies bytes into the slot's memory, from address `addr` on: the event of that write.
     pub fn write_memory(&mut self, slot: u8, addr: u64, from: &[u8]) -> Result<(), Refusal>
-        ensures call { IsHostedCall {A = A} self.old slot (HostedEvent.Own (EventKind.MemWrite addr from.now))
+        ensures call { IsHostedCall {A = A} self.old slot (EventKind.MemWrite addr from.now)
             (hosted_done result) self.new }
         ensures bad_slot { IsErrOf result Refusal.BadSlot ↔ (length self.old.slots ≤ slot) }
         ensures bad_range { IsErrOf result Refusal.BadRange ↔ IsOutside slot addr (length from.now) self.old }

@@ -4,7 +4,6 @@ ghost use Rattle.std.specs.Prelude.{◌≡◌, ◌↔◌, ◌≤◌, length, IfO
 ghost use Rattle.std.specs.List.{slice_get};
 ghost use Rattle.std.specs.Option.{option_map};
 ghost use Rattle.board.specs.declared.event.EventKind.{EventKind};
-ghost use Rattle.board.specs.Hosting.{HostedEvent};
 ghost use Rattle.board.specs.HostedLine.{words_of};
 ghost use Rattle.board.specs.Within.{MayPutOut};
 ghost use Rattle.embed.specs.declared.refusal.Refusal.{Refusal};
@@ -13,7 +12,7 @@ ghost use Rattle.embed.specs.HostedAnswering.{hosted_served, hosted_value};
 
 use crate::hosted::{HostedProgress, HostedSession};
 use crate::refusal::Refusal;
-use board::{DeviceKind, EventKind, HostedReply, Reply};
+use board::{DeviceKind, EventKind, Reply};
 use std::alloc::Allocator;
 
 impl<A: Allocator + Copy> HostedSession<A> {
@@ -26,7 +25,7 @@ impl<A: Allocator + Copy> HostedSession<A> {
         offset: u16,
         width: u8,
     ) -> Result<u32, Refusal>
-        ensures call { IsHostedCall {A = A} self.old slot (HostedEvent.Own (EventKind.Read window offset width))
+        ensures call { IsHostedCall {A = A} self.old slot (EventKind.Read window offset width)
             (hosted_value result) self.new }
         ensures bad_slot { IsErrOf result Refusal.BadSlot ↔ (length self.old.slots ≤ slot) }
     {
@@ -36,7 +35,7 @@ impl<A: Allocator + Copy> HostedSession<A> {
             width,
         };
         match self.step(slot, &what) {
-            HostedReply::Answered(Reply::Value(value)) => Ok(value),
+            Reply::Value(value) => Ok(value),
             reply => Err(Refusal::of_hosted(&reply)),
         }
     }
@@ -54,7 +53,7 @@ impl<A: Allocator + Copy> HostedSession<A> {
         value: u32,
     ) -> Result<HostedProgress, Refusal>
         ensures call { IsHostedCall {A = A} self.old slot
-            (HostedEvent.Own (EventKind.Write window offset width value)) (hosted_served result) self.new }
+            (EventKind.Write window offset width value) (hosted_served result) self.new }
         ensures asks { IfOk result (λ progress.
             progress ≡ progress_by (operation_at slot self.old) (operation_at slot self.new)) }
         ensures bad_slot { IsErrOf result Refusal.BadSlot ↔ (length self.old.slots ≤ slot) }

@@ -5,9 +5,8 @@ ghost use Rattle.std.specs.Bool.{OnTrue, OnFalse};
 ghost use Rattle.std.specs.Borrow.{sem, u8, Array, Lends};
 ghost use Rattle.guest_memory.specs.Memory.{is_inside, put};
 ghost use Rattle.board.specs.declared.event.EventKind.{EventKind};
-ghost use Rattle.board.specs.declared.hosted.reply.HostedReply.{HostedReply};
 ghost use Rattle.board.specs.declared.reply.Reply.{Reply};
-ghost use Rattle.board.specs.Hosting.{HostedEvent, TakesHosted};
+ghost use Rattle.board.specs.Hosting.{TakesHosted};
 ghost use Rattle.board.specs.HostedLine.{with_bytes, with_memory};
 ghost use Rattle.board.specs.contracts.hosted.slot.HostedSlot.{the_row};
 
@@ -48,8 +47,8 @@ impl<A: Allocator> HostedSlot<A> {
 impl<A: Allocator + Copy> HostedSlot<A> {
     /// Types bytes to the guest's console, and answers how many were taken.
     pub(crate) fn input(&mut self, bytes: &[u8]) -> usize
-        ensures { (out : List ℕ) → TakesHosted {A = A} self.old (HostedEvent.Own (EventKind.Input bytes.now)) self.new
-            (HostedReply.Answered (Reply.Took result)) out out }
+        ensures { (out : List ℕ) → TakesHosted {A = A} self.old (EventKind.Input bytes.now) self.new
+            (Reply.Took result) out out }
     {
         match self.slot.input(bytes, Budget::UNLIMITED) {
             Turn::Answered(Reply::Took(taken)) => taken,

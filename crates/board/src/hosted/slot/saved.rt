@@ -6,7 +6,7 @@ ghost use Rattle.board.specs.declared.event.EventKind.{EventKind};
 ghost use Rattle.board.specs.declared.saved.RestoreFault.{RestoreFault};
 ghost use Rattle.board.specs.declared.saved.RestoreRefusal.{RestoreRefusal};
 ghost use Rattle.board.specs.declared.saved.SaveRefusal.{SaveRefusal};
-ghost use Rattle.board.specs.Hosting.{HostedEvent, TakesHosted};
+ghost use Rattle.board.specs.Hosting.{TakesHosted};
 ghost use Rattle.board.specs.Restoring.{hosted_restore_reply, refusal_of, slot_in};
 ghost use Rattle.board.specs.Saved.{IsAs, IsCauseOf, IsLike, IsSavedTo, IsSnapshotOf, snapshot_of};
 ghost use Rattle.board.specs.Slot.{BoardSlot};
@@ -51,7 +51,7 @@ impl<A: Allocator> HostedSlot<A> {
     /// Takes up a snapshot of a slot of the same description. What is refused changes nothing.
     pub(crate) fn restore(&mut self, from: &[u8]) -> Result<(), RestoreRefusal>
         ensures takes { (out : List ℕ) →
-            TakesHosted {A = A} self.old (HostedEvent.Own (EventKind.Restore from.now)) self.new
+            TakesHosted {A = A} self.old (EventKind.Restore from.now) self.new
             (hosted_restore_reply result) out out }
         ensures busy { IsErrOf result RestoreRefusal.Busy ↔ IsSome self.old.flight }
         ensures there { ¬ IsErrOf result RestoreRefusal.BadSlot }

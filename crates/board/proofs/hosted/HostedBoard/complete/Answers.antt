@@ -1,4 +1,4 @@
-use Rattle.std.proofs.Common.{◌≡◌, ◌≤◌, Some, [], length, refl, sym, ◌∙◌, ap, append-nil, arith}
+use Rattle.std.proofs.Common.{◌≡◌, ◌≤◌, Some, length, refl, ◌∙◌, ap, arith}
 use Rattle.std.specs.List.{slice_get}
 use Rattle.std.proofs.lemmas.Option.{slice_get_past, slice_get_read}
 use Rattle.board.proofs.HostedSeats.{calls_missing, calls_there, others_stay}
@@ -19,7 +19,7 @@ returns-clause-takes g c =
     rw (← c.self.view_is, c.after.ensures.reply, c.after.ensures.block, c.after.ensures.console)
     (λ limit waiting.
     calls_there c.self.inside.slots.items c.args.slot c.in-Some.found.now _ limit c.complete-reply.new.self c.complete-reply.result waiting waiting (there g c)
-    (record { output = []; next = c.complete-reply.ensures.next; appended = sym (append-nil waiting) }) (λ n is. refl))
+    (c.complete-reply.ensures waiting) (λ n is. tt))
 
 pub returns-clause-others : goal.returns-clause-others
 returns-clause-others g c other differ =

@@ -2,11 +2,11 @@ use Rattle.std.proofs.Common.{refl}
 use Rattle.board.specs.declared.event.EventKind.TheVariants.{Input}
 use Rattle.board.specs.Image.{bytes_of, health_of}
 use Rattle.board.specs.Slot.{state_of}
-use Rattle.board.proofs.Blocks.{count_of, read_given}
+use Rattle.board.proofs.Blocks.{completion_given, count_of, read_given}
 use Rattle.board.proofs.Turns.{comes_first, silent_answer}
 use Rattle.board.proofs.Touching.{untouched}
 use Rattle.board.proofs.slot.Slot.answer.Goals as goal
-use Rattle.board.proofs.slot.Slot.answer.Goals.{in-Read, in-MemRead, in-MemWrite, in-Resize, in-Restore}
+use Rattle.board.proofs.slot.Slot.answer.Goals.{in-Read, in-MemRead, in-MemWrite, in-Resize, in-Restore, in-Complete}
 
 pub returns-in-Input-clause-serves : goal.returns-in-Input-clause-serves
 returns-in-Input-clause-serves g c = λ tells.
@@ -33,6 +33,7 @@ returns-clause-serves g c = λ tells.
           rw (w.self-is, w.reply-is, w.in-Restore.is, ← w.as_slice-in-Restore.ensures)
           (silent_answer _ c.args.budget _ _ _ _ _ out refl
           (w.answer_restore-reply.ensures.given bytes (health_of old) (count_of slot.extent old tells (g.met.I.Image.whole c.args.cache.now) c.requires.lies)))
+      | in-Complete w ↦ rw (w.self-is, w.reply-is, w.in-Complete.is) (silent_answer _ c.args.budget _ _ _ _ _ out refl (completion_given (state_of bytes slot) _ (health_of old)))
     ]
 
 pub returns-in-Input-clause-touches : goal.returns-in-Input-clause-touches

@@ -4,10 +4,10 @@ use Rattle.board.specs.declared.event.EventKind.TheVariants.{Input, Restore}
 use Rattle.board.specs.Hosting.{device_at, must_wait}
 use Rattle.board.specs.Slot.{BoardSlot, state_of}
 use Rattle.board.proofs.Beside.{range_of, same_range}
-use Rattle.board.proofs.Blocks.{read_given}
+use Rattle.board.proofs.Blocks.{completion_given, read_given}
 use Rattle.board.proofs.Turns.{comes_first, silent_answer}
 use Rattle.board.proofs.slot.Slot.answer_beside_disk.Goals as goal
-use Rattle.board.proofs.slot.Slot.answer_beside_disk.Goals.{in-Read, in-MemRead, in-MemWrite, in-Resize, in-Restore}
+use Rattle.board.proofs.slot.Slot.answer_beside_disk.Goals.{in-Read, in-MemRead, in-MemWrite, in-Resize, in-Restore, in-Complete}
 
 -- a restore waits
 waits : {A : Type 0} {what : EventKind A} {bytes : List ℕ} → what ≡ Restore bytes → must_wait what ≡ false → ⊥
@@ -37,6 +37,7 @@ returns-clause-serves g c = λ image health filled.
       | in-MemWrite w ↦ rw (w.self-is, w.reply-is, w.in-MemWrite.is, ← w.as_slice.ensures) (silent_answer _ c.args.budget _ _ _ _ _ out refl (w.write_memory-reply.ensures.given image health))
       | in-Resize w ↦ rw (w.self-is, w.reply-is, w.in-Resize.is) (silent_answer _ c.args.budget _ _ _ _ _ out refl (w.resize-reply.ensures.given image health))
       | in-Restore w ↦ rw (w.self-is, w.reply-is, w.in-Restore.is, ← w.as_slice-in-Restore.ensures) (silent_answer _ c.args.budget _ _ _ _ _ out refl (w.answer_restore-reply.ensures.given image health filled))
+      | in-Complete w ↦ rw (w.self-is, w.reply-is, w.in-Complete.is) (silent_answer _ c.args.budget _ _ _ _ _ out refl (completion_given (state_of image slot) _ health))
     ]
 
 pub returns-clause-device : goal.returns-clause-device
@@ -47,6 +48,7 @@ returns-clause-device g c =
       | in-MemWrite w ↦ rw (w.self-is) (ap device_at w.write_memory-reply.ensures.rest)
       | in-Resize w ↦ rw (w.self-is) (ap device_at w.resize-reply.ensures.rest)
       | in-Restore w ↦ rw (w.self-is) w.answer_restore-reply.ensures.device
+      | in-Complete w ↦ rw (w.self-is) refl
     ]
 
 pub returns-clause-block : goal.returns-clause-block
@@ -57,6 +59,7 @@ returns-clause-block g c free =
       | in-MemWrite w ↦ rw (w.self-is, w.in-MemWrite.is) (ap (λ (slot : BoardSlot). slot.block) w.write_memory-reply.ensures.rest)
       | in-Resize w ↦ rw (w.self-is, w.in-Resize.is) (ap (λ (slot : BoardSlot). slot.block) w.resize-reply.ensures.rest)
       | in-Restore w ↦ absurd (waits w.in-Restore.is free)
+      | in-Complete w ↦ rw (w.self-is, w.in-Complete.is) refl
     ]
 
 pub returns-clause-range : goal.returns-clause-range
@@ -67,4 +70,5 @@ returns-clause-range g c =
       | in-MemWrite w ↦ rw (w.self-is) w.write_memory-reply.ensures.range
       | in-Resize w ↦ rw (w.self-is) (range_of _ _ (ap (λ (slot : BoardSlot). slot.memory) w.resize-reply.ensures.rest))
       | in-Restore w ↦ rw (w.self-is) (range_of _ _ w.answer_restore-reply.ensures.memory)
+      | in-Complete w ↦ rw (w.self-is) (same_range _)
     ]

@@ -2,7 +2,7 @@ use Rattle.std.proofs.Common.{sym, subst, ◌∙◌}
 use Rattle.board.specs.Hosting.{HostedState, in_rooms, unseen}
 use Rattle.board.proofs.Flights.{sound_beside}
 use Rattle.board.proofs.Hosts.{IsFree, beside_slot, beside_slot_within, notified_slot}
-use Rattle.board.proofs.hosted.slot.HostedSlot.step.Goals as goal
+use Rattle.board.proofs.hosted.slot.HostedSlot.answer_own.Goals as goal
 
 pub invariant_of-self : goal.invariant_of-self
 invariant_of-self g c =
@@ -21,7 +21,7 @@ returns-in-Some-Answered-clause-takes g c =
     let handled = c.answer_beside_disk in
     let slot = c.self.inside.slot in
     rw (← c.self.view_is)
-    (beside_slot slot handled.new.self (in_rooms c.self.inside.flight c.self.inside.room c.self.inside.runs) c.args.what.now c.in-Some-Answered.reply _ _ c.self.invariant.own handled.ensures.device
+    (beside_slot slot handled.new.self (in_rooms c.self.inside.flight c.self.inside.room c.self.inside.runs) c.args.what.now c.in-Some-Answered.reply _ _ c.requires.own c.self.invariant.own handled.ensures.device
     (subst (λ (s : HostedState). IsFree s.flight c.args.what.now) (sym c.self.view_is) (sym c.holds_up.ensures ∙ c.if-holds_up.false))
     (rw (c.in-Some-Answered.is) at (handled.ensures.notified (unseen slot.extent.count)))
     (rw (c.in-Some-Answered.field-0-is) at c.in-Some-Answered.ensures.serves))
@@ -38,7 +38,7 @@ returns-in-None-clause-takes g c =
     let handled = c.answer_beside_disk in
     let slot = c.self.inside.slot in
     rw (← c.self.view_is, c.in-None.ensures.silent)
-    (notified_slot slot handled.new.self (in_rooms c.self.inside.flight c.self.inside.room c.self.inside.runs) c.args.what.now c.notified.new.self _ handled.ensures.device
+    (notified_slot slot handled.new.self (in_rooms c.self.inside.flight c.self.inside.room c.self.inside.runs) c.args.what.now c.notified.new.self _ c.requires.own handled.ensures.device
     (subst (λ (s : HostedState). IsFree s.flight c.args.what.now) (sym c.self.view_is) (sym c.holds_up.ensures ∙ c.if-holds_up.false))
     (rw (c.in-None.is) at (handled.ensures.notified (unseen slot.extent.count)))
     c.in-None.ensures.readied c.notified.ensures.looks c.notified.ensures.stays)
