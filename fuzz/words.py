@@ -123,7 +123,7 @@ def version():
 EVERY_LINE = "each line ends with a line feed, and the first two are there"
 FIRST_LINE = 'the first line is "vreplay 1", "vreplay 2" or "vreplay 3"'
 WORDS = "a line begins with slot, r, w, mr, mw, in or sz"
-WORDS_3 = "a line begins with slot, r, w, mr, mw, in, sz or st"
+WORDS_3 = "a line begins with slot, r, w, mr, mw, in, sz, st or io"
 NUMBER = "is lower case hexadecimal digits without zeros in front, of {} bits at most, as 1f"
 BYTES = "bytes are two lower case hexadecimal digits each, as 4142, or - for none"
 IDENTITY = "an identity is 20 bytes by two lower case hexadecimal digits each, so 40 digits"
@@ -169,6 +169,14 @@ TEXTS = [
     (b"vreplay 3\ncache 1\nrestore 0 4b\n", f'line 3: {WORDS_3}; found "restore 0 4b"'),
     (b"vreplay 3\ncache 1\nst 0\n", 'line 3: st has 2 fields after it, each after one space, as "st 0 4b414c59"; found "st 0"'),
     (b"vreplay 3\ncache 1\nst 0 4B\n", f'line 3: {BYTES}; found "4B"'),
+    # hosted disks and completions, which it has alone too
+    (b"vreplay 2\nhosted\n", 'line 2: the second line is the cache\'s, as "cache 8"; found "hosted"'),
+    (b"vreplay 3\nhost\n", 'line 2: the second line is the cache\'s, as "cache 8", or "hosted"; found "host"'),
+    (b"vreplay 3\nhosted 1\n", 'line 2: hosted has no field after it; found "hosted 1"'),
+    (b"vreplay 2\ncache 1\nio 0 done\n", f'line 3: {WORDS}; found "io 0 done"'),
+    (b"vreplay 3\nhosted\nio 0\n", 'line 3: io has 2 fields after it, each after one space, as "io 0 done"; found "io 0"'),
+    (b"vreplay 3\nhosted\nio 0 ok\n", 'line 3: what came of an operation is done or failed; found "ok"'),
+    (b"vreplay 3\nhosted\n", "the trace's board: a board needs a slot"),
     (f"vreplay 2\ncache 1\nslot 0 1000 0 9 rw 50 19 {NAMED}\n".encode(),
      "slot 0 (line 3): an extent passes the end of the image"),
     (b"vreplay 1\ncache 1\n" + b"slot 0 1000 0 0 rw 0 0\n" * 17,

@@ -1,1 +1,2 @@
 pub mod WhoseLemmas
+pub mod Running

@@ -260,9 +260,14 @@ fn write_line<W: fmt::Write>(
     let wanted = match fault.kind {
         FaultKind::Cut => "each line ends with a line feed, and the first two are there",
         FaultKind::Header => "the first line is \"vreplay 1\", \"vreplay 2\" or \"vreplay 3\"",
-        FaultKind::Word if number == 2 => "the second line is the cache's, as \"cache 8\"",
+        FaultKind::Word if number == 2 && version < VERSION_3 => {
+            "the second line is the cache's, as \"cache 8\""
+        }
+        FaultKind::Word if number == 2 => {
+            "the second line is the cache's, as \"cache 8\", or \"hosted\""
+        }
         FaultKind::Word if version < VERSION_3 => "a line begins with slot, r, w, mr, mw, in or sz",
-        FaultKind::Word => "a line begins with slot, r, w, mr, mw, in, sz or st",
+        FaultKind::Word => "a line begins with slot, r, w, mr, mw, in, sz, st or io",
         FaultKind::Order => "slots stand before all events",
         FaultKind::Fields => return write_fields(f, line, version),
         kind => return write_field(f, kind, line, version),
@@ -279,6 +284,9 @@ fn write_fields<W: fmt::Write>(f: &mut Formatter<W>, line: &[u8], version: u8) -
     };
     let count = fields_after(version, word).len();
     let (word, example) = example_of(version, word);
+    if count == 0 {
+        return write!(f, "{word} has no field after it; found {shown}");
+    }
     write!(
         f,
         "{word} has {count} fields after it, each after one space, as \"{word} {example}\"; found {shown}"

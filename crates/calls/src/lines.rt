@@ -6,6 +6,7 @@ use trace::{Field, VERSION_1, Word};
 pub fn example_of(version: u8, word: Word) -> (&'static str, &'static str) {
     match word {
         Word::Cache => ("cache", "8"),
+        Word::Hosted => ("hosted", ""),
         Word::Slot if version == VERSION_1 => ("slot", "80000000 1000 0 8 rw 50 19"),
         Word::Slot => (
             "slot",
@@ -18,6 +19,7 @@ pub fn example_of(version: u8, word: Word) -> (&'static str, &'static str) {
         Word::Input => ("in", "0 6c730a"),
         Word::Resize => ("sz", "0 50 19"),
         Word::Restore => ("st", "0 4b414c59"),
+        Word::Complete => ("io", "0 done"),
     }
 }
 
@@ -51,6 +53,7 @@ pub fn spelling_of(field: Field) -> Spelling {
         Field::Window => Other("a window is b or c"),
         Field::Width => Other("a width is 1, 2 or 4"),
         Field::Mode => Other("a slot is rw or ro"),
+        Field::Verdict => Other("what came of an operation is done or failed"),
         Field::Bytes => {
             Other("bytes are two lower case hexadecimal digits each, as 4142, or - for none")
         }

@@ -1,10 +1,11 @@
 //! Which slot of a trace is meant, for people.
 
-ghost use Rattle.std.specs.Prelude.{◌≡◌, Some, IfSome, IsTrue, All, Any, map};
+ghost use Rattle.std.specs.Prelude.{◌≡◌, [], Some, IfSome, IsTrue, All, Any, map};
 ghost use Rattle.std.specs.Bool.{OnFalse, OnTrue};
 ghost use Rattle.std.specs.List.{position};
 ghost use Rattle.board.specs.Extent.{IsApart, Overlaps, has_sector};
-ghost use Rattle.board.specs.Fault.{HasFirstFault, IsFaultOf, IsGoodSlot};
+ghost use Rattle.board.specs.Fault.{HasFirstFault, HasFirstHostedFault, IsFaultOf, IsGoodHosted, IsGoodSlot, most_sectors, with_own_disk};
+ghost use Rattle.calls.specs.Whose.{FindsRefused, IsRefusedAt};
 ghost use Rattle.replay.specs.Limits.{asked_of_board};
 ghost use Rattle.trace.specs.Reading.{IsTraceOf};
 ghost use Rattle.trace.specs.Text.{Content};
@@ -13,9 +14,12 @@ use board::{BoardFault, Extent, SlotSpec};
 use guest_memory::fault_of;
 use replay::limit_memories;
 use std::alloc::Allocator;
-use trace::read_trace;
+use trace::{Disks, read_trace};
 
-/// The slot at which the board of this text is refused over an image of so many sectors.
+/// The most sectors of a disk that the host serves.
+const MOST_SECTORS: u64 = u64::MAX / 512;
+
+/// The slot at which the board of this text is refused, where its disks are on an image over one of so many sectors.
 pub fn slot_at_fault<A: Allocator + Copy>(
     alloc: A,
     text: &[u8],
@@ -23,20 +27,28 @@ pub fn slot_at_fault<A: Allocator + Copy>(
     fault: BoardFault,
 ) -> Option<usize>
     ensures { IfSome result (λ number. (trace : Content A) → IsTraceOf text.now trace →
-        (refused : HasFirstFault sectors (map asked_of_board trace.slots) fault) → number ≡ refused.at_slot) }
+        IsRefusedAt trace.disks sectors (map asked_of_board trace.slots) fault number) }
 {
     let Ok(mut trace) = read_trace(alloc, text) else {
         return None;
     };
-    first_refused(&mut trace.slots, sectors, fault)
+    first_refused(trace.disks, &mut trace.slots, sectors, fault)
 }
 
 // The slot at which a board of these slots is refused with this fault, where it is asked for them as a trace is.
-fn first_refused(slots: &mut [SlotSpec], sectors: u64, fault: BoardFault) -> Option<usize>
-    ensures { (refused : HasFirstFault sectors (map asked_of_board slots.old) fault) → result ≡ Some refused.at_slot }
+fn first_refused(
+    disks: Disks,
+    slots: &mut [SlotSpec],
+    sectors: u64,
+    fault: BoardFault,
+) -> Option<usize>
+    ensures { FindsRefused disks sectors (map asked_of_board slots.old) fault result }
 {
     limit_memories(slots);
-    first_at_fault(slots, sectors, fault)
+    match disks {
+        Disks::Cached { .. } => first_at_fault(slots, sectors, fault),
+        Disks::Hosted => first_hosted_at_fault(slots, fault),
+    }
 }
 
 /// The slot whose extent has this sector.
@@ -60,6 +72,31 @@ fn first_at_fault(slots: &[SlotSpec], sectors: u64, fault: BoardFault) -> Option
         }
     }
     None
+}
+
+// The same of slots whose disks the host serves.
+fn first_hosted_at_fault(slots: &[SlotSpec], fault: BoardFault) -> Option<usize>
+    ensures { (refused : HasFirstHostedFault slots.now fault) → result ≡ Some refused.at_slot }
+{
+    for (number, slot) in slots.iter().enumerate() {
+        if has_hosted_fault(slot, fault) {
+            return Some(number);
+        }
+    }
+    None
+}
+
+// Whether such a slot has this fault, which no good one has.
+fn has_hosted_fault(slot: &SlotSpec, fault: BoardFault) -> bool
+    ensures found { IsFaultOf most_sectors [] (with_own_disk slot.now) fault → IsTrue result }
+    ensures bad { IsTrue result → IsGoodHosted slot.now → ⊥ }
+{
+    let extent = Extent {
+        start: 0,
+        count: slot.extent.count,
+    };
+    let own = SlotSpec { extent, ..*slot };
+    has_fault(&own, &[], MOST_SECTORS, fault)
 }
 
 // Whether a slot has this fault, which no good slot has.

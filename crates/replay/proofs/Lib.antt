@@ -8,3 +8,4 @@ pub mod RunLemmas
 pub mod Pieces
 pub mod Answering
 pub mod Lines
+pub mod Hosting

@@ -8,7 +8,7 @@ use Rattle.std.proofs.lemmas.Bool.{cases_lt, le-ltb}
 use Rattle.std.proofs.lemmas.List.{get_or_default}
 use Rattle.std.proofs.lemmas.List.Edits.{map_over_more}
 use Rattle.board.specs.declared.spec.SlotSpec.{SlotSpec}
-use Rattle.board.specs.Fault.{IsAccepted}
+use Rattle.board.specs.Fault.{AreGoodHosted, IsAccepted}
 use Rattle.replay.specs.Limits.{IsSmallMemory, asked_of_board}
 
 -- ---- the loop that asks for no memory in place of a large one
@@ -47,27 +47,53 @@ all_asked [] small = refl
 all_asked (spec ∷ slots) small =
     rw (asked_small spec (small 0 spec (omega arith)), all_asked slots (λ k d below. small (suc k) d (omega (arith, below)))) refl
 
--- what a board took of these slots is what the trace describes
-pub taken_small : (sectors cache : ℕ) (slots : List SlotSpec) → IsAccepted sectors (map asked_of_board slots) cache → All IsSmallMemory slots
-taken_small sectors cache slots accepted =
-    all_small slots (λ i spec there. (accepted.slots_good.each i spec (slice_get_within (map asked_of_board slots) i spec there) there).memory.size.least)
+-- Slots that are asked for as a trace is, of which what was asked for is taken.
+module _ (Taken : List SlotSpec → Type 0) (some : (slots : List SlotSpec) (i : ℕ) (spec : SlotSpec) → Taken slots → slice_get slots i ≡ Some spec → 4096 ≤ spec.len) (slots asked : List SlotSpec) (same : asked ≡ map asked_of_board slots) where
+  taken_small : Taken asked → All IsSmallMemory slots
+  taken_small taken = all_small slots (λ i spec there. some (map asked_of_board slots) i spec (subst Taken same taken) there)
 
-pub taken_asked : (sectors cache : ℕ) (slots : List SlotSpec) → IsAccepted sectors (map asked_of_board slots) cache → map asked_of_board slots ≡ slots
-taken_asked sectors cache slots accepted = all_asked slots (taken_small sectors cache slots accepted)
+  as_described : Taken asked → asked ≡ slots
+  as_described taken = same ∙ all_asked slots (taken_small taken)
 
-module _ (sectors cache : ℕ) (slots asked : List SlotSpec) (same : asked ≡ map asked_of_board slots) where
-  as_described : IsAccepted sectors asked cache → asked ≡ slots
-  as_described accepted = same ∙ taken_asked sectors cache slots (subst (λ (s : List SlotSpec). IsAccepted sectors s cache) same accepted)
+  pub small_of : {V E : Type 0} (result : Result V E) → OnOk result (Taken asked) → OnOk result (All IsSmallMemory slots)
+  small_of (Ok v) taken = taken_small taken
+  small_of (Err e) taken = tt
 
-  pub small_when : {V E : Type 0} (result : Result V E) → OnOk result (IsAccepted sectors asked cache) → OnOk result (All IsSmallMemory slots)
-  small_when (Ok v) accepted = taken_small sectors cache slots (subst (λ (s : List SlotSpec). IsAccepted sectors s cache) same accepted)
-  small_when (Err e) accepted = tt
-
-  pub accepted_when : {V E : Type 0} (result : Result V E) → OnOk result (IsAccepted sectors asked cache) → OnOk result (IsAccepted sectors slots cache)
-  accepted_when (Ok v) accepted = subst (λ (s : List SlotSpec). IsAccepted sectors s cache) (as_described accepted) accepted
-  accepted_when (Err e) accepted = tt
+  pub taken_of : {V E : Type 0} (result : Result V E) → OnOk result (Taken asked) → OnOk result (Taken slots)
+  taken_of (Ok v) taken = subst Taken (as_described taken) taken
+  taken_of (Err e) taken = tt
 
   -- what is said of a board of the slots that were asked for is said of one of those that are described
+  pub made_of : {V E : Type 0} (Made : V → List SlotSpec → Type 0) (result : Result V E) → OnOk result (Taken asked) → IfOk result (λ v. Made v asked) → IfOk result (λ v. Made v slots)
+  made_of Made (Ok v) taken made = subst (λ (s : List SlotSpec). Made v s) (as_described taken) made
+  made_of Made (Err e) taken made = tt
+
+-- ---- over an image
+
+accepted_some : (sectors cache : ℕ) (slots : List SlotSpec) (i : ℕ) (spec : SlotSpec) → IsAccepted sectors slots cache → slice_get slots i ≡ Some spec → 4096 ≤ spec.len
+accepted_some sectors cache slots i spec accepted there = (accepted.slots_good.each i spec (slice_get_within slots i spec there) there).memory.size.least
+
+module _ (sectors cache : ℕ) (slots asked : List SlotSpec) (same : asked ≡ map asked_of_board slots) where
+  pub small_when : {V E : Type 0} (result : Result V E) → OnOk result (IsAccepted sectors asked cache) → OnOk result (All IsSmallMemory slots)
+  small_when result accepted = small_of (λ s. IsAccepted sectors s cache) (accepted_some sectors cache) slots asked same result accepted
+
+  pub accepted_when : {V E : Type 0} (result : Result V E) → OnOk result (IsAccepted sectors asked cache) → OnOk result (IsAccepted sectors slots cache)
+  accepted_when result accepted = taken_of (λ s. IsAccepted sectors s cache) (accepted_some sectors cache) slots asked same result accepted
+
   pub made_when : {V E : Type 0} (Made : V → List SlotSpec → Type 0) (result : Result V E) → OnOk result (IsAccepted sectors asked cache) → IfOk result (λ v. Made v asked) → IfOk result (λ v. Made v slots)
-  made_when Made (Ok v) accepted made = subst (λ (s : List SlotSpec). Made v s) (as_described accepted) made
-  made_when Made (Err e) accepted made = tt
+  made_when Made result accepted made = made_of (λ s. IsAccepted sectors s cache) (accepted_some sectors cache) slots asked same Made result accepted made
+
+-- ---- where the host serves the disks
+
+hosted_some : (slots : List SlotSpec) (i : ℕ) (spec : SlotSpec) → AreGoodHosted slots → slice_get slots i ≡ Some spec → 4096 ≤ spec.len
+hosted_some slots i spec good there = (good.each i spec (slice_get_within slots i spec there) there).memory.size.least
+
+module _ (slots asked : List SlotSpec) (same : asked ≡ map asked_of_board slots) where
+  pub hosted_small_when : {V E : Type 0} (result : Result V E) → OnOk result (AreGoodHosted asked) → OnOk result (All IsSmallMemory slots)
+  hosted_small_when result accepted = small_of AreGoodHosted hosted_some slots asked same result accepted
+
+  pub hosted_accepted_when : {V E : Type 0} (result : Result V E) → OnOk result (AreGoodHosted asked) → OnOk result (AreGoodHosted slots)
+  hosted_accepted_when result accepted = taken_of AreGoodHosted hosted_some slots asked same result accepted
+
+  pub hosted_made_when : {V E : Type 0} (Made : V → List SlotSpec → Type 0) (result : Result V E) → OnOk result (AreGoodHosted asked) → IfOk result (λ v. Made v asked) → IfOk result (λ v. Made v slots)
+  hosted_made_when Made result accepted made = made_of AreGoodHosted hosted_some slots asked same Made result accepted made

@@ -1,16 +1,14 @@
 -- The lines of events, taken one after another.
-use Rattle.std.proofs.Common.{◌≡◌, ◌≢◌, ℕ, suc, ◌≤◌, true, List, [], ◌∷◌, ◌++◌, All, Option, length, get_or, drop, map, refl, sym, ap, subst, ◌∙◌, append_assoc, append-nil, arith, inr}
+use Rattle.std.proofs.Common.{◌≡◌, ◌≢◌, ℕ, suc, ◌≤◌, true, List, [], ◌∷◌, ◌++◌, All, length, get_or, drop, map, refl, sym, ap, subst, ◌∙◌, append_assoc, append-nil, arith, inr}
 use Rattle.std.proofs.lemmas.List.{append_cancel_left, length-append}
 use Rattle.std.proofs.lemmas.List.Elements.{All-cons, All-nil}
-use Rattle.sector_cache.specs.Disk.{Disk}
 use Rattle.board.specs.declared.event.Event.{Event}
-use Rattle.board.specs.World.{BoardState}
+use Rattle.trace.specs.declared.disks.Disks.TheVariants.{Cached}
 use Rattle.trace.specs.declared.fault.FaultKind.{FaultKind}
 use Rattle.trace.specs.declared.fault.FaultKind.TheVariants as kind
 use Rattle.trace.specs.declared.read.said.Said.{Said}
 use Rattle.trace.specs.Cuts.{fields_of, lines_of}
 use Rattle.trace.specs.Judging.{AreEventLines, AreLinesOf, HaveRoom, bytes_len, said_len}
-use Rattle.replay.specs.Pieces.{SendsRun}
 use Rattle.trace.specs.Printable.{IsPrintableSlot, SlotInRange}
 use Rattle.trace.specs.Refusals.{IsFine, RefusesLine}
 use Rattle.trace.specs.Events.{BeginsWithEvent, TakesEvent}
@@ -18,7 +16,6 @@ use Rattle.replay.specs.Running.{HasRoomFor, RunsLine, RunsSaid}
 use Rattle.trace.specs.Said.{said_fields}
 use Rattle.trace.specs.Text.{Content, ended, event_fields, event_line, front_text, joined, text, trace_lines, word_for}
 use Rattle.trace.proofs.Entries.{cut_event, entered_event}
-use Rattle.replay.proofs.Pieces.{sends_no_run, sends_run_of, sends_runs}
 use Rattle.trace.proofs.Printed.{joined_append, text_is}
 use Rattle.trace.proofs.Saying.{meant}
 use Rattle.trace.proofs.Signs.{Above, lines_of-joined}
@@ -29,18 +26,18 @@ use Rattle.trace.proofs.Versions.{word_of_3}
 -- ---- a trace of these events alone
 
 abbrev alone : {A : Type 0} → List (Event A) → Content A
-alone events = record { version = 3; cache = 0; slots = []; events = events }
+alone events = record { version = 3; disks = Cached 0; slots = []; events = events }
 
 alone_fits : {A : Type 0} (events : List (Event A)) → All IsFine events → Fits (alone events)
 alone_fits events fine = record {
-  range = record { cache = omega arith; slots = All-nil SlotInRange; events = λ k d lt. (fine k d lt).fits };
-  printable = record { version = inr (inr refl); slots = All-nil (IsPrintableSlot 3); events = λ k d lt. (fine k d lt).printable; words = λ k d lt. word_of_3 (word_for (get_or events k d).what) };
+  range = record { disks = omega arith; slots = All-nil SlotInRange; events = λ k d lt. (fine k d lt).fits };
+  printable = record { version = inr (inr refl); disks = tt; slots = All-nil (IsPrintableSlot 3); events = λ k d lt. (fine k d lt).printable; words = λ k d lt. word_of_3 (word_for (get_or events k d).what) };
 }
 
 -- lines are those of one list of events
 pub one_text : {A : Type 0} (ds es : List (Event A)) (lines : List ℕ) → AreLinesOf ds lines → AreLinesOf es lines → ds ≡ es
 one_text ds es lines hd he =
-    let same = ap (λ (x : List ℕ). (front_text 3 0 ++ joined []) ++ x) (sym hd.spelled ∙ he.spelled) in
+    let same = ap (λ (x : List ℕ). (front_text 3 (Cached 0) ++ joined []) ++ x) (sym hd.spelled ∙ he.spelled) in
     ap (λ c. c.events) (one_trace (alone ds) (alone es) (alone_fits ds hd.fine) (alone_fits es he.fine) (sym (text_is (alone ds)) ∙ same ∙ text_is (alone es)))
 
 -- ---- the line of an event
@@ -129,20 +126,20 @@ fits_at {A} (e ∷ left) room rest said after more fit takes =
 
 -- ---- the run so far
 
--- the first of the events are run, and the lines of the others left
-pub record RunSofar (A : Type 0) {I : Type 0} (disk : I → Disk) (lines : List ℕ) (room : ℕ) (old board : BoardState I) (rest : List ℕ) (a b s t : Option (List ℕ)) : Type 0 where
+-- the first of the events are run, of which this holds, and the lines of the others are left
+pub record RunSofar (A : Type 0) (lines : List ℕ) (room : ℕ) (rest : List ℕ) (Run : List (Event A) → Type 0) : Type 0 where
   pub done : List (Event A)
   pub left : List (Event A)
   pub whole : AreLinesOf (done ++ left) lines
   pub more : AreLinesOf left rest
   pub fit : HaveRoom room left
-  pub sent : SendsRun disk old board done a b s t
+  pub run : Run done
 
-pub run_none : (A : Type 0) {I : Type 0} (disk : I → Disk) (lines : List ℕ) (room : ℕ) (board : BoardState I) (a s : Option (List ℕ)) → AreEventLines A room lines → RunSofar A disk lines room board board lines a a s s
-run_none A disk lines room board a s h =
-    record { done = []; left = h.events; whole = h.lines_of; more = h.lines_of; fit = h.fit; sent = sends_no_run disk board a s }
+pub run_none : (A : Type 0) (lines : List ℕ) (room : ℕ) (Run : List (Event A) → Type 0) → AreEventLines A room lines → Run [] → RunSofar A lines room lines Run
+run_none A lines room Run h none =
+    record { done = []; left = h.events; whole = h.lines_of; more = h.lines_of; fit = h.fit; run = none }
 
-module _ (A : Type 0) {I : Type 0} (disk : I → Disk) (lines : List ℕ) (room : ℕ) (old board : BoardState I) (rest : List ℕ) (a b s t : Option (List ℕ)) (so : RunSofar A disk lines room old board rest a b s t) where
+module _ (A : Type 0) (lines : List ℕ) (room : ℕ) (rest : List ℕ) (Run : List (Event A) → Type 0) (so : RunSofar A lines room rest Run) where
   pub begins : length rest ≢ 0 → BeginsWithEvent rest
   begins some = begins_at so.left rest so.more some
 
@@ -150,11 +147,12 @@ module _ (A : Type 0) {I : Type 0} (disk : I → Disk) (lines : List ℕ) (room 
   fits said after takes = fits_at so.left room rest said after so.more so.fit takes
 
 -- one event more
-more_at : (A : Type 0) {I : Type 0} (disk : I → Disk) (lines : List ℕ) (room : ℕ) (old mid new : BoardState I) (rest : List ℕ) (said : Said A) (after : List ℕ) (done left : List (Event A)) (a b c s t u : Option (List ℕ))
-    → AreLinesOf (done ++ left) lines → AreLinesOf left rest → HaveRoom room left → SendsRun disk old mid done a b s t → TakesEvent rest said after → RunsSaid disk said mid new b c t u → RunSofar A disk lines room old new after a c s u
+more_at : (A : Type 0) (lines : List ℕ) (room : ℕ) (rest : List ℕ) (said : Said A) (after : List ℕ) (done left : List (Event A)) (Old New : List (Event A) → Type 0) (One : Event A → Type 0)
+    → AreLinesOf (done ++ left) lines → AreLinesOf left rest → HaveRoom room left → Old done → TakesEvent rest said after → RunsSaid said One
+    → ((es : List (Event A)) (e : Event A) → Old es → One e → New (es ++ e ∷ [])) → RunSofar A lines room after New
 unfolding joined
-more_at A disk lines room old mid new rest said after done [] a b c s t u whole more fit sent takes it = absurd (none_taken rest said after takes more.spelled)
-more_at A disk lines room old mid new rest said after done (e ∷ left) a b c s t u whole more fit sent takes it =
+more_at A lines room rest said after done [] Old New One whole more fit run takes it join = absurd (none_taken rest said after takes more.spelled)
+more_at A lines room rest said after done (e ∷ left) Old New One whole more fit run takes it join =
     let next = next_is e left rest said after more takes in
     let same = same_event_fields it.event e it.fine next.fine (it.fields ∙ sym next.fields) in
     record {
@@ -163,25 +161,23 @@ more_at A disk lines room old mid new rest said after done (e ∷ left) a b c s 
       whole = subst (λ (es : List (Event A)). AreLinesOf es lines) (sym (append_assoc done (e ∷ []) left)) whole;
       more = next.more;
       fit = λ k d lt. fit (suc k) d (omega arith);
-      sent =
-          sends_runs disk old mid new done (e ∷ []) a b c s t u sent
-          (subst (λ (x : Event A). SendsRun disk mid new (x ∷ []) b c t u) same it.run);
+      run = join done e run (subst One same it.run);
     }
 
-pub run_more : (A : Type 0) {I : Type 0} (disk : I → Disk) (lines : List ℕ) (room : ℕ) (old mid new : BoardState I) (rest after : List ℕ) (a b c s t u : Option (List ℕ))
-    → RunSofar A disk lines room old mid rest a b s t → RunsLine A disk rest after mid new b c t u → RunSofar A disk lines room old new after a c s u
-run_more A disk lines room old mid new rest after a b c s t u so it =
-    more_at A disk lines room old mid new rest it.said after so.done so.left a b c s t u so.whole so.more so.fit so.sent it.taken it.ran
+pub run_more : (A : Type 0) (lines : List ℕ) (room : ℕ) (rest after : List ℕ) (Old New : List (Event A) → Type 0) (One : Event A → Type 0)
+    → RunSofar A lines room rest Old → RunsLine A rest after One → ((es : List (Event A)) (e : Event A) → Old es → One e → New (es ++ e ∷ [])) → RunSofar A lines room after New
+run_more A lines room rest after Old New One so it join =
+    more_at A lines room rest it.said after so.done so.left Old New One so.whole so.more so.fit so.run it.taken it.ran join
 
 -- no line is left
-all_at : (A : Type 0) {I : Type 0} (disk : I → Disk) (lines : List ℕ) (old new : BoardState I) (rest : List ℕ) (done left events : List (Event A)) (a b s t : Option (List ℕ))
-    → AreLinesOf (done ++ left) lines → AreLinesOf left rest → SendsRun disk old new done a b s t → length rest ≡ 0 → AreLinesOf events lines → SendsRun disk old new events a b s t
+all_at : (A : Type 0) (lines : List ℕ) (rest : List ℕ) (done left events : List (Event A)) (Run : List (Event A) → Type 0)
+    → AreLinesOf (done ++ left) lines → AreLinesOf left rest → Run done → length rest ≡ 0 → AreLinesOf events lines → Run events
 unfolding joined
-all_at A disk lines old new rest done [] events a b s t whole more sent none are =
-    sends_run_of disk old new done events a b s t (sym (append-nil done) ∙ one_text (done ++ []) events lines whole are) sent
-all_at A disk lines old new rest done (e ∷ left) events a b s t whole more sent none are =
+all_at A lines rest done [] events Run whole more run none are =
+    subst Run (sym (append-nil done) ∙ one_text (done ++ []) events lines whole are) run
+all_at A lines rest done (e ∷ left) events Run whole more run none are =
     absurd (omega (arith, ap length more.spelled, length-append (ended (event_line e)) (joined (map event_line left)), length-append (event_line e) (10 ∷ [])))
 
-pub run_all : (A : Type 0) {I : Type 0} (disk : I → Disk) (lines : List ℕ) (room : ℕ) (old new : BoardState I) (rest : List ℕ) (events : List (Event A)) (a b s t : Option (List ℕ))
-    → RunSofar A disk lines room old new rest a b s t → length rest ≡ 0 → AreLinesOf events lines → SendsRun disk old new events a b s t
-run_all A disk lines room old new rest events a b s t so none are = all_at A disk lines old new rest so.done so.left events a b s t so.whole so.more so.sent none are
+pub run_all : (A : Type 0) (lines : List ℕ) (room : ℕ) (rest : List ℕ) (events : List (Event A)) (Run : List (Event A) → Type 0)
+    → RunSofar A lines room rest Run → length rest ≡ 0 → AreLinesOf events lines → Run events
+run_all A lines room rest events Run so none are = all_at A lines rest so.done so.left events Run so.whole so.more so.run none are

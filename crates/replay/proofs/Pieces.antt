@@ -1,5 +1,5 @@
 -- Runs whose records go out as text, one after another.
-use Rattle.std.proofs.Common.{◌≡◌, ℕ, List, [], ◌++◌, Option, None, Some, length, map, take, refl, sym, ap, subst, ◌∙◌, append-nil, arith, Bool, false, ◌⊎◌, inl, inr, ◌↔◌, IsTrue}
+use Rattle.std.proofs.Common.{◌≡◌, ℕ, List, [], ◌∷◌, ◌++◌, Option, None, Some, length, map, take, refl, sym, ap, subst, ◌∙◌, append-nil, arith, Bool, false, ◌⊎◌, inl, inr, ◌↔◌, IsTrue}
 use Rattle.std.proofs.lemmas.List.{map-append, take_all}
 use Rattle.std.specs.Io.KnownBytes.{Appends, Keeps}
 use Rattle.sector_cache.specs.Disk.{Disk}
@@ -15,10 +15,16 @@ use Rattle.replay.specs.Pieces.{SendsRun}
 use Rattle.trace.specs.Records.{record_line, records_text}
 use Rattle.trace.specs.Text.{joined}
 use Rattle.replay.specs.Replay.{Recorded, RecordedFront}
+use Rattle.replay.specs.Running.{SendsOne}
+use Rattle.trace.specs.declared.disks.Disks.TheVariants.{Cached}
 use Rattle.trace.specs.Sends.{Sends}
 use Rattle.trace.proofs.Passing.{sends_more, sends_none, sends_same, sent_all, sent_front}
 use Rattle.trace.proofs.Printed.{joined_append, joined_none}
 use Rattle.replay.proofs.RunLemmas.{runs_on}
+
+-- a run over some events, with the events last
+abbrev pub SendsAll : {A I : Type 0} → (I → Disk) → BoardState I → BoardState I → Option (List ℕ) → Option (List ℕ) → Option (List ℕ) → Option (List ℕ) → List (Event A) → Type 0
+SendsAll disk old new a b s t events = SendsRun disk old new events a b s t
 
 -- no event, no record
 empty_run : {A : Type 0} (w : World) → IsRun {A = A} w w [] [] []
@@ -58,6 +64,10 @@ sends_runs disk old mid new events more a b c s t u p q = record {
   sent = sends_same a c s u _ _ (text_append p.records q.records) (sends_more a b c s t u _ _ p.sent q.sent);
 }
 
+-- one event more
+pub sends_one_more : {A I : Type 0} (disk : I → Disk) (old mid new : BoardState I) (events : List (Event A)) (event : Event A) (a b c s t u : Option (List ℕ)) → SendsAll disk old mid a b s t events → SendsOne disk mid new b c t u event → SendsAll disk old new a c s u (events ++ event ∷ [])
+sends_one_more disk old mid new events event a b c s t u p q = sends_runs disk old mid new events (event ∷ []) a b c s t u p q
+
 -- the same events by another name
 pub sends_run_of : {A I : Type 0} (disk : I → Disk) (old new : BoardState I) (events others : List (Event A)) (a b s t : Option (List ℕ)) → events ≡ others → SendsRun disk old new events a b s t → SendsRun disk old new others a b s t
 sends_run_of disk old new events others a b s t same p = subst (λ (es : List (Event _)). SendsRun disk old new es a b s t) same p
@@ -89,8 +99,8 @@ all_out disk slots board after image events a b u new kept whole run =
     (subst (λ (s : Option (List ℕ)). SendsRun disk board after events a b (Some []) s) whole run) (sent_all a b)
 
 -- the writer failed
-pub front_out : {A I : Type 0} (disk : I → Disk) (slots : List SlotSpec) (board after : BoardState I) (image : I) (events : List (Event A)) (a b u : Option (List ℕ)) → board.slots ≡ map opened slots → image ≡ after.image → u ≡ None → SendsRun disk board after events a b (Some []) u → RecordedFront disk slots events board.image image (AppendsFront a b)
-front_out disk slots board after image events a b u new kept broken run = record {
+pub front_out : {A I : Type 0} (capacity : ℕ) (disk : I → Disk) (slots : List SlotSpec) (board after : BoardState I) (image : I) (events : List (Event A)) (a b u : Option (List ℕ)) → board.slots ≡ map opened slots → image ≡ after.image → u ≡ None → SendsRun disk board after events a b (Some []) u → RecordedFront (Cached capacity) disk slots events board.image image (AppendsFront a b)
+front_out capacity disk slots board after image events a b u new kept broken run = record {
   done = length events;
   recorded =
       recorded disk slots board after image (take (length events) events) a b None (AppendsFront a b) new kept
@@ -100,8 +110,8 @@ front_out disk slots board after image events a b u new kept broken run = record
 }
 
 -- nothing was run, and nothing written
-pub none_out : {A I : Type 0} (disk : I → Disk) (slots : List SlotSpec) (board : BoardState I) (image : I) (events : List (Event A)) (a b : Option (List ℕ)) → board.slots ≡ map opened slots → image ≡ board.image → Keeps a b → RecordedFront disk slots events board.image image (λ _. Keeps a b)
-none_out disk slots board image events a b new kept same = record {
+pub none_out : {A I : Type 0} (capacity : ℕ) (disk : I → Disk) (slots : List SlotSpec) (board : BoardState I) (image : I) (events : List (Event A)) (a b : Option (List ℕ)) → board.slots ≡ map opened slots → image ≡ board.image → Keeps a b → RecordedFront (Cached capacity) disk slots events board.image image (λ _. Keeps a b)
+none_out capacity disk slots board image events a b new kept same = record {
   done = 0;
   recorded = recorded disk slots board board image [] a a (Some []) (λ _. Keeps a b) new kept (sends_no_run disk board a (Some [])) (λ _ _. same);
 }

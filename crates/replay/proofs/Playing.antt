@@ -1,19 +1,24 @@
 -- What comes of a text that is a trace's, once there is a board for it.
-use Rattle.std.proofs.Common.{◌≡◌, ◌∙◌, ℕ, ◌<◌, List, Option, Some, Result, Ok, Err, length, map, ap, subst, sym, inl, inr}
+use Rattle.std.proofs.Common.{◌≡◌, ◌∙◌, ℕ, ◌<◌, ◌≤◌, List, Option, Some, Result, Ok, Err, length, map, ap, subst, sym, inl, inr, arith}
 use Rattle.std.proofs.KnownBytes.{Keeps-refl}
 use Rattle.std.specs.Prelude.{All}
 use Rattle.sector_cache.specs.Disk.{Disk}
 use Rattle.board.specs.declared.event.Event.{Event}
 use Rattle.board.specs.declared.fault.BoardFault.{BoardFault}
 use Rattle.board.specs.declared.spec.SlotSpec.{SlotSpec}
-use Rattle.board.specs.Fault.{IsAccepted, Refuses}
+use Rattle.trace.specs.declared.disks.Disks.{Disks}
+use Rattle.trace.specs.declared.disks.Disks.TheVariants.{Cached, Hosted}
+use Rattle.board.specs.Fault.{AreGoodHosted, IsAccepted}
+use Rattle.board.specs.Hosting.{HostedState, hosted_opened}
 use Rattle.board.specs.Slot.{opened}
 use Rattle.board.specs.World.{BoardState}
 use Rattle.trace.specs.Judging.{AreLinesOf, IsJudged, Judgement}
 use Rattle.replay.specs.declared.fault.ReplayFault.{ReplayFault}
 use Rattle.replay.specs.declared.fault.ReplayFault.TheVariants.{Read, Trace, Board, Run, Write, NoMemory}
 use Rattle.replay.specs.Limits.{IsSmallMemory, asked_of_board}
-use Rattle.replay.specs.Replay.{AfterRun, HasTooMany, Plays, RefusesBoard, RefusesBoardOf, Replays, front}
+use Rattle.trace.specs.Text.{disks_word}
+use Rattle.trace.specs.Words.{IsWordOf}
+use Rattle.replay.specs.Replay.{AcceptsBy, AfterRun, HasTooMany, Plays, RefusesBoard, RefusesBoardOf, RefusesBy, Replays, front}
 
 replays : {A I : Type 0} (disk : I → Disk) (input old new : Option (List ℕ)) (before after : I) (outcome : Result (Unit {0}) ReplayFault) → Plays A disk input old new before after outcome → Replays A disk input old new before after outcome
 replays disk input old new before after (Ok done) plays = plays
@@ -24,15 +29,16 @@ replays disk input old new before after (Err (Run done)) plays = plays
 replays disk input old new before after (Err Write) plays = plays
 replays disk input old new before after (Err NoMemory) plays = plays
 
--- the board of the slots that were judged, and what came of the lines of their events
-pub played : {A I : Type 0} (disk : I → Disk) (text : List ℕ) (old new : Option (List ℕ)) (before after : I) (outcome : Result (Unit {0}) ReplayFault) (j : Judgement) (slots : List SlotSpec) (board : BoardState I)
-    → IsJudged A text j → slots ≡ j.slots → board ≡ record { slots = map opened slots; image = before }
-    → (¬ HasTooMany (front A j.version j.cache slots)) → All IsSmallMemory slots → IsAccepted (disk before).sector_count slots j.cache
-    → ((specs : List SlotSpec) (events : List (Event A)) → board.slots ≡ map opened specs → AreLinesOf events j.events → AfterRun disk specs events board.image after old new outcome)
+-- The board of the slots that were judged, and what came of the lines of their events.
+pub played : {A I : Type 0} (disk : I → Disk) (text : List ℕ) (old new : Option (List ℕ)) (before after : I) (outcome : Result (Unit {0}) ReplayFault) (j : Judgement) (disks : Disks) (slots : List SlotSpec)
+    → IsJudged A text j → j.disks ≡ disks → slots ≡ j.slots
+    → (¬ HasTooMany (front A j.version disks slots)) → All IsSmallMemory slots → AcceptsBy disks (disk before).sector_count slots
+    → ((events : List (Event A)) → AreLinesOf events j.events → AfterRun disks disk slots events before after old new outcome)
     → Replays A disk (Some text) old new before after outcome
-played {A} {I} disk text old new before after outcome j slots board is same made few small accepted ended =
+played {A} {I} disk text old new before after outcome j disks slots is kind same few small accepted ended =
     let described : slots ≡ is.trace.slots = same ∙ sym is.slots in
-    let run = ended is.trace.slots is.trace.events (ap (λ (b : BoardState I). b.slots) made ∙ ap (map opened) described) is.lines_of in
+    let placed : disks ≡ is.trace.disks = sym kind ∙ sym is.disks in
+    let run = ended is.trace.events is.lines_of in
     replays disk (Some text) old new before after outcome (record {
       trace = is.trace;
       read = is.read;
@@ -41,17 +47,44 @@ played {A} {I} disk text old new before after outcome j slots board is same made
         many = subst (λ (s : List SlotSpec). 16 < length s) (sym described) many.many;
       });
       small = subst (λ (s : List SlotSpec). All IsSmallMemory s) described small;
-      accepted = subst (λ (s : List SlotSpec). IsAccepted (disk before).sector_count s is.trace.cache) described
-          (subst (λ (n : ℕ). IsAccepted (disk before).sector_count slots n) (sym is.cache) accepted);
-      ended = subst (λ (b : BoardState I). AfterRun disk is.trace.slots is.trace.events b.image after old new outcome) made run;
+      accepted = subst (λ (s : List SlotSpec). AcceptsBy is.trace.disks (disk before).sector_count s) described
+          (subst (λ (d : Disks). AcceptsBy d (disk before).sector_count slots) placed accepted);
+      ended = subst (λ (s : List SlotSpec). AfterRun is.trace.disks disk s is.trace.events before after old new outcome) described
+          (subst (λ (d : Disks). AfterRun d disk slots is.trace.events before after old new outcome) placed run);
     })
 
+-- a trace whose disks the host serves is of version 3
+pub few_hosted : {A : Type 0} (text : List ℕ) (j : Judgement) (slots : List SlotSpec) → IsJudged A text j → j.disks ≡ Hosted → ¬ HasTooMany (front A j.version Hosted slots)
+few_hosted text j slots is kind many =
+    let three : 3 ≤ is.trace.version = subst (λ (d : Disks). IsWordOf is.trace.version (disks_word d)) (is.disks ∙ kind) is.read.printable.disks in
+    omega (arith, is.version, many.version)
+
+-- the same over an image
+pub played_over : {A I : Type 0} (disk : I → Disk) (text : List ℕ) (old new : Option (List ℕ)) (before after : I) (outcome : Result (Unit {0}) ReplayFault) (j : Judgement) (capacity : ℕ) (slots : List SlotSpec) (board : BoardState I)
+    → IsJudged A text j → j.disks ≡ Cached capacity → slots ≡ j.slots → board ≡ record { slots = map opened slots; image = before }
+    → (¬ HasTooMany (front A j.version (Cached capacity) slots)) → All IsSmallMemory slots → IsAccepted (disk before).sector_count slots capacity
+    → ((specs : List SlotSpec) (events : List (Event A)) → board.slots ≡ map opened specs → AreLinesOf events j.events → AfterRun (Cached capacity) disk specs events board.image after old new outcome)
+    → Replays A disk (Some text) old new before after outcome
+played_over {A} {I} disk text old new before after outcome j capacity slots board is kind same made few small accepted ended =
+    played disk text old new before after outcome j (Cached capacity) slots is kind same few small accepted
+    (λ events are. subst (λ (b : BoardState I). AfterRun (Cached capacity) disk slots events b.image after old new outcome) made
+    (ended slots events (ap (λ (b : BoardState I). b.slots) made) are))
+
+-- and on a board whose disks the host serves
+pub played_hosted : {A I : Type 0} (disk : I → Disk) (text : List ℕ) (old new : Option (List ℕ)) (before after : I) (outcome : Result (Unit {0}) ReplayFault) (j : Judgement) (slots : List SlotSpec) (board : List HostedState)
+    → IsJudged A text j → j.disks ≡ Hosted → slots ≡ j.slots → board ≡ map hosted_opened slots → All IsSmallMemory slots → AreGoodHosted slots
+    → ((specs : List SlotSpec) (events : List (Event A)) → board ≡ map hosted_opened specs → AreLinesOf events j.events → AfterRun Hosted disk specs events before after old new outcome)
+    → Replays A disk (Some text) old new before after outcome
+played_hosted disk text old new before after outcome j slots board is kind same made small accepted ended =
+    played disk text old new before after outcome j Hosted slots is kind same (few_hosted text j slots is kind) small accepted (λ events are. ended slots events made are)
+
 -- there is no board for the slots that were judged
-pub refused_board : {A I : Type 0} (disk : I → Disk) (text : List ℕ) (old : Option (List ℕ)) (before after : I) (fault : BoardFault) (j : Judgement) (slots : List SlotSpec)
-    → IsJudged A text j → slots ≡ j.slots → after ≡ before → RefusesBoardOf (disk before).sector_count (front A j.version j.cache slots) fault
+pub refused_board : {A I : Type 0} (disk : I → Disk) (text : List ℕ) (old : Option (List ℕ)) (before after : I) (fault : BoardFault) (j : Judgement) (disks : Disks) (slots : List SlotSpec)
+    → IsJudged A text j → j.disks ≡ disks → slots ≡ j.slots → after ≡ before → RefusesBoardOf (disk before).sector_count (front A j.version disks slots) fault
     → RefusesBoard A disk (Some text) old old before after fault
-refused_board disk text old before after fault j slots is same image refused =
+refused_board disk text old before after fault j disks slots is kind same image refused =
     let described : slots ≡ is.trace.slots = same ∙ sym is.slots in
+    let placed : disks ≡ is.trace.disks = sym kind ∙ sym is.disks in
     let sectors = (disk before).sector_count in
     record {
       untouched = record { output = Keeps-refl old; image = image };
@@ -64,8 +97,8 @@ refused_board disk text old before after fault j slots is same image refused =
         )
         | inr own ↦ inr (
           λ many. own.0 (record { version = sym is.version ∙ many.version; many = subst (λ (s : List SlotSpec). 16 < length s) (sym described) many.many }),
-          subst (λ (s : List SlotSpec). Refuses sectors (map asked_of_board s) is.trace.cache fault) described
-              (subst (λ (n : ℕ). Refuses sectors (map asked_of_board slots) n fault) (sym is.cache) own.1),
+          subst (λ (s : List SlotSpec). RefusesBy is.trace.disks sectors (map asked_of_board s) fault) described
+              (subst (λ (d : Disks). RefusesBy d sectors (map asked_of_board slots) fault) placed own.1),
         )
       ];
     }

@@ -5,13 +5,13 @@ use Rattle.sector_cache.specs.Disk.{Disk}
 use Rattle.board.specs.declared.event.Event.{Event}
 use Rattle.board.specs.declared.fault.BoardFault.{BoardFault}
 use Rattle.board.specs.declared.spec.SlotSpec.{SlotSpec}
-use Rattle.board.specs.Fault.{IsAccepted}
+use Rattle.trace.specs.declared.disks.Disks.{Disks}
 use Rattle.trace.specs.declared.fault.TraceFault.{TraceFault}
 use Rattle.replay.specs.declared.fault.ReplayFault.{ReplayFault}
 use Rattle.replay.specs.declared.fault.ReplayFault.TheVariants.{Read, Trace, Board, Run, Write, NoMemory}
 use Rattle.trace.specs.Printable.{IsPrintable}
 use Rattle.replay.specs.Limits.{IsSmallMemory}
-use Rattle.replay.specs.Replay.{AfterRun, HasTooMany, Plays, RefusesBoard, RefusesBoardOf, RefusesTrace, Replays}
+use Rattle.replay.specs.Replay.{AcceptsBy, AfterRun, HasTooMany, Plays, RefusesBoard, RefusesBoardOf, RefusesTrace, Replays}
 use Rattle.trace.specs.Reading.{IsTraceOf}
 use Rattle.trace.specs.Text.{Content, as_version, text}
 use Rattle.trace.specs.Version.{IsVersion}
@@ -27,7 +27,7 @@ pub record MayReplay {A : Type 0} (t : Content A) : Type 0 where
 pub as_version_may : {A : Type 0} (version : ℕ) (t : Content A) → IsVersion version → t.version ≤ version → MayReplay t → MayReplay (as_version version t)
 as_version_may version t one_of le h = record {
   fits = record {
-    range = record { cache = h.fits.range.cache; slots = h.fits.range.slots; events = h.fits.range.events };
+    range = record { disks = h.fits.range.disks; slots = h.fits.range.slots; events = h.fits.range.events };
     printable = fits_later version t one_of le h.fits.printable;
   };
   few = λ many. h.few (record { version = first_is_1 t.version version h.fits.printable.version le many.version; many = many.many });
@@ -45,13 +45,13 @@ is_trace t h = record {
 read_is : {A : Type 0} (t read : Content A) → Fits t → IsTraceOf (text t) read → read ≡ t
 read_is t read h is = sym (is.only t h.range h.printable refl)
 
--- two traces with the same slots, events and cache
-module _ {A I : Type 0} (disk : I → Disk) (old new : Option (List ℕ)) (before after : I) (v w cache : ℕ) (slots : List SlotSpec) (events : List (Event A)) where
+-- two traces with the same disks, slots and events
+module _ {A I : Type 0} (disk : I → Disk) (old new : Option (List ℕ)) (before after : I) (v w : ℕ) (disks : Disks) (slots : List SlotSpec) (events : List (Event A)) where
   abbrev one : Content A
-  one = record { version = v; cache = cache; slots = slots; events = events }
+  one = record { version = v; disks = disks; slots = slots; events = events }
 
   abbrev other : Content A
-  other = record { version = w; cache = cache; slots = slots; events = events }
+  other = record { version = w; disks = disks; slots = slots; events = events }
 
   plays : MayReplay one → MayReplay other → (outcome : Result (Unit {0}) ReplayFault) → Plays A disk (Some (text one)) old new before after outcome → Plays A disk (Some (text other)) old new before after outcome
   plays first second outcome p =
@@ -61,8 +61,8 @@ module _ {A I : Type 0} (disk : I → Disk) (old new : Option (List ℕ)) (befor
         read = is_trace other second.fits;
         few = second.few;
         small = subst (λ (t : Content A). All IsSmallMemory t.slots) is p.small;
-        accepted = subst (λ (t : Content A). IsAccepted (disk before).sector_count t.slots t.cache) is p.accepted;
-        ended = subst (λ (t : Content A). AfterRun disk t.slots t.events before after old new outcome) is p.ended;
+        accepted = subst (λ (t : Content A). AcceptsBy t.disks (disk before).sector_count t.slots) is p.accepted;
+        ended = subst (λ (t : Content A). AfterRun t.disks disk t.slots t.events before after old new outcome) is p.ended;
       }
 
   refused : MayReplay one → MayReplay other → (fault : BoardFault) → RefusesBoard A disk (Some (text one)) old new before after fault → RefusesBoard A disk (Some (text other)) old new before after fault

@@ -7,17 +7,20 @@ use Rattle.board.specs.declared.fault.BoardFault.{BoardFault}
 use Rattle.board.specs.declared.fault.BoardFault.TheVariants.{TooManySlots}
 use Rattle.board.specs.declared.reply.Record.{Record}
 use Rattle.board.specs.declared.spec.SlotSpec.{SlotSpec}
-use Rattle.board.specs.Fault.{IsAccepted, Refuses}
+use Rattle.board.specs.Fault.{AreGoodHosted, IsAccepted, Refuses, RefusesHosted}
 use Rattle.board.specs.Image.{Tells, bytes_of}
 use Rattle.board.specs.Line.{HadMemory, IsRun}
 use Rattle.board.specs.Slot.{BoardSlot, opened}
 use Rattle.board.specs.World.{extents_of, seen}
+use Rattle.trace.specs.declared.disks.Disks.{Disks}
+use Rattle.trace.specs.declared.disks.Disks.TheVariants.{Cached, Hosted}
 use Rattle.trace.specs.declared.fault.FaultKind.TheVariants as kind
 use Rattle.trace.specs.declared.fault.TraceFault.{TraceFault}
 use Rattle.replay.specs.declared.fault.ReplayFault.{ReplayFault}
 use Rattle.replay.specs.declared.fault.ReplayFault.TheVariants.{Read, Trace, Board, Run, Write, NoMemory}
 use Rattle.trace.specs.Sends.{AppendsFront}
 use Rattle.replay.specs.Limits.{IsSmallMemory, asked_of_board}
+use Rattle.replay.specs.Hosted.{RecordedHosted}
 use Rattle.replay.specs.OneSlot.{IsMachine}
 use Rattle.trace.specs.Reading.{IsTraceFault, IsTraceOf}
 use Rattle.trace.specs.Records.{records_text}
@@ -38,39 +41,54 @@ pub record Recorded {A I : Type 0} (disk : I → Disk) (slots : List SlotSpec) (
   pub ran : Tells (disk before) → RunsOn slots (disk before) (disk after) events records
   pub output : Output (records_text records)
 
+-- a run on the board of a trace, by where its disks are
+abbrev pub RecordedBy : {A I : Type 0} → Disks → (I → Disk) → List SlotSpec → List (Event A) → I → I → (List ℕ → Type 0) → Type 0
+RecordedBy (Cached capacity) disk slots events before after Output = Recorded disk slots events before after Output
+RecordedBy Hosted disk slots events before after Output = RecordedHosted slots events before after Output
+
 -- the same over the first of the events, which may be none or all of them
-pub record RecordedFront {A I : Type 0} (disk : I → Disk) (slots : List SlotSpec) (events : List (Event A)) (before after : I) (Output : List ℕ → Type 0) : Type 0 where
+pub record RecordedFront {A I : Type 0} (disks : Disks) (disk : I → Disk) (slots : List SlotSpec) (events : List (Event A)) (before after : I) (Output : List ℕ → Type 0) : Type 0 where
   pub done : ℕ
-  pub recorded : Recorded disk slots (take done events) before after Output
+  pub recorded : RecordedBy disks disk slots (take done events) before after Output
 
 -- the run stopped before one of the events
-pub record StopsAt {A I : Type 0} (disk : I → Disk) (slots : List SlotSpec) (events : List (Event A)) (before after : I) (done : ℕ) (Output : List ℕ → Type 0) : Type 0 where
+pub record StopsAt {A I : Type 0} (disks : Disks) (disk : I → Disk) (slots : List SlotSpec) (events : List (Event A)) (before after : I) (done : ℕ) (Output : List ℕ → Type 0) : Type 0 where
   pub some_left : done < length events
-  pub recorded : Recorded disk slots (take done events) before after Output
+  pub recorded : RecordedBy disks disk slots (take done events) before after Output
 
 -- What comes of the events, where there is a board for them: the text of the records is written, or
 -- nothing where there is no memory for it, or at most its front where the writer fails.
-abbrev pub AfterRun : {A I : Type 0} → (I → Disk) → List SlotSpec → List (Event A) → I → I → Option (List ℕ) → Option (List ℕ) → Result (Unit {0}) ReplayFault → Type 0
-AfterRun disk slots events before after old new (Ok _) = Recorded disk slots events before after (Appends old new)
-AfterRun disk slots events before after old new (Err (Run done)) = StopsAt disk slots events before after done (Appends old new)
-AfterRun disk slots events before after old new (Err Write) = RecordedFront disk slots events before after (AppendsFront old new)
-AfterRun disk slots events before after old new (Err NoMemory) = RecordedFront disk slots events before after (λ _. Keeps old new)
-AfterRun disk slots events before after old new (Err _) = ⊥
+abbrev pub AfterRun : {A I : Type 0} → Disks → (I → Disk) → List SlotSpec → List (Event A) → I → I → Option (List ℕ) → Option (List ℕ) → Result (Unit {0}) ReplayFault → Type 0
+AfterRun disks disk slots events before after old new (Ok _) = RecordedBy disks disk slots events before after (Appends old new)
+AfterRun disks disk slots events before after old new (Err (Run done)) = StopsAt disks disk slots events before after done (Appends old new)
+AfterRun disks disk slots events before after old new (Err Write) = RecordedFront disks disk slots events before after (AppendsFront old new)
+AfterRun disks disk slots events before after old new (Err NoMemory) = RecordedFront disks disk slots events before after (λ _. Keeps old new)
+AfterRun disks disk slots events before after old new (Err _) = ⊥
 
 -- what a trace has before its events
-abbrev pub front : (A : Type 0) → ℕ → ℕ → List SlotSpec → Content A
-front A version cache slots = record { version = version; cache = cache; slots = slots; events = [] }
+abbrev pub front : (A : Type 0) → ℕ → Disks → List SlotSpec → Content A
+front A version disks slots = record { version = version; disks = disks; slots = slots; events = [] }
 
 -- a trace of version 1 has at most sixteen slots, whatever a board may have
 pub record HasTooMany {A : Type 0} (trace : Content A) : Type 0 where
   pub version : trace.version ≡ 1
   pub many : 16 < length trace.slots
 
+-- which slots there may be on the board of a trace, and why it is refused, by where its disks are: over an image of so
+-- many sectors, or each on a disk of its own
+abbrev pub AcceptsBy : Disks → ℕ → List SlotSpec → Type 0
+AcceptsBy (Cached capacity) sectors slots = IsAccepted sectors slots capacity
+AcceptsBy Hosted sectors slots = AreGoodHosted slots
+
+abbrev pub RefusesBy : Disks → ℕ → List SlotSpec → BoardFault → Type 0
+RefusesBy (Cached capacity) sectors slots fault = Refuses sectors slots capacity fault
+RefusesBy Hosted sectors slots fault = RefusesHosted slots fault
+
 -- Why there is no board for a trace: it has too many slots for its version, before any of them is looked at; else it
 -- is the fault of the board that is asked for.
 abbrev pub RefusesBoardOf : {A : Type 0} → ℕ → Content A → BoardFault → Type 0
 RefusesBoardOf sectors trace fault =
-    (HasTooMany trace × (fault ≡ TooManySlots)) ⊎ ((¬ HasTooMany trace) × Refuses sectors (map asked_of_board trace.slots) trace.cache fault)
+    (HasTooMany trace × (fault ≡ TooManySlots)) ⊎ ((¬ HasTooMany trace) × RefusesBy trace.disks sectors (map asked_of_board trace.slots) fault)
 
 -- the trace was read, there is a board for it, and this came of its events
 pub record Plays {I : Type 0} (A : Type 0) (disk : I → Disk) (input old new : Option (List ℕ)) (before after : I) (outcome : Result (Unit {0}) ReplayFault) : Type 0 where
@@ -78,8 +96,8 @@ pub record Plays {I : Type 0} (A : Type 0) (disk : I → Disk) (input old new : 
   pub read : IfSome input (λ bytes. IsTraceOf bytes trace)
   pub few : ¬ HasTooMany trace
   pub small : All IsSmallMemory trace.slots
-  pub accepted : IsAccepted (disk before).sector_count trace.slots trace.cache
-  pub ended : AfterRun disk trace.slots trace.events before after old new outcome
+  pub accepted : AcceptsBy trace.disks (disk before).sector_count trace.slots
+  pub ended : AfterRun trace.disks disk trace.slots trace.events before after old new outcome
 
 -- nothing was written, and the image is as it was
 pub record IsUntouched {I : Type 0} (old new : Option (List ℕ)) (before after : I) : Type 0 where

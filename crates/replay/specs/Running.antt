@@ -1,14 +1,18 @@
 -- Running the events of lines that were judged, one after another.
-use Rattle.std.specs.Prelude.{◌≡◌, ◌≤◌, ℕ, List, [], ◌∷◌, Option, None, Some}
-use Rattle.guest_memory.specs.Memory.{Inside, part_of}
+use Rattle.std.specs.Prelude.{◌≡◌, ◌≤◌, ℕ, List, [], ◌∷◌, Option, None, Some, IsSomeAnd}
+use Rattle.guest_memory.specs.Memory.{Inside, Memory, part_of}
 use Rattle.std.specs.List.{slice_get}
 use Rattle.sector_cache.specs.Disk.{Disk}
 use Rattle.board.specs.declared.event.Event.{Event}
 use Rattle.board.specs.declared.reply.Reply.{Reply}
+use Rattle.board.specs.HostedLine.{TakesCall}
+use Rattle.board.specs.HostedLine.{words_of as words_of_state}
+use Rattle.board.specs.Hosting.{HostedState, verdict_in}
 use Rattle.board.specs.Image.{Tells}
 use Rattle.board.specs.Slot.{BoardSlot, interrupt_words}
 use Rattle.board.specs.World.{Answers, BoardState, extents_of, world_of}
 use Rattle.trace.specs.declared.read.said.Said.{Said}
+use Rattle.replay.specs.Hosted.{SendsHosted}
 use Rattle.replay.specs.Pieces.{SendsRun}
 use Rattle.trace.specs.Events.{TakesEvent}
 use Rattle.trace.specs.Judging.{said_len}
@@ -46,19 +50,55 @@ pub record AnswersSaid {A I : Type 0} (disk : I → Disk) (said : Said A) (old :
   pub fine : IsFine event
   pub answered : AnswersEvent disk old event reply out new
 
--- the event that was said was run, and the text of its record sent
-pub record RunsSaid {A I : Type 0} (disk : I → Disk) (said : Said A) (old new : BoardState I) (before after waiting waiting' : Option (List ℕ)) : Type 0 where
+-- the event that was said was run, of which this holds
+pub record RunsSaid {A : Type 0} (said : Said A) (Run : Event A → Type 0) : Type 0 where
   pub event : Event A
   pub fields : event_fields event ≡ said_fields said
   pub fine : IsFine event
-  pub run : SendsRun disk old new (event ∷ []) before after waiting waiting'
+  pub run : Run event
+
+-- an event is run, and the text of its record sent
+abbrev pub SendsOne : {A I : Type 0} → (I → Disk) → BoardState I → BoardState I → Option (List ℕ) → Option (List ℕ) → Option (List ℕ) → Option (List ℕ) → Event A → Type 0
+SendsOne disk old new before after waiting waiting' event = SendsRun disk old new (event ∷ []) before after waiting waiting'
+
+abbrev pub SendsOneHosted : {A : Type 0} → List HostedState → List HostedState → Option (List ℕ) → Option (List ℕ) → Option (List ℕ) → Option (List ℕ) → Event A → Type 0
+SendsOneHosted old new before after waiting waiting' event = SendsHosted old new (event ∷ []) before after waiting waiting'
 
 -- the bytes of the event that the first of these lines says have room
 abbrev pub HasRoomFor : Type 0 → List ℕ → ℕ → Type 0
 HasRoomFor A lines room = (said : Said A) (after : List ℕ) → TakesEvent lines said after → said_len said ≤ room
 
 -- that event was taken off and run
-pub record RunsLine (A : Type 0) {I : Type 0} (disk : I → Disk) (lines rest : List ℕ) (old new : BoardState I) (before after waiting waiting' : Option (List ℕ)) : Type 0 where
+pub record RunsLine (A : Type 0) (lines rest : List ℕ) (Run : Event A → Type 0) : Type 0 where
   pub said : Said A
   pub taken : TakesEvent lines said rest
-  pub ran : RunsSaid disk said old new before after waiting waiting'
+  pub ran : RunsSaid said Run
+
+-- ---- a board whose disks the host serves
+
+-- these bytes lie in the memory of a slot that is there
+pub record IsHostedPart (board : List HostedState) (slot addr len : ℕ) (part : List ℕ) : Type 0 where
+  pub memory : Memory
+  pub here : IsSomeAnd (slice_get board slot) (λ found. memory ≡ found.slot.memory)
+  pub inside : Inside memory addr len
+  pub is : part ≡ part_of memory addr len
+
+-- the interrupt words of a slot's windows, and zeros where there is no such slot
+abbrev pub words_at : Option HostedState → ℕ × ℕ
+words_at None = (0, 0)
+words_at (Some state) = words_of_state state
+
+-- it answered an event of a slot
+pub record HostsEvent {A : Type 0} (old : List HostedState) (event : Event A) (reply : Reply A) (out : List ℕ) (new : List HostedState) : Type 0 where
+  pub block : ℕ
+  pub console : ℕ
+  pub takes : TakesCall old event.slot event.what None reply block console [] out new
+
+-- it answered the event that was said
+pub record HostsSaid {A : Type 0} (said : Said A) (old : List HostedState) (reply : Reply A) (out : List ℕ) (new : List HostedState) : Type 0 where
+  pub event : Event A
+  pub slot : event.slot ≡ said.event.slot
+  pub fields : event_fields event ≡ said_fields said
+  pub fine : IsFine event
+  pub verdict : verdict_in event.what ≡ verdict_in said.event.what
+  pub answered : HostsEvent old event reply out new

@@ -1,26 +1,29 @@
 //! Replaying a trace: from its text to the text of its records.
 //!
-//! The text goes through two passes: `judge` looks at all of it, and `run_lines` then reads and runs line by line.
+//! The text goes through two passes: `judge` looks at all of it, and `run_lines`, of `running` or of
+//! `hosted`, then reads and runs line by line.
 
 ghost use Rattle.std.specs.Prelude.{◌≡◌, ◌≢◌, ℕ, All, List, Some, Err, IfErr, IfOk, OnOk, length, map};
 ghost use Rattle.board.specs.declared.event.Event.{Event};
 ghost use Rattle.board.specs.declared.spec.SlotSpec.{SlotSpec};
-ghost use Rattle.board.specs.Fault.{IsAccepted};
+ghost use Rattle.board.specs.Fault.{AreGoodHosted, IsAccepted, RefusesHosted};
+ghost use Rattle.board.specs.Hosting.{hosted_opened};
 ghost use Rattle.board.specs.Slot.{opened};
 ghost use Rattle.replay.specs.declared.fault.ReplayFault.{ReplayFault};
-ghost use Rattle.trace.specs.Judging.{AreEventLines, AreLinesOf, judgement, kept};
-ghost use Rattle.replay.specs.Limits.{IsSmallMemory};
+ghost use Rattle.trace.specs.declared.disks.Disks.{Disks};
+ghost use Rattle.trace.specs.Judging.{AreEventLines, AreLinesOf, IsJudged, judgement};
+ghost use Rattle.replay.specs.Limits.{IsSmallMemory, asked_of_board};
 ghost use Rattle.replay.specs.Replay.{AfterRun, EndsReading, HasTooMany, RefusesBoardOf, Replays, front};
 
 use crate::fault::ReplayFault;
 use crate::input::gather;
 use crate::limits::limit_memories;
-use crate::running::run_lines;
-use board::{Board, BoardFault, SlotSpec};
+use crate::{hosted, running};
+use board::{Board, BoardFault, HostedBoard, SlotSpec};
 use sector_cache::{Image, Refused};
 use std::alloc::Allocator;
 use std::io::{Read, Write};
-use trace::{Buffer, FaultKind, TraceFault, VERSION_1, judge};
+use trace::{Buffer, Disks, FaultKind, Judged, TraceFault, VERSION_1, judge};
 
 /// The fault where there is no memory for the input.
 const NO_ROOM: TraceFault = TraceFault {
@@ -64,22 +67,61 @@ pub fn replay_text<W: Write, I: Image, A: Allocator + Copy>(
     ensures read { result.1 ≢ Err ReplayFault.Read }
     ensures whole { (done : ℕ) → result.1 ≢ Err (ReplayFault.Run done) }
 {
-    let mut judged = match judge(alloc, text) {
+    let judged = match judge(alloc, text) {
         Ok(judged) => judged,
         Err(fault) => return (image, Err(ReplayFault::Trace(fault))),
     };
     let Ok(mut room) = vec![in alloc; 0; judged.longest] else {
         return (image, Err(ReplayFault::Trace(judged.no_room())));
     };
-    match board_of(
-        alloc,
-        judged.version,
-        judged.cache,
-        &mut judged.slots,
-        image,
-    ) {
-        Ok(board) => run_judged(alloc, board, judged.events, room.as_mut_slice(), writer),
+    match judged.disks {
+        Disks::Cached { capacity } => {
+            replay_over(alloc, judged, capacity, room.as_mut_slice(), writer, image)
+        }
+        Disks::Hosted => replay_hosted(alloc, judged, room.as_mut_slice(), writer, image),
+    }
+}
+
+// The same of a text that was judged, whose disks are on the image.
+fn replay_over<W: Write, I: Image, A: Allocator + Copy>(
+    alloc: A,
+    mut judged: Judged<'_, A>,
+    capacity: u32,
+    room: &mut [u8],
+    writer: &mut W,
+    image: I,
+) -> (I, Result<(), ReplayFault>)
+    requires disks { judged.disks ≡ Disks.Cached capacity }
+    requires room { AreEventLines A (length room.old) judged.events.now }
+    ensures comes_to { (text : List ℕ) → IsJudged A text (judgement judged.entry) →
+        Replays A I.disk (Some text) (W.contents writer.old) (W.contents writer.new) image result.0 result.1 }
+    ensures read { result.1 ≢ Err ReplayFault.Read }
+    ensures whole { (done : ℕ) → result.1 ≢ Err (ReplayFault.Run done) }
+{
+    match board_of(alloc, judged.version, capacity, &mut judged.slots, image) {
+        Ok(board) => run_judged(alloc, board, judged.events, room, writer),
         Err(Refused { image, why }) => (image, Err(ReplayFault::Board(why))),
+    }
+}
+
+// The same of one whose disks the host serves. The image has no part in it.
+fn replay_hosted<W: Write, I: Image, A: Allocator + Copy>(
+    alloc: A,
+    mut judged: Judged<'_, A>,
+    room: &mut [u8],
+    writer: &mut W,
+    image: I,
+) -> (I, Result<(), ReplayFault>)
+    requires disks { judged.disks ≡ Disks.Hosted }
+    requires room { AreEventLines A (length room.old) judged.events.now }
+    ensures comes_to { (text : List ℕ) → IsJudged A text (judgement judged.entry) →
+        Replays A I.disk (Some text) (W.contents writer.old) (W.contents writer.new) image result.0 result.1 }
+    ensures read { result.1 ≢ Err ReplayFault.Read }
+    ensures whole { (done : ℕ) → result.1 ≢ Err (ReplayFault.Run done) }
+{
+    match hosted_board_of(alloc, &mut judged.slots) {
+        Ok(board) => run_hosted(alloc, board, judged.events, room, writer, image),
+        Err(why) => (image, Err(ReplayFault::Board(why))),
     }
 }
 
@@ -87,15 +129,15 @@ pub fn replay_text<W: Write, I: Image, A: Allocator + Copy>(
 fn board_of<I: Image, A: Allocator + Copy>(
     alloc: A,
     version: u8,
-    cache: u32,
+    capacity: u32,
     slots: &mut [SlotSpec],
     image: I,
 ) -> Result<Board<I, A>, Refused<I, BoardFault>>
     ensures made { IfOk result (λ board. board ≡ record { slots = map opened slots.old; image = image }) }
-    ensures few { OnOk result (¬ HasTooMany (front A version cache slots.old)) }
+    ensures few { OnOk result (¬ HasTooMany (front A version (Disks.Cached capacity) slots.old)) }
     ensures small { OnOk result (All IsSmallMemory slots.old) }
-    ensures accepted { OnOk result (IsAccepted (I.disk image).sector_count slots.old cache) }
-    ensures fault { IfErr result (λ refused. RefusesBoardOf (I.disk image).sector_count (front A version cache slots.old) refused.why) }
+    ensures accepted { OnOk result (IsAccepted (I.disk image).sector_count slots.old capacity) }
+    ensures fault { IfErr result (λ refused. RefusesBoardOf (I.disk image).sector_count (front A version (Disks.Cached capacity) slots.old) refused.why) }
     ensures returned { IfErr result (λ refused. refused.image ≡ image) }
 {
     if version == VERSION_1 && slots.len() > MOST_SLOTS_IN_VERSION_1 {
@@ -103,7 +145,21 @@ fn board_of<I: Image, A: Allocator + Copy>(
         return Err(Refused { image, why });
     }
     limit_memories(slots);
-    Board::new(alloc, slots, image, cache)
+    Board::new(alloc, slots, image, capacity)
+}
+
+// The board of a trace whose disks the host serves, with these slots.
+fn hosted_board_of<A: Allocator + Copy>(
+    alloc: A,
+    slots: &mut [SlotSpec],
+) -> Result<HostedBoard<A>, BoardFault>
+    ensures made { IfOk result (λ board. board ≡ map hosted_opened slots.old) }
+    ensures small { OnOk result (All IsSmallMemory slots.old) }
+    ensures accepted { OnOk result (AreGoodHosted slots.old) }
+    ensures fault { IfErr result (RefusesHosted (map asked_of_board slots.old)) }
+{
+    limit_memories(slots);
+    HostedBoard::new(alloc, slots)
 }
 
 // Runs the events of the lines on their board, which is new, and writes the text of their records.
@@ -115,14 +171,15 @@ fn run_judged<W: Write, I: Image, A: Allocator + Copy>(
     writer: &mut W,
 ) -> (I, Result<(), ReplayFault>)
     requires { AreEventLines A (length room.old) lines.now }
-    ensures ended { (slots : List SlotSpec) (events : List (Event A)) → board.slots ≡ map opened slots → AreLinesOf events lines.now →
-        AfterRun I.disk slots events board.image result.0 (W.contents writer.old) (W.contents writer.new) result.1 }
+    ensures ended { (capacity : ℕ) (slots : List SlotSpec) (events : List (Event A)) →
+        board.slots ≡ map opened slots → AreLinesOf events lines.now →
+        AfterRun (Disks.Cached capacity) I.disk slots events board.image result.0 (W.contents writer.old) (W.contents writer.new) result.1 }
     ensures whole { (done : ℕ) → result.1 ≢ Err (ReplayFault.Run done) }
 {
     let Ok(mut text) = Buffer::with_room(alloc, TEXT_ROOM) else {
         return (board.into_image(), Err(ReplayFault::NoMemory));
     };
-    run_lines(alloc, &mut board, lines, room, &mut text, writer);
+    running::run_lines(alloc, &mut board, lines, room, &mut text, writer);
     text.flush(writer);
     let outcome = if text.is_broken() {
         Err(ReplayFault::Write)
@@ -130,4 +187,31 @@ fn run_judged<W: Write, I: Image, A: Allocator + Copy>(
         Ok(())
     };
     (board.into_image(), outcome)
+}
+
+// The same on a board whose disks the host serves. The image is handed back as it was.
+fn run_hosted<W: Write, I: Image, A: Allocator + Copy>(
+    alloc: A,
+    mut board: HostedBoard<A>,
+    lines: &[u8],
+    room: &mut [u8],
+    writer: &mut W,
+    image: I,
+) -> (I, Result<(), ReplayFault>)
+    requires { AreEventLines A (length room.old) lines.now }
+    ensures ended { (slots : List SlotSpec) (events : List (Event A)) → board ≡ map hosted_opened slots → AreLinesOf events lines.now →
+        AfterRun Disks.Hosted I.disk slots events image result.0 (W.contents writer.old) (W.contents writer.new) result.1 }
+    ensures whole { (done : ℕ) → result.1 ≢ Err (ReplayFault.Run done) }
+{
+    let Ok(mut text) = Buffer::with_room(alloc, TEXT_ROOM) else {
+        return (image, Err(ReplayFault::NoMemory));
+    };
+    hosted::run_lines(alloc, &mut board, lines, room, &mut text, writer);
+    text.flush(writer);
+    let outcome = if text.is_broken() {
+        Err(ReplayFault::Write)
+    } else {
+        Ok(())
+    };
+    (image, outcome)
 }

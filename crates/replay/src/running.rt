@@ -10,7 +10,7 @@ ghost use Rattle.board.specs.declared.event.EventKind.{EventKind};
 ghost use Rattle.trace.specs.Events.{BeginsWithEvent};
 ghost use Rattle.trace.specs.Judging.{AreEventLines, AreLinesOf, said_len};
 ghost use Rattle.replay.specs.Pieces.{SendsRun};
-ghost use Rattle.replay.specs.Running.{AnswersEvent, AnswersSaid, HasRoomFor, IsPart, RunsLine, RunsSaid, words_of};
+ghost use Rattle.replay.specs.Running.{AnswersEvent, AnswersSaid, HasRoomFor, IsPart, RunsLine, RunsSaid, SendsOne, words_of};
 ghost use Rattle.trace.specs.Said.{IsFineSaid};
 ghost use Rattle.trace.specs.Sends.{waiting};
 ghost use Rattle.hexadecimal.specs.Fields.{IsBytesField};
@@ -56,7 +56,8 @@ fn run_line<'a, W: Write, I: Image, A: Allocator + Copy>(
     requires begins { BeginsWithEvent lines.now }
     requires room { HasRoomFor A lines.now (length room.old) }
     requires empty { output.old.items ≡ [] }
-    ensures ran { RunsLine A I.disk lines.now result.now board.old board.new (W.contents writer.old) (W.contents writer.new) (waiting text.old) (waiting text.new) }
+    ensures ran { RunsLine A lines.now result.now
+        (SendsOne I.disk board.old board.new (W.contents writer.old) (W.contents writer.new) (waiting text.old) (waiting text.new)) }
     ensures empty { output.new.items ≡ [] }
 {
     let (said, after) = take_event(alloc, lines);
@@ -77,13 +78,14 @@ fn run_event<W: Write, I: Image, A: Allocator + Copy>(
     requires fine { IsFineSaid said.now }
     requires room { said_len said.now ≤ length room.old }
     requires empty { output.old.items ≡ [] }
-    ensures sent { RunsSaid I.disk said.now board.old board.new (W.contents writer.old) (W.contents writer.new) (waiting text.old) (waiting text.new) }
+    ensures sent { RunsSaid said.now
+        (SendsOne I.disk board.old board.new (W.contents writer.old) (W.contents writer.new) (waiting text.old) (waiting text.new)) }
     ensures empty { output.new.items ≡ [] }
 {
     let slot = said.event.slot;
     if let EventKind::MemRead { addr, len } = said.event.what {
         if let Some(part) = part_of(board, slot, addr, len) {
-            put_read(text, writer, slot, part, words(board, slot));
+            put_read(text, writer, slot, part, words(board, slot), b'\n');
             return;
         }
     }
@@ -140,8 +142,8 @@ fn answer<I: Image, A: Allocator + Copy>(
     }
 }
 
-// Writes the bytes that a field spells to the front of the room, and answers that front.
-fn bytes_in<'a>(room: &'a mut [u8], field: &[u8]) -> &'a [u8]
+/// Writes the bytes that a field spells to the front of the room, and answers that front.
+pub(crate) fn bytes_in<'a>(room: &'a mut [u8], field: &[u8]) -> &'a [u8]
     requires spelled { Says ByBytes field.now }
     requires room { length field.now / 2 ≤ length room.old }
     ensures { IsBytesField field.now result.now }

@@ -4,6 +4,7 @@ use Rattle.std.specs.Io.KnownBytes.{Keeps}
 use Rattle.std.proofs.KnownBytes.{Appends-kept}
 use Rattle.sector_cache.specs.Disk.{Disk}
 use Rattle.calls.specs.Replayed.{HasRun}
+use Rattle.calls.proofs.Running.{ran_more}
 use Rattle.show.specs.Replaying.{ShowsRun}
 use Rattle.show.specs.Woven.{records_of}
 use Rattle.show.proofs.Weaving.{then_more}
@@ -13,9 +14,9 @@ shown : {A : Type 0} (input old first last new : Option (List ℕ)) (before afte
 shown input old first last new before after p run q = record {
   trace = run.trace;
   read = run.read;
-  records = run.records;
-  ran = run.ran;
-  output = Appends-kept old last new _ (then_more old first last _ p run.output) q;
+  ran =
+      ran_more run.trace.disks run.trace.slots run.trace.events before after _ _
+      (λ text out. Appends-kept old last new text (then_more old first last text p out) q) run.ran;
 }
 
 pub shows : {A T E : Type 0} (outcome : Result T E) (text : List ℕ) (old new first last : Option (List ℕ)) (before after : Disk) → Keeps (records_of false old) first

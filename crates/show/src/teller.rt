@@ -6,7 +6,7 @@ use board::Board;
 use replay::limit_memories;
 use sector_cache::MemoryImage;
 use std::alloc::Global;
-use trace::{event_of_line, read_trace};
+use trace::{Disks, event_of_line, read_trace};
 
 /// What was said last of the events of a trace, and those that are left.
 #[derive(Drop)]
@@ -77,7 +77,7 @@ impl Tell for Teller<'_> {
     }
 }
 
-// A watcher on the board of what stands before a trace's events, where there is one. It says that board.
+// A watcher on the board of what stands before a trace's events, where there is one over the image. It says that board.
 fn watcher_of(
     alloc: Global,
     front: &[u8],
@@ -86,7 +86,10 @@ fn watcher_of(
 ) -> Option<Watcher> {
     let mut trace = read_trace(alloc, front).ok()?;
     limit_memories(&mut trace.slots);
-    let board = Board::new(alloc, &trace.slots, before, trace.cache).ok()?;
+    let Disks::Cached { capacity } = trace.disks else {
+        return None;
+    };
+    let board = Board::new(alloc, &trace.slots, before, capacity).ok()?;
     let watcher = Watcher::new(alloc, board).ok()?;
     watcher.say_board(&trace, text);
     Some(watcher)

@@ -13,7 +13,7 @@ use mmio_window::Queue;
 use negotiation::{Features, Flags};
 use sector_cache::MemoryImage;
 use std::alloc::{AllocError, Global};
-use trace::Trace;
+use trace::{Disks, Trace};
 
 /// The offset of QueueNotify (4.2.2).
 const QUEUE_NOTIFY: u16 = 0x050;
@@ -60,9 +60,14 @@ impl Watcher {
     pub fn say_board(&self, trace: &Trace, text: &mut Text) {
         text.say("1 version ");
         text.count(u64::from(trace.version));
-        text.say("\n2 cache of ");
-        text.counted(u64::from(trace.cache), "sector");
-        text.say("\n");
+        match trace.disks {
+            Disks::Cached { capacity } => {
+                text.say("\n2 cache of ");
+                text.counted(u64::from(capacity), "sector");
+                text.say("\n");
+            }
+            Disks::Hosted => text.say("\n2 disks that the host serves\n"),
+        }
         for (number, slot) in trace.slots.iter().enumerate() {
             say_slot(text, number as u64, slot);
         }
@@ -153,6 +158,8 @@ impl Watcher {
             }
             Reply::BadRange => head.say(" -> outside memory"),
             Reply::BadState => head.say(" -> no such snapshot"),
+            Reply::Busy => head.say(" -> busy"),
+            Reply::Idle => head.say(" -> nothing in flight"),
             Reply::NoMemory => head.say(" -> no memory"),
             Reply::BadSlot => head.say(" -> no such guest"),
             _ => {}

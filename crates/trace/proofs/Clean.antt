@@ -6,13 +6,13 @@ use Rattle.std.proofs.lemmas.List.Elements.{All-get_or}
 use Rattle.trace.specs.declared.fault.FaultKind.{FaultKind}
 use Rattle.trace.specs.declared.fault.FaultKind.TheVariants as kind
 use Rattle.trace.specs.declared.word.Word.{Word}
-use Rattle.trace.specs.declared.word.Word.TheVariants.{Cache, Slot}
+use Rattle.trace.specs.declared.word.Word.TheVariants.{Slot}
 use Rattle.trace.specs.Cuts.{lines_of}
-use Rattle.trace.specs.Faults.{AllSay, AreAsMany, HasWord, IsEnded, IsHeader, IsOfVersion, Passes, first_field, line_at, other_fields}
+use Rattle.trace.specs.Faults.{AllSay, AreAsMany, HasWord, IsEnded, IsHeader, IsOfVersion, MayStand, Passes, first_field, line_at, other_fields}
 use Rattle.trace.specs.Text.{header}
 use Rattle.trace.specs.Version.{IsVersion}
 use Rattle.trace.specs.Words.{spelled, shapes}
-use Rattle.trace.proofs.Entries.{Entered, EnteredEvent, same_word}
+use Rattle.trace.proofs.Entries.{Entered, EnteredEvent, EnteredSecond, same_word}
 use Rattle.trace.proofs.Refused.{may_move}
 
 -- a first line names one version
@@ -70,8 +70,8 @@ module _ (version : ℕ) (text : List ℕ) (k : ℕ) (g : Good version text k) w
 abbrev pub IsSlotLine : ℕ → List ℕ → Type 0
 IsSlotLine version l = Entered version l Slot
 
--- a text whose first lines are a header, a cache, slots and events, before at least one more part
-module _ (version : ℕ) (text k : List ℕ) (S E more : List (List ℕ)) (is : lines_of text ≡ (header version ∷ k ∷ (S ++ E)) ++ more) (some : 0 < length more) (one_of : IsVersion version) (cache : Entered version k Cache) (slots : All (IsSlotLine version) S) (events : All (EnteredEvent version) E) where
+-- a text whose first lines are a header, where its disks are, slots and events, before at least one more part
+module _ (version : ℕ) (text k : List ℕ) (S E more : List (List ℕ)) (is : lines_of text ≡ (header version ∷ k ∷ (S ++ E)) ++ more) (some : 0 < length more) (one_of : IsVersion version) (second : EnteredSecond version k) (slots : All (IsSlotLine version) S) (events : All (EnteredEvent version) E) where
   total : length (lines_of text) ≡ 2 + (length S + length E) + length more
   total = ap length is ∙ omega (arith, length-append (header version ∷ k ∷ (S ++ E)) more, length-append S E)
 
@@ -115,14 +115,14 @@ module _ (version : ℕ) (text k : List ℕ) (S E more : List (List ℕ)) (is : 
                   }
               | inr ne ↦
                   let two : j ≡ 2 = omega arith in
-                  let e : Entered version (line_at text j) Cache = subst (λ (l : List ℕ). Entered version l Cache) (sym (ap (line_at text) two ∙ at_two)) cache in
+                  let e : EnteredSecond version (line_at text j) = subst (EnteredSecond version) (sym (ap (line_at text) two ∙ at_two)) second in
                   record {
                     ended = end;
                     names = at_one;
                     first = λ one. absurd (omega arith);
-                    word = λ _. record { word = Cache; may = two; of_version = tt; first = first_is version (line_at text j) Cache e };
+                    word = λ _. record { word = e.word; may = subst (λ (n : ℕ). MayStand n e.word) (sym two) e.may; of_version = e.of_version; first = first_is version (line_at text j) e.word e.entry };
                     order = λ _ i low high. absurd (omega arith);
-                    entry = λ _. (Cache, e);
+                    entry = λ _. (e.word, e.entry);
                   }
             ]
         | inr late ↦

@@ -1,23 +1,27 @@
--- The line of a slot, of an event and of the cache: its word, and fields that say what they have to.
+-- The line of a slot, of an event and of the disks: its word, and fields that say what they have to.
 use Rattle.std.proofs.Common.{◌≡◌, ◌≢◌, ◌==◌, ℕ, ◌+◌, ◌*◌, ◌^◌, ◌<◌, Bool, true, false, cond, eqb, if◌then◌else◌, length, List, [], ◌∷◌, get_or, map, refl, sym, ap, subst, ◌∙◌, arith, MatchBool, inl, inr}
 use Rattle.std.specs.Prelude.{⊤}
+use Rattle.block_device.specs.declared.operation.Verdict.{Verdict}
+use Rattle.block_device.specs.declared.operation.Verdict.TheVariants.{Done, Failed}
 use Rattle.mmio_window.specs.declared.device_kind.DeviceKind.{DeviceKind}
 use Rattle.mmio_window.specs.declared.device_kind.DeviceKind.TheVariants.{Block, Console}
 use Rattle.board.specs.declared.event.Event.{Event}
 use Rattle.board.specs.declared.event.EventKind.{EventKind}
 use Rattle.board.specs.declared.event.EventKind.TheVariants as what
 use Rattle.board.specs.declared.spec.SlotSpec.{SlotSpec}
+use Rattle.trace.specs.declared.disks.Disks.{Disks}
+use Rattle.trace.specs.declared.disks.Disks.TheVariants as disks
 use Rattle.trace.specs.declared.fault.FaultKind.{FaultKind}
 use Rattle.trace.specs.declared.table.Field.TheVariants.{Identity}
 use Rattle.trace.specs.declared.word.Word.{Word}
-use Rattle.trace.specs.declared.word.Word.TheVariants.{Cache, Slot, Read, Write, MemRead, MemWrite, Input, Resize, Restore}
+use Rattle.trace.specs.declared.word.Word.TheVariants.{Cache, Hosted, Slot, Read, Write, MemRead, MemWrite, Input, Resize, Restore, Complete}
 use Rattle.trace.specs.Cuts.{fields_of}
 use Rattle.trace.specs.Faults.{AllSay, AreAsMany, MayStand, order, fault_of}
-use Rattle.trace.specs.Printable.{KindInRange, IsPrintableKind, SlotInRange}
+use Rattle.trace.specs.Printable.{DisksInRange, KindInRange, IsPrintableKind, SlotInRange}
 use Rattle.trace.specs.Refusals.{IsFine}
 use Rattle.hexadecimal.specs.Spelling.{num, fixed, bytes}
-use Rattle.trace.specs.Spelling.{window, mode, width_digit}
-use Rattle.trace.specs.Text.{line, cache_fields, cache_line, slot_fields, slot_line, event_fields, event_line, what_fields, word_for}
+use Rattle.trace.specs.Spelling.{window, mode, verdict, width_digit}
+use Rattle.trace.specs.Text.{line, disks_fields, disks_line, disks_word, slot_fields, slot_line, event_fields, event_line, what_fields, word_for}
 use Rattle.trace.specs.Version.{since_version_2}
 use Rattle.hexadecimal.specs.Fields.{IsNum, IsFixed}
 use Rattle.trace.specs.Words.{Shape, Value, Says, shape_of, shapes, spelled, width_among, IsWidth, IsWordOf}
@@ -30,10 +34,11 @@ abbrev key : List ℕ → ℕ
 key xs = get_or xs 0 0 * 1000 + get_or xs 1 0
 
 abbrev word_at : ℕ → Word
-word_at n = cond (eqb n 99097) Cache (cond (eqb n 115108) Slot (cond (eqb n 114000) Read (cond (eqb n 119000) Write (cond (eqb n 109114) MemRead (cond (eqb n 109119) MemWrite (cond (eqb n 105110) Input (cond (eqb n 115116) Restore Resize)))))))
+word_at n = cond (eqb n 99097) Cache (cond (eqb n 115108) Slot (cond (eqb n 114000) Read (cond (eqb n 119000) Write (cond (eqb n 109114) MemRead (cond (eqb n 109119) MemWrite (cond (eqb n 105110) Input (cond (eqb n 115116) Restore (cond (eqb n 104111) Hosted (cond (eqb n 105111) Complete Resize)))))))))
 
 found : (w : Word) → word_at (key (spelled w)) ≡ w
 found Cache = refl
+found Hosted = refl
 found Slot = refl
 found Read = refl
 found Write = refl
@@ -42,6 +47,7 @@ found MemWrite = refl
 found Input = refl
 found Resize = refl
 found Restore = refl
+found Complete = refl
 
 -- a spelling is one word's
 pub same_word : (v w : Word) → spelled v ≡ spelled w → v ≡ w
@@ -49,6 +55,7 @@ same_word v w e = sym (found v) ∙ ap (λ (xs : List ℕ). word_at (key xs)) e 
 
 pub above_word : (w : Word) → Above 32 (spelled w)
 above_word Cache = above_tested 32 (spelled Cache) refl
+above_word Hosted = above_tested 32 (spelled Hosted) refl
 above_word Slot = above_tested 32 (spelled Slot) refl
 above_word Read = above_tested 32 (spelled Read) refl
 above_word Write = above_tested 32 (spelled Write) refl
@@ -57,6 +64,7 @@ above_word MemWrite = above_tested 32 (spelled MemWrite) refl
 above_word Input = above_tested 32 (spelled Input) refl
 above_word Resize = above_tested 32 (spelled Resize) refl
 above_word Restore = above_tested 32 (spelled Restore) refl
+above_word Complete = above_tested 32 (spelled Complete) refl
 
 -- ---- fields
 
@@ -103,6 +111,10 @@ above_mode : (b : Bool) → Above 32 (mode b)
 above_mode false = above_tested 32 (mode false) refl
 above_mode true = above_tested 32 (mode true) refl
 
+above_verdict : (came : Verdict) → Above 32 (verdict came)
+above_verdict Done = above_tested 32 (verdict Done) refl
+above_verdict Failed = above_tested 32 (verdict Failed) refl
+
 number : (bits n : ℕ) → n < 2 ^ bits → (m : ℕ) × IsNum bits (num n) m
 number bits n lt = (n, record { fits = lt; spelled = refl })
 
@@ -114,9 +126,27 @@ fits_digits width value wide within =
       | inr more ↦ elim more [ inl two ↦ rw two (rw two at within) | inr four ↦ rw four (rw four at within) ]
     ]
 
-pub entered_cache : (version n : ℕ) → n < 2 ^ 32 → Entered version (cache_line n) Cache
-unfolding cache_line
-entered_cache version n lt = entered version (cache_line n) Cache (num n ∷ []) refl refl (number 32 n lt, tt) (above_num n, tt)
+-- the second line
+pub record EnteredSecond (version : ℕ) (l : List ℕ) : Type 0 where
+  pub word : Word
+  pub may : MayStand 2 word
+  pub of_version : IsWordOf version word
+  pub entry : Entered version l word
+
+pub entered_disks : (version : ℕ) (d : Disks) → DisksInRange d → IsWordOf version (disks_word d) → EnteredSecond version (disks_line d)
+unfolding disks_line
+entered_disks version (disks.Cached n) lt of = record {
+  word = Cache;
+  may = refl;
+  of_version = of;
+  entry = entered version (disks_line (disks.Cached n)) Cache (num n ∷ []) refl refl (number 32 n lt, tt) (above_num n, tt);
+}
+entered_disks version disks.Hosted lt of = record {
+  word = Hosted;
+  may = refl;
+  of_version = of;
+  entry = entered version (disks_line disks.Hosted) Hosted [] refl refl tt tt;
+}
 
 -- the identity, where a version has it
 abbrev last_field : ℕ → SlotSpec → List (List ℕ)
@@ -243,6 +273,17 @@ entered_what version slot (what.Restore bs) lt range fine of =
           (number 8 slot lt, ((bs, record { fits = range.each; spelled = refl }), tt))
           (above_num slot, (bytes_digits bs range.each, tt));
     }
+entered_what version slot (what.Complete came) lt range fine of =
+    record {
+      word = Complete;
+      may = omega arith;
+      of_version = of;
+      other = λ e. absurd cc;
+      entry =
+          entered version _ Complete (num slot ∷ verdict came ∷ []) refl refl
+          (number 8 slot lt, ((came, refl), tt))
+          (above_num slot, (above_verdict came, tt));
+    }
 
 pub entered_event : {A : Type 0} (version : ℕ) (e : Event A) → IsFine e → IsWordOf version (word_for e.what) → EnteredEvent version (event_line e)
 unfolding event_line
@@ -250,9 +291,10 @@ entered_event version e h of = entered_what version e.slot e.what h.fits.slot h.
 
 -- ---- the fields of a line that was made of them
 
-pub cut_cache : (n : ℕ) → fields_of (cache_line n) ≡ cache_fields n
-unfolding cache_line
-cut_cache n = fields_of-line (spelled Cache) (num n ∷ []) (above_word Cache, (above_num n, tt))
+pub cut_disks : (d : Disks) → fields_of (disks_line d) ≡ disks_fields d
+unfolding disks_line
+cut_disks (disks.Cached n) = fields_of-line (spelled Cache) (num n ∷ []) (above_word Cache, (above_num n, tt))
+cut_disks disks.Hosted = fields_of-line (spelled Hosted) [] (above_word Hosted, tt)
 
 pub cut_slot : (version : ℕ) (s : SlotSpec) → SlotInRange s → fields_of (slot_line version s) ≡ slot_fields version s
 unfolding slot_line
@@ -275,6 +317,8 @@ cut_what slot (what.Resize cols rows) range fine =
     fields_of-line (spelled Resize) (num slot ∷ num cols ∷ num rows ∷ []) (above_word Resize, (above_num slot, (above_num cols, (above_num rows, tt))))
 cut_what slot (what.Restore bs) range fine =
     fields_of-line (spelled Restore) (num slot ∷ bytes bs ∷ []) (above_word Restore, (above_num slot, (bytes_digits bs range.each, tt)))
+cut_what slot (what.Complete came) range fine =
+    fields_of-line (spelled Complete) (num slot ∷ verdict came ∷ []) (above_word Complete, (above_num slot, (above_verdict came, tt)))
 
 pub cut_event : {A : Type 0} (e : Event A) → IsFine e → fields_of (event_line e) ≡ event_fields e
 unfolding event_line

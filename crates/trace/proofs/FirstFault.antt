@@ -12,7 +12,7 @@ use Rattle.trace.specs.Faults.{AllSay, IsAtFault, fault_of, first_field, order, 
 use Rattle.trace.specs.declared.table.Field.{Field}
 use Rattle.trace.specs.declared.word.Word.{Word}
 use Rattle.trace.specs.Cuts.{fields_of}
-use Rattle.trace.specs.Words.{AllRight, AreRight, Says, Shape, Num, Offset, Value, Window, Width, Mode, Bytes, Identity, fields_in, shape_of, shapes, spelled, width_among}
+use Rattle.trace.specs.Words.{AllRight, AreRight, Says, Shape, Num, Offset, Value, Window, Width, Mode, Verdict, Bytes, Identity, fields_in, shape_of, shapes, spelled, width_among}
 use Rattle.trace.proofs.Entries.{one_way, same_word}
 use Rattle.trace.proofs.Unique.{same_kind}
 
@@ -150,6 +150,7 @@ one_right (Value width) field n c b = n
 one_right Window field n c b = c
 one_right Width field n c b = c
 one_right Mode field n c b = c
+one_right Verdict field n c b = c
 one_right Bytes field n c b = b
 one_right Identity field n c b = b
 

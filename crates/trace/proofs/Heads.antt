@@ -3,16 +3,14 @@ use Rattle.std.proofs.Common.{◌≡◌, ◌≢◌, ℕ, List, [], ◌∷◌, �
 use Rattle.std.proofs.lemmas.List.{append_assoc, append-nil}
 use Rattle.trace.specs.declared.fault.FaultKind.{FaultKind}
 use Rattle.trace.specs.declared.fault.FaultKind.TheVariants as kind
-use Rattle.trace.specs.declared.word.Word.TheVariants.{Cache}
 use Rattle.trace.specs.Cuts.{lines_of}
 use Rattle.trace.specs.Faults.{IsCleanBefore, IsEnded, IsFault, IsHeader, IsOfVersion, Passes, first_field, line_at, other_fields}
-use Rattle.trace.specs.Refusals.{RefusesCache, RefusesFields, RefusesHead, RefusesSecond}
+use Rattle.trace.specs.Refusals.{RefusesDisks, RefusesFields, RefusesHead, RefusesSecond}
 use Rattle.trace.specs.Text.{header, joined}
 use Rattle.trace.specs.Version.{IsVersion}
 use Rattle.trace.specs.Words.{spelled}
 use Rattle.trace.proofs.Clean.{Good, good_passes}
 use Rattle.trace.proofs.Faulty.{cut_fault, fields_fault, header_fault, word_fault}
-use Rattle.trace.proofs.Refused.{only_cache}
 use Rattle.trace.proofs.Signs.{above_header, lines_of-joined}
 use Rattle.trace.proofs.Sofar.{some_lines}
 
@@ -58,23 +56,23 @@ module _ (version : ℕ) (text rest : List ℕ) (one_of : IsVersion version) (wh
   at_two : line_at text 2 ≡ get_or (lines_of rest) 0 []
   at_two = ap (λ (ls : List (List ℕ)). get_or ls 1 []) headed
 
-  fields_of_cache : (fault : FaultKind) → RefusesCache rest fault → fault ≢ kind.NoMemory → IsFault text 2 fault
-  fields_of_cache fault h known =
+  fields_of_second : (fault : FaultKind) → RefusesDisks version rest fault → fault ≢ kind.NoMemory → IsFault text 2 fault
+  fields_of_second fault h known =
       let here : line_at text 2 ≡ h.line = at_two ∙ ap (λ (ls : List (List ℕ)). get_or ls 0 []) h.cut in
       let end : IsEnded text 2 = omega (arith, ap length headed, ap length h.cut, some_lines h.rest) in
-      fields_fault text 2 (omega arith) head_clean end version names_it Cache refl tt (ap first_field here ∙ h.first) (λ _ _ j low high. absurd (omega arith)) fault
-      (subst (λ (l : List ℕ). RefusesFields version Cache (other_fields l) fault) (sym here) (h.refused version)) known
+      fields_fault text 2 (omega arith) head_clean end version names_it h.word h.may h.of_version (ap first_field here ∙ h.first) (λ _ _ j low high. absurd (omega arith)) fault
+      (subst (λ (l : List ℕ). RefusesFields version h.word (other_fields l) fault) (sym here) h.refused) known
 
-  pub second_fault : (fault : FaultKind) → RefusesSecond rest fault → fault ≢ kind.NoMemory → IsFault text 2 fault
+  pub second_fault : (fault : FaultKind) → RefusesSecond version rest fault → fault ≢ kind.NoMemory → IsFault text 2 fault
   second_fault kind.Cut h known = cut_fault text 2 (omega arith) head_clean (inl (omega arith)) (λ end. omega (arith, ap length headed, ap length h))
   second_fault kind.Word h known =
       let here : line_at text 2 ≡ h.line = at_two ∙ ap (λ (ls : List (List ℕ)). get_or ls 0 []) h.cut in
       let end : IsEnded text 2 = omega (arith, ap length headed, ap length h.cut, some_lines h.rest) in
-      word_fault text 2 (omega arith) head_clean end version names_it (λ w may of is. h.other (sym (ap first_field here) ∙ is ∙ ap spelled (only_cache w may)))
-  second_fault kind.Header h known = fields_of_cache kind.Header h known
-  second_fault kind.Order h known = fields_of_cache kind.Order h known
-  second_fault kind.Fields h known = fields_of_cache kind.Fields h known
-  second_fault kind.Number h known = fields_of_cache kind.Number h known
-  second_fault kind.Choice h known = fields_of_cache kind.Choice h known
-  second_fault kind.Bytes h known = fields_of_cache kind.Bytes h known
+      word_fault text 2 (omega arith) head_clean end version names_it (λ w may of is. h.other w may of (sym (ap first_field here) ∙ is))
+  second_fault kind.Header h known = fields_of_second kind.Header h known
+  second_fault kind.Order h known = fields_of_second kind.Order h known
+  second_fault kind.Fields h known = fields_of_second kind.Fields h known
+  second_fault kind.Number h known = fields_of_second kind.Number h known
+  second_fault kind.Choice h known = fields_of_second kind.Choice h known
+  second_fault kind.Bytes h known = fields_of_second kind.Bytes h known
   second_fault kind.NoMemory h known = absurd (known refl)

@@ -5,6 +5,7 @@ use Rattle.std.proofs.lemmas.List.{append-nil, length-append, length-map, map_pu
 use Rattle.std.proofs.lemmas.List.Elements.{All-nil, All-push, All-weaker}
 use Rattle.board.specs.declared.event.Event.{Event}
 use Rattle.board.specs.declared.spec.SlotSpec.{SlotSpec}
+use Rattle.trace.specs.declared.disks.Disks.{Disks}
 use Rattle.trace.specs.declared.fault.FaultKind.{FaultKind}
 use Rattle.trace.specs.declared.fault.FaultKind.TheVariants as kind
 use Rattle.trace.specs.declared.fault.TraceFault.{TraceFault}
@@ -56,21 +57,21 @@ pub record JudgedSofar (A : Type 0) (whole : List ℕ) (j : Judgement) (k : ℕ)
   pub trace : Content A
   pub so : Sofar whole trace k rest
   pub version : trace.version ≡ j.version
-  pub cache : trace.cache ≡ j.cache
+  pub disks : trace.disks ≡ j.disks
   pub slots : trace.slots ≡ j.slots
   pub lines : j.events ≡ joined (map event_line trace.events) ++ rest
   pub fit : HaveRoom j.longest trace.events
   pub numbered : 1 ≤ j.longest_line
 
 -- the first two lines
-pub judged_first : (A : Type 0) (whole : List ℕ) (version cache : ℕ) (rest : List ℕ) → Sofar {A = A} whole (record { version = version; cache = cache; slots = []; events = [] }) 3 rest
-    → JudgedSofar A whole (record { version = version; cache = cache; slots = []; events = rest; longest = 0; longest_line = 1 }) 3 rest
+pub judged_first : (A : Type 0) (whole : List ℕ) (version : ℕ) (disks : Disks) (rest : List ℕ) → Sofar {A = A} whole (record { version = version; disks = disks; slots = []; events = [] }) 3 rest
+    → JudgedSofar A whole (record { version = version; disks = disks; slots = []; events = rest; longest = 0; longest_line = 1 }) 3 rest
 unfolding joined
-judged_first A whole version cache rest so = record {
-  trace = record { version = version; cache = cache; slots = []; events = [] };
+judged_first A whole version disks rest so = record {
+  trace = record { version = version; disks = disks; slots = []; events = [] };
   so = so;
   version = refl;
-  cache = refl;
+  disks = refl;
   slots = refl;
   lines = refl;
   fit = All-nil (λ (e : Event A). bytes_len e.what ≤ 0);
@@ -108,7 +109,7 @@ slot_more A whole j k rest l after begun slot s cut test said =
       trace = with_slot s.trace slot;
       so = slot_read whole s.trace k rest l after slot s.so cut is fine none;
       version = s.version;
-      cache = s.cache;
+      disks = s.disks;
       slots = ap (λ (ss : List SlotSpec). ss ++ slot ∷ []) s.slots;
       lines = no_lines s.trace.events after none;
       fit = s.fit;
@@ -124,7 +125,7 @@ event_more A whole j k longest longest_line rest l after event s cut said fits l
       trace = with_event s.trace event;
       so = event_read whole s.trace k rest l after event s.so cut said.fields said.fine (subst (λ (v : ℕ). IsWordOf v (word_for event.what)) (sym s.version) said.of_version);
       version = s.version;
-      cache = s.cache;
+      disks = s.disks;
       slots = s.slots;
       lines = taken j.events (map event_line es) (map event_line (es ++ event ∷ [])) rest l after s.lines cut
           (map_push event_line es event ∙ ap (λ (x : List ℕ). map event_line es ++ x ∷ []) (sym (line-fields_of l (event_fields event) said.fields)));
@@ -192,7 +193,7 @@ judged_whole A whole j k rest s none =
         only = λ u ru pu e. one_trace u t (record { range = ru; printable = pu }) s.so.fits (sym e ∙ found);
       };
       version = s.version;
-      cache = s.cache;
+      disks = s.disks;
       slots = s.slots;
       lines_of = record {
         fine = λ i d lt. record { fits = s.so.fits.range.events i d lt; printable = s.so.fits.printable.events i d lt };

@@ -1,11 +1,15 @@
 -- Fields written one after another, and lines.
-use Rattle.std.proofs.Common.{◌≡◌, ℕ, ◌+◌, ◌<◌, false, List, [], ◌∷◌, ◌++◌, length, get_or, map, take, refl, sym, ap, ◌∙◌}
+use Rattle.std.proofs.Common.{◌≡◌, ◌↔◌, ℕ, ◌+◌, ◌<◌, Bool, IsTrue, true, false, All, List, [], ◌∷◌, ◌++◌, length, get_or, map, take, refl, sym, ap, ◌∙◌}
 use Rattle.std.proofs.lemmas.List.{append-nil, append_assoc, get_or_default, map_more}
 use Rattle.board.specs.declared.spec.SlotSpec.{SlotSpec}
-use Rattle.trace.specs.Text.{Content, cache_line, ended, event_line, front_text, header, joined, line, slot_line, text, trace_lines}
+use Rattle.trace.specs.declared.disks.Disks.{Disks}
+use Rattle.trace.specs.Printable.{IsPrintable, IsPrintableKind, IsPrintableSlot}
+use Rattle.trace.specs.Version.{IsVersion}
+use Rattle.trace.specs.Words.{IsWordOf}
+use Rattle.trace.specs.Text.{Content, disks_line, disks_word, ended, event_line, front_text, header, joined, line, slot_line, text, trace_lines, word_for}
 use Rattle.trace.proofs.Signs.{joined_push}
 
-line_push : (x : List ℕ) (xs : List (List ℕ)) (y : List ℕ) → line (x ∷ xs ++ y ∷ []) ≡ line (x ∷ xs) ++ 32 ∷ y
+pub line_push : (x : List ℕ) (xs : List (List ℕ)) (y : List ℕ) → line (x ∷ xs ++ y ∷ []) ≡ line (x ∷ xs) ++ 32 ∷ y
 line_push x [] y = refl
 line_push x (z ∷ zs) y = ap (λ (t : List ℕ). x ++ 32 ∷ t) (line_push z zs y) ∙ sym (append_assoc x (32 ∷ line (z ∷ zs)) (32 ∷ y))
 
@@ -38,16 +42,16 @@ unfolding joined
 joined_append [] ys = refl
 joined_append (x ∷ xs) ys = ap (λ (t : List ℕ). ended x ++ t) (joined_append xs ys) ∙ sym (append_assoc (ended x) (joined xs) (joined ys))
 
-front_is : (version cache : ℕ) → joined (header version ∷ cache_line cache ∷ []) ≡ front_text version cache
+front_is : (version : ℕ) (disks : Disks) → joined (header version ∷ disks_line disks ∷ []) ≡ front_text version disks
 unfolding joined
-front_is version cache = ap (λ (t : List ℕ). ended (header version) ++ t) (append-nil (ended (cache_line cache)))
+front_is version disks = ap (λ (t : List ℕ). ended (header version) ++ t) (append-nil (ended (disks_line disks)))
 
 -- the text, in its three parts
-pub text_is : {A : Type 0} (c : Content A) → (front_text c.version c.cache ++ joined (map (slot_line c.version) c.slots)) ++ joined (map event_line c.events) ≡ text c
+pub text_is : {A : Type 0} (c : Content A) → (front_text c.version c.disks ++ joined (map (slot_line c.version) c.slots)) ++ joined (map event_line c.events) ≡ text c
 unfolding trace_lines
 text_is c =
-    sym (joined_append (header c.version ∷ cache_line c.cache ∷ map (slot_line c.version) c.slots) (map event_line c.events)
-    ∙ ap (λ (t : List ℕ). t ++ joined (map event_line c.events)) (joined_append (header c.version ∷ cache_line c.cache ∷ []) (map (slot_line c.version) c.slots) ∙ ap (λ (t : List ℕ). t ++ joined (map (slot_line c.version) c.slots)) (front_is c.version c.cache)))
+    sym (joined_append (header c.version ∷ disks_line c.disks ∷ map (slot_line c.version) c.slots) (map event_line c.events)
+    ∙ ap (λ (t : List ℕ). t ++ joined (map event_line c.events)) (joined_append (header c.version ∷ disks_line c.disks ∷ []) (map (slot_line c.version) c.slots) ∙ ap (λ (t : List ℕ). t ++ joined (map (slot_line c.version) c.slots)) (front_is c.version c.disks)))
 
 -- the same at any default
 pub joined_at : {X : Type 0} (f : X → List ℕ) (front : List ℕ) (xs : List X) (i : ℕ) (d : X) → i < length xs → (front ++ joined (map f (take i xs))) ++ ended (f (get_or xs i d)) ≡ front ++ joined (map f (take (i + 1) xs))
@@ -56,3 +60,12 @@ joined_at f front xs i d lt = joined_more f front xs i (get_or xs i d) lt (get_o
 -- what stands past the end of a list of slots
 abbrev pub no_slot : SlotSpec
 no_slot = record { base = 0; len = 0; extent = record { start = 0; count = 0 }; read_only = false; cols = 0; rows = 0; identity = [] }
+
+-- a trace has a text where four tests say so, of which the first three passed
+pub printable_when : {A : Type 0} (t : Content A) (front slots lines words : Bool) → IsTrue front ↔ (IsVersion t.version × IsWordOf t.version (disks_word t.disks))
+    → IsTrue slots ↔ All (IsPrintableSlot t.version) t.slots → IsTrue lines ↔ All (λ e. IsPrintableKind e.what) t.events → IsTrue words ↔ All (λ e. IsWordOf t.version (word_for e.what)) t.events
+    → front ≡ true → slots ≡ true → lines ≡ true → IsTrue words ↔ IsPrintable t
+printable_when t front slots lines words f s l w a b c = (
+  λ h. let both = f.0 a in record { version = both.0; disks = both.1; slots = s.0 b; events = l.0 c; words = w.0 h },
+  λ h. w.1 h.words,
+)

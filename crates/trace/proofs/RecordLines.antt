@@ -1,14 +1,21 @@
 -- The line of a record, put field after field.
-use Rattle.std.proofs.Common.{◌≡◌, ℕ, ◌/◌, ◌%◌, ◌<◌, ◌≤◌, List, [], ◌∷◌, ◌++◌, Option, codes, get_or, length, take, drop, refl, sym, ap, ◌∙◌, append_assoc, take-append-drop, arith}
+use Rattle.std.proofs.Common.{◌≡◌, ℕ, ◌/◌, ◌%◌, ◌<◌, ◌≤◌, List, [], ◌∷◌, ◌++◌, Option, codes, get_or, length, ◌+◌, ◌-◌, zero, suc, take, drop, refl, sym, ap, ◌∙◌, append_assoc, take-append-drop, arith}
 use Rattle.hex.specs.Hex.{encode_lower}
+use Rattle.std.specs.List.{flat_map}
+use Rattle.std.proofs.lemmas.List.{append-nil, take_all}
+use Rattle.chain.specs.declared.segment.Segment.{Segment}
+use Rattle.block_device.specs.declared.operation.Operation.{Operation}
+use Rattle.board.specs.declared.reply.Record.{Record}
 use Rattle.board.specs.declared.reply.Reply.{Reply}
-use Rattle.trace.specs.Records.{entry_of, quiet_line, record_line, reply_field}
+use Rattle.trace.specs.Asked.{asked_field, asked_line, other_run, run_field, runs_field}
+use Rattle.trace.specs.Records.{entry_of, quiet_line, record_fields, record_line, reply_field}
 use Rattle.trace.specs.Sends.{Sends}
 use Rattle.hexadecimal.specs.Spelling.{bytes, digit, fixed, num}
 use Rattle.trace.specs.Text.{line, ended}
 use Rattle.hexadecimal.proofs.ByteFields.{all_written, encode_append}
 use Rattle.hexadecimal.proofs.Numbers.{num_digit, num_split}
 use Rattle.trace.proofs.Passing.{sends_more, sends_same}
+use Rattle.trace.proofs.Printed.{line_push}
 
 -- a slot's number by one digit, or by two
 pub slot_one : (n d : ℕ) → n < 16 → d ≡ digit n → d ∷ 32 ∷ [] ≡ num n ++ 32 ∷ []
@@ -74,13 +81,38 @@ put_more a b c s t u bytes rest n p q = record {
 pub put_all : (a b s t : Option (List ℕ)) (bytes rest text : List ℕ) → PutFront a b s t bytes rest → length rest ≡ 0 → text ≡ encode_lower bytes → Sends a b s text t
 put_all a b s t bytes rest text p none is = sends_same a b s t p.done text (all_written p.done (encode_lower bytes) rest p.whole none ∙ sym is) p.sent
 
-line_is : (a b c : List ℕ) (x y : ℕ) → (a ++ 32 ∷ []) ++ (b ++ (32 ∷ c ++ 32 ∷ x ∷ 32 ∷ y ∷ 10 ∷ [])) ≡ ended (line (a ∷ b ∷ c ∷ (x ∷ []) ∷ (y ∷ []) ∷ []))
-line_is a b c x y = simp append_assoc
+line_is : (a b c : List ℕ) (x y z : ℕ) → (a ++ 32 ∷ []) ++ (b ++ (32 ∷ c ++ 32 ∷ x ∷ 32 ∷ y ∷ z ∷ [])) ≡ line (a ∷ b ∷ c ∷ (x ∷ []) ∷ (y ∷ []) ∷ []) ++ z ∷ []
+line_is a b c x y z = simp append_assoc
 
--- five fields, each but the first after a space, and a line feed
-pub line_put : (i j k l m s t u v w : Option (List ℕ)) (a b c : List ℕ) (x y : ℕ) → Sends i j s (a ++ 32 ∷ []) t → Sends j k t b u → Sends k l u (32 ∷ c) v → Sends l m v (32 ∷ x ∷ 32 ∷ y ∷ 10 ∷ []) w → Sends i m s (ended (line (a ∷ b ∷ c ∷ (x ∷ []) ∷ (y ∷ []) ∷ []))) w
-line_put i j k l m s t u v w a b c x y p q r e =
-    sends_same i m s w _ _ (line_is a b c x y)
-    (sends_more i j m s t w (a ++ 32 ∷ []) (b ++ (32 ∷ c ++ 32 ∷ x ∷ 32 ∷ y ∷ 10 ∷ [])) p
-    (sends_more j k m t u w b (32 ∷ c ++ 32 ∷ x ∷ 32 ∷ y ∷ 10 ∷ []) q
-    (sends_more k l m u v w (32 ∷ c) (32 ∷ x ∷ 32 ∷ y ∷ 10 ∷ []) r e)))
+-- five fields, each but the first after a space, and a byte behind them
+pub line_put : (i j k l m s t u v w : Option (List ℕ)) (a b c : List ℕ) (x y z : ℕ) → Sends i j s (a ++ 32 ∷ []) t → Sends j k t b u → Sends k l u (32 ∷ c) v → Sends l m v (32 ∷ x ∷ 32 ∷ y ∷ z ∷ []) w → Sends i m s (line (a ∷ b ∷ c ∷ (x ∷ []) ∷ (y ∷ []) ∷ []) ++ z ∷ []) w
+line_put i j k l m s t u v w a b c x y z p q r e =
+    sends_same i m s w _ _ (line_is a b c x y z)
+    (sends_more i j m s t w (a ++ 32 ∷ []) (b ++ (32 ∷ c ++ 32 ∷ x ∷ 32 ∷ y ∷ z ∷ [])) p
+    (sends_more j k m t u w b (32 ∷ c ++ 32 ∷ x ∷ 32 ∷ y ∷ z ∷ []) q
+    (sends_more k l m u v w (32 ∷ c) (32 ∷ x ∷ 32 ∷ y ∷ z ∷ []) r e)))
+
+-- a record with one field more behind it
+pub asked_is : {A : Type 0} (entry : Record A) (asked : Option (Operation × List Segment)) → (line (record_fields entry) ++ 32 ∷ []) ++ (asked_field asked ++ 10 ∷ []) ≡ ended (asked_line entry asked)
+unfolding asked_line
+asked_is entry asked =
+    let fields = line (record_fields entry) in
+    let last = asked_field asked in
+    append_assoc fields (32 ∷ []) (last ++ 10 ∷ [])
+    ∙ sym (append_assoc fields (32 ∷ last) (10 ∷ []))
+    ∙ ap (λ (l : List ℕ). l ++ 10 ∷ []) (sym (line_push (num entry.slot) (reply_field entry.reply ∷ bytes entry.output ∷ (digit entry.block_irq ∷ []) ∷ (digit entry.console_irq ∷ []) ∷ []) last))
+
+-- one run more, of what stands at place i
+pub others_more : (runs : List Segment) (i : ℕ) (d : Segment) → i < length runs → flat_map other_run (take i runs) ++ (44 ∷ run_field (get_or runs i d)) ≡ flat_map other_run (take (i + 1) runs)
+others_more [] i d lt = absurd (omega arith)
+others_more (run ∷ runs) zero d lt = sym (append-nil (other_run run))
+others_more (run ∷ runs) (suc i) d lt =
+    let next : suc (i + 1) ≡ suc i + 1 = omega arith in
+    append_assoc (other_run run) (flat_map other_run (take i runs)) (44 ∷ run_field (get_or runs i d))
+    ∙ ap (λ (t : List ℕ). other_run run ++ t) (others_more runs i d (omega arith))
+    ∙ ap (λ (n : ℕ). flat_map other_run (take n (run ∷ runs))) next
+
+-- runs by the first and the others
+pub runs_are : (runs others : List Segment) (d : Segment) → 0 < length runs → others ≡ take (length runs - 1) (drop 1 runs) → run_field (get_or runs 0 d) ++ flat_map other_run others ≡ runs_field runs
+runs_are [] others d some is = absurd (omega arith)
+runs_are (run ∷ runs) others d some is = ap (λ (rs : List Segment). run_field run ++ flat_map other_run rs) (is ∙ take_all (length (run ∷ runs) - 1) runs (omega arith))

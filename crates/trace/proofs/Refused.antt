@@ -3,15 +3,16 @@ use Rattle.std.proofs.Common.{◌≡◌, ◌≢◌, ℕ, ◌≤◌, ◌⊎◌, [
 use Rattle.trace.specs.declared.fault.FaultKind.{FaultKind}
 use Rattle.trace.specs.declared.fault.FaultKind.TheVariants as kind
 use Rattle.trace.specs.declared.word.Word.{Word}
-use Rattle.trace.specs.declared.word.Word.TheVariants.{Cache, Slot, Read, Write, MemRead, MemWrite, Input, Resize, Restore}
+use Rattle.trace.specs.declared.word.Word.TheVariants.{Cache, Hosted, Slot, Read, Write, MemRead, MemWrite, Input, Resize, Restore, Complete}
 use Rattle.trace.specs.Cuts.{fields_of}
 use Rattle.trace.specs.Faults.{MayStand, other_fields}
 use Rattle.trace.specs.Refusals.{RefusesFields, RefusesLine, RefusesAfterWord}
 use Rattle.trace.specs.Words.{IsWordOf, spelled}
 
--- only `cache` stands in line 2, and the others in each line from the third on
-place_of : (w : Word) → (w ≡ Cache) ⊎ ((k : ℕ) → (MayStand k w → 3 ≤ k) × (3 ≤ k → MayStand k w))
-place_of Cache = inl refl
+-- a word stands in line 2 alone, or in each line from the third on
+place_of : (w : Word) → ((k : ℕ) → MayStand k w → k ≡ 2) ⊎ ((k : ℕ) → (MayStand k w → 3 ≤ k) × (3 ≤ k → MayStand k w))
+place_of Cache = inl (λ k h. h)
+place_of Hosted = inl (λ k h. h)
 place_of Slot = inr (λ k. (λ h. h, λ h. h))
 place_of Read = inr (λ k. (λ h. h, λ h. h))
 place_of Write = inr (λ k. (λ h. h, λ h. h))
@@ -20,24 +21,36 @@ place_of MemWrite = inr (λ k. (λ h. h, λ h. h))
 place_of Input = inr (λ k. (λ h. h, λ h. h))
 place_of Resize = inr (λ k. (λ h. h, λ h. h))
 place_of Restore = inr (λ k. (λ h. h, λ h. h))
+place_of Complete = inr (λ k. (λ h. h, λ h. h))
 
 not_late : (k : ℕ) → 3 ≤ k → k ≡ 2 → ⊥
 not_late k late two = omega arith
 
 -- a word of the lines after the second
-pub may_stand : (word : Word) → word ≢ Cache → MayStand 3 word
-may_stand word other = elim (place_of word) [ inl is ↦ absurd (other is) | inr place ↦ (place 3).1 (omega arith) ]
+pub may_stand : (word : Word) → word ≢ Cache → word ≢ Hosted → MayStand 3 word
+may_stand Cache cache hosted = absurd (cache refl)
+may_stand Hosted cache hosted = absurd (hosted refl)
+may_stand Slot cache hosted = omega arith
+may_stand Read cache hosted = omega arith
+may_stand Write cache hosted = omega arith
+may_stand MemRead cache hosted = omega arith
+may_stand MemWrite cache hosted = omega arith
+may_stand Input cache hosted = omega arith
+may_stand Resize cache hosted = omega arith
+may_stand Restore cache hosted = omega arith
+may_stand Complete cache hosted = omega arith
 
 -- one that may stand in a later line may stand in each of them
 pub may_move : (w : Word) (j k : ℕ) → 3 ≤ j → 3 ≤ k → MayStand j w → MayStand k w
 may_move w j k late le h =
     elim (place_of w) [
-      | inl is ↦ absurd (not_late j late (subst (MayStand j) is h))
+      | inl second ↦ absurd (not_late j late (second j h))
       | inr place ↦ (place k).1 le
     ]
 
-pub only_cache : (w : Word) → MayStand 2 w → w ≡ Cache
-only_cache w h = elim (place_of w) [ inl is ↦ is | inr place ↦ absurd (not_late 2 ((place 2).0 h) refl) ]
+pub not_second : (w : Word) → MayStand 3 w → MayStand 2 w → ⊥
+not_second w late second =
+    elim (place_of w) [ inl two ↦ absurd (not_late 3 (omega arith) (two 3 late)) | inr place ↦ not_late 2 ((place 2).0 second) refl ]
 
 -- ---- a line that is refused
 

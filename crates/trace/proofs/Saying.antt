@@ -46,6 +46,7 @@ by_what slot (event.Input bs) field h =
     let is = h.said.1 in
     record { kind = event.Input spelled; fields_are = rw (← is.spelled) refl; word = refl; len = spelled_len field spelled is; range = record { each = is.fits }; printable = tt }
 by_what slot (event.Resize cols rows) field h = plain slot (event.Resize cols rows) field h refl refl
+by_what slot (event.Complete came) field h = plain slot (event.Complete came) field h refl refl
 by_what slot (event.Restore bs) field h =
     let spelled = h.said.0 in
     let is = h.said.1 in

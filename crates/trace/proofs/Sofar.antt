@@ -6,6 +6,7 @@ use Rattle.std.proofs.lemmas.List.Elements.{All-map, All-weaker, All-nil, All-pu
 use Rattle.std.proofs.lemmas.List.Splits.{length-slice_split}
 use Rattle.board.specs.declared.event.Event.{Event}
 use Rattle.board.specs.declared.spec.SlotSpec.{SlotSpec}
+use Rattle.trace.specs.declared.disks.Disks.{Disks}
 use Rattle.trace.specs.declared.fault.FaultKind.{FaultKind}
 use Rattle.trace.specs.declared.fault.FaultKind.TheVariants as kind
 use Rattle.trace.specs.declared.read.said.Said.{Said}
@@ -13,14 +14,14 @@ use Rattle.trace.specs.declared.word.Word.{Word}
 use Rattle.trace.specs.declared.word.Word.TheVariants.{Slot}
 use Rattle.trace.specs.Cuts.{fields_of, lines_of, is_line_feed}
 use Rattle.trace.specs.Faults.{IsCleanBefore, IsEnded, IsFault, IsOfVersion, Passes, line_at}
-use Rattle.trace.specs.Printable.{InRange, IsPrintable, EventInRange, IsPrintableKind, IsPrintableSlot, SlotInRange}
+use Rattle.trace.specs.Printable.{DisksInRange, InRange, IsPrintable, EventInRange, IsPrintableKind, IsPrintableSlot, SlotInRange}
 use Rattle.trace.specs.Said.{said_fields}
 use Rattle.trace.specs.Version.{IsVersion}
 use Rattle.trace.specs.Words.{IsWordOf}
 use Rattle.trace.specs.Refusals.{AddsLine, AddsSaid, IsFine, IsFineSlot, RefusesLine, RefusesAfterWord, has_begun}
-use Rattle.trace.specs.Text.{Content, ended, header, joined, text, line, cache_fields, cache_line, slot_fields, slot_line, event_fields, event_line, trace_lines, word_for}
+use Rattle.trace.specs.Text.{Content, ended, header, joined, text, line, disks_fields, disks_line, disks_word, slot_fields, slot_line, event_fields, event_line, trace_lines, word_for}
 use Rattle.trace.proofs.Clean.{Good, IsSlotLine, good, good_passes, only_slots, one_event}
-use Rattle.trace.proofs.Entries.{EnteredEvent, entered_cache, entered_event, entered_slot, same_word}
+use Rattle.trace.proofs.Entries.{EnteredEvent, entered_disks, entered_event, entered_slot, same_word}
 use Rattle.trace.proofs.Faulty.{cut_fault, fields_fault, order_fault, word_fault}
 use Rattle.trace.proofs.Refused.{may_move}
 use Rattle.trace.proofs.Signs.{AllAbove, above_header, above_lines, joined_push, line-fields_of, lines_of-joined}
@@ -48,8 +49,8 @@ unbroken_events version (l ∷ ls) h = let first = h 0 l (omega arith) in (first
 pub unbroken : {A : Type 0} (c : Content A) → Fits c → AllAbove 10 (trace_lines c)
 unfolding trace_lines
 unbroken c h =
-    let cache = entered_cache c.version c.cache h.range.cache in
-    (above_header c.version, (cache.unbroken, above_lines (map (slot_line c.version) c.slots) (map event_line c.events) (unbroken_slots c.version (map (slot_line c.version) c.slots) (slot_lines c.version c.slots h.range.slots)) (unbroken_events c.version (map event_line c.events) (event_lines c.version c.events h.range.events h.printable.events h.printable.words))))
+    let second = entered_disks c.version c.disks h.range.disks h.printable.disks in
+    (above_header c.version, (second.entry.unbroken, above_lines (map (slot_line c.version) c.slots) (map event_line c.events) (unbroken_slots c.version (map (slot_line c.version) c.slots) (slot_lines c.version c.slots h.range.slots)) (unbroken_events c.version (map event_line c.events) (event_lines c.version c.events h.range.events h.printable.events h.printable.words))))
 
 pub some_lines : (text : List ℕ) → 0 < length (lines_of text)
 unfolding lines_of
@@ -62,7 +63,7 @@ pub record Sofar {A : Type 0} (text : List ℕ) (c : Content A) (k : ℕ) (rest 
   pub count : k ≡ 3 + (length c.slots + length c.events)
 
 module _ {A : Type 0} (text : List ℕ) (c : Content A) (k : ℕ) (rest : List ℕ) (s : Sofar text c k rest) where
-  pub parts : lines_of text ≡ (header c.version ∷ cache_line c.cache ∷ (map (slot_line c.version) c.slots ++ map event_line c.events)) ++ lines_of rest
+  pub parts : lines_of text ≡ (header c.version ∷ disks_line c.disks ∷ (map (slot_line c.version) c.slots ++ map event_line c.events)) ++ lines_of rest
   unfolding trace_lines
   parts = ap lines_of s.spelled ∙ lines_of-joined (trace_lines c) rest (unbroken c s.fits)
 
@@ -75,8 +76,8 @@ module _ {A : Type 0} (text : List ℕ) (c : Content A) (k : ℕ) (rest : List �
   good_before : (j : ℕ) → 1 ≤ j → j < k → Good c.version text j
   good_before j le lt =
       let count = s.count in
-      good c.version text (cache_line c.cache) (map (slot_line c.version) c.slots) (map event_line c.events) (lines_of rest) parts (some_lines rest) s.fits.printable.version
-      (entered_cache c.version c.cache s.fits.range.cache) (slot_lines c.version c.slots s.fits.range.slots) (event_lines c.version c.events s.fits.range.events s.fits.printable.events s.fits.printable.words) j le (omega (arith, slots_len, events_len))
+      good c.version text (disks_line c.disks) (map (slot_line c.version) c.slots) (map event_line c.events) (lines_of rest) parts (some_lines rest) s.fits.printable.version
+      (entered_disks c.version c.disks s.fits.range.disks s.fits.printable.disks) (slot_lines c.version c.slots s.fits.range.slots) (event_lines c.version c.events s.fits.range.events s.fits.printable.events s.fits.printable.words) j le (omega (arith, slots_len, events_len))
 
   pub clean : IsCleanBefore text k
   clean j le lt fault = good_passes c.version text j (good_before j le lt) fault
@@ -88,16 +89,16 @@ module _ {A : Type 0} (text : List ℕ) (c : Content A) (k : ℕ) (rest : List �
   pub next_is : line_at text k ≡ get_or (lines_of rest) 0 []
   next_is =
       let count = s.count in
-      let front : length (header c.version ∷ cache_line c.cache ∷ (map (slot_line c.version) c.slots ++ map event_line c.events)) ≡ k - 1 = omega (arith, slots_len, events_len, length-append (map (slot_line c.version) c.slots) (map event_line c.events)) in
+      let front : length (header c.version ∷ disks_line c.disks ∷ (map (slot_line c.version) c.slots ++ map event_line c.events)) ≡ k - 1 = omega (arith, slots_len, events_len, length-append (map (slot_line c.version) c.slots) (map event_line c.events)) in
       let none : k - 1 - (k - 1) ≡ 0 = omega arith in
       ap (λ (ls : List (List ℕ)). get_or ls (k - 1) []) parts
-      ∙ get_or-append_right (header c.version ∷ cache_line c.cache ∷ (map (slot_line c.version) c.slots ++ map event_line c.events)) (lines_of rest) (k - 1) (k - 1) [] front (omega arith)
+      ∙ get_or-append_right (header c.version ∷ disks_line c.disks ∷ (map (slot_line c.version) c.slots ++ map event_line c.events)) (lines_of rest) (k - 1) (k - 1) [] front (omega arith)
       ∙ ap (λ (n : ℕ). get_or (lines_of rest) n []) none
 
   pub lines_left : length (lines_of text) + 1 ≡ k + length (lines_of rest)
   lines_left =
       let count = s.count in
-      omega (arith, ap length parts, slots_len, events_len, length-append (map (slot_line c.version) c.slots) (map event_line c.events), length-append (header c.version ∷ cache_line c.cache ∷ (map (slot_line c.version) c.slots ++ map event_line c.events)) (lines_of rest))
+      omega (arith, ap length parts, slots_len, events_len, length-append (map (slot_line c.version) c.slots) (map event_line c.events), length-append (header c.version ∷ disks_line c.disks ∷ (map (slot_line c.version) c.slots ++ map event_line c.events)) (lines_of rest))
 
   -- the rest is a line that isn't ended
   pub is_cut : lines_of rest ≡ rest ∷ [] → rest ≢ [] → IsFault text k kind.Cut
@@ -114,8 +115,8 @@ module _ {A : Type 0} (text : List ℕ) (c : Content A) (k : ℕ) (rest : List �
       elim (cases_Bool begun) [
         | inl so ↦ absurd (r.ordered so (same_word r.word Slot (sym r.first ∙ slot)))
         | inr not_yet ↦
-            only_slots c.version text (cache_line c.cache) (map (slot_line c.version) c.slots) (map event_line c.events) (lines_of rest) parts (some_lines rest) s.fits.printable.version
-            (entered_cache c.version c.cache s.fits.range.cache) (slot_lines c.version c.slots s.fits.range.slots) (event_lines c.version c.events s.fits.range.events s.fits.printable.events s.fits.printable.words) (events_len ∙ none not_yet) j low (omega (arith, slots_len, events_len))
+            only_slots c.version text (disks_line c.disks) (map (slot_line c.version) c.slots) (map event_line c.events) (lines_of rest) parts (some_lines rest) s.fits.printable.version
+            (entered_disks c.version c.disks s.fits.range.disks s.fits.printable.disks) (slot_lines c.version c.slots s.fits.range.slots) (event_lines c.version c.events s.fits.range.events s.fits.printable.events s.fits.printable.words) (events_len ∙ none not_yet) j low (omega (arith, slots_len, events_len))
       ]
 
   fault_after : (begun : Bool) (fault : FaultKind) → IsEnded text k → 2 ≤ k → (begun ≡ false → length c.events ≡ 0) → RefusesAfterWord c.version begun (line_at text k) fault → fault ≢ kind.NoMemory → IsFault text k fault
@@ -133,8 +134,8 @@ module _ {A : Type 0} (text : List ℕ) (c : Content A) (k : ℕ) (rest : List �
       let count = s.count in
       let begins = some h.0 in
       order_fault text k late clean end (omega arith) h.1 (3 + length (map (slot_line c.version) c.slots)) (omega arith) (omega (arith, slots_len))
-      (one_event c.version text (cache_line c.cache) (map (slot_line c.version) c.slots) (map event_line c.events) (lines_of rest) parts (some_lines rest) s.fits.printable.version
-      (entered_cache c.version c.cache s.fits.range.cache) (slot_lines c.version c.slots s.fits.range.slots) (event_lines c.version c.events s.fits.range.events s.fits.printable.events s.fits.printable.words) (omega (arith, events_len)))
+      (one_event c.version text (disks_line c.disks) (map (slot_line c.version) c.slots) (map event_line c.events) (lines_of rest) parts (some_lines rest) s.fits.printable.version
+      (entered_disks c.version c.disks s.fits.range.disks s.fits.printable.disks) (slot_lines c.version c.slots s.fits.range.slots) (event_lines c.version c.events s.fits.range.events s.fits.printable.events s.fits.printable.words) (omega (arith, events_len)))
   refused begun kind.Fields end late some none h known = fault_after begun kind.Fields end late none h known
   refused begun kind.Number end late some none h known = fault_after begun kind.Number end late none h known
   refused begun kind.Choice end late some none h known = fault_after begun kind.Choice end late none h known
@@ -161,15 +162,15 @@ push_slot c s none =
     let empty = nil_from_length c.events none in
     let e : map event_line c.events ≡ [] = ap (map event_line) empty in
     let v = c.version in
-    ap (λ (ls : List (List ℕ)). (header v ∷ cache_line c.cache ∷ map (slot_line v) (c.slots ++ s ∷ [])) ++ ls) e
-    ∙ append-nil (header v ∷ cache_line c.cache ∷ map (slot_line v) (c.slots ++ s ∷ []))
-    ∙ ap (λ (ls : List (List ℕ)). header v ∷ cache_line c.cache ∷ ls) (map_push (slot_line v) c.slots s)
-    ∙ ap (λ (ls : List (List ℕ)). ls ++ slot_line v s ∷ []) (sym (append-nil (header v ∷ cache_line c.cache ∷ map (slot_line v) c.slots)) ∙ ap (λ (ls : List (List ℕ)). (header v ∷ cache_line c.cache ∷ map (slot_line v) c.slots) ++ ls) (sym e))
+    ap (λ (ls : List (List ℕ)). (header v ∷ disks_line c.disks ∷ map (slot_line v) (c.slots ++ s ∷ [])) ++ ls) e
+    ∙ append-nil (header v ∷ disks_line c.disks ∷ map (slot_line v) (c.slots ++ s ∷ []))
+    ∙ ap (λ (ls : List (List ℕ)). header v ∷ disks_line c.disks ∷ ls) (map_push (slot_line v) c.slots s)
+    ∙ ap (λ (ls : List (List ℕ)). ls ++ slot_line v s ∷ []) (sym (append-nil (header v ∷ disks_line c.disks ∷ map (slot_line v) c.slots)) ∙ ap (λ (ls : List (List ℕ)). (header v ∷ disks_line c.disks ∷ map (slot_line v) c.slots) ++ ls) (sym e))
 
 pub push_event : {A : Type 0} (c : Content A) (e : Event A) → trace_lines (record c { events = c.events ++ e ∷ [] }) ≡ trace_lines c ++ event_line e ∷ []
 unfolding trace_lines
 push_event c e =
-    ap (λ (ls : List (List ℕ)). (header c.version ∷ cache_line c.cache ∷ map (slot_line c.version) c.slots) ++ ls) (map_push event_line c.events e) ∙ sym (append_assoc (header c.version ∷ cache_line c.cache ∷ map (slot_line c.version) c.slots) (map event_line c.events) (event_line e ∷ []))
+    ap (λ (ls : List (List ℕ)). (header c.version ∷ disks_line c.disks ∷ map (slot_line c.version) c.slots) ++ ls) (map_push event_line c.events e) ∙ sym (append_assoc (header c.version ∷ disks_line c.disks ∷ map (slot_line c.version) c.slots) (map event_line c.events) (event_line e ∷ []))
 
 -- a line taken off the rest goes to the end of what was read
 pub taken : (text : List ℕ) (front more : List (List ℕ)) (rest l after : List ℕ) → text ≡ joined front ++ rest → rest ≡ l ++ 10 ∷ after → more ≡ front ++ l ∷ [] → text ≡ joined more ++ after
@@ -185,8 +186,8 @@ slot_read text c k rest l after s so cut is fine none =
       spelled = taken text (trace_lines c) (trace_lines (record c { slots = c.slots ++ s ∷ [] })) rest l after so.spelled cut
           (push_slot c s none ∙ ap (λ (x : List ℕ). trace_lines c ++ x ∷ []) (sym (line-fields_of l (slot_fields c.version s) is)));
       fits = record {
-        range = record { cache = so.fits.range.cache; slots = All-push SlotInRange c.slots s so.fits.range.slots fine.fits; events = so.fits.range.events };
-        printable = record { version = so.fits.printable.version; slots = All-push (IsPrintableSlot c.version) c.slots s so.fits.printable.slots fine.printable; events = so.fits.printable.events; words = so.fits.printable.words };
+        range = record { disks = so.fits.range.disks; slots = All-push SlotInRange c.slots s so.fits.range.slots fine.fits; events = so.fits.range.events };
+        printable = record { version = so.fits.printable.version; disks = so.fits.printable.disks; slots = All-push (IsPrintableSlot c.version) c.slots s so.fits.printable.slots fine.printable; events = so.fits.printable.events; words = so.fits.printable.words };
       };
       count = omega (arith, length_push c.slots s);
     }
@@ -199,8 +200,8 @@ event_read text c k rest l after e so cut is fine of =
       spelled = taken text (trace_lines c) (trace_lines (record c { events = c.events ++ e ∷ [] })) rest l after so.spelled cut
           (push_event c e ∙ ap (λ (x : List ℕ). trace_lines c ++ x ∷ []) (sym (line-fields_of l (event_fields e) is)));
       fits = record {
-        range = record { cache = so.fits.range.cache; slots = so.fits.range.slots; events = All-push EventInRange c.events e so.fits.range.events fine.fits };
-        printable = record { version = so.fits.printable.version; slots = so.fits.printable.slots; events = All-push (λ x. IsPrintableKind x.what) c.events e so.fits.printable.events fine.printable; words = All-push (λ x. IsWordOf c.version (word_for x.what)) c.events e so.fits.printable.words of };
+        range = record { disks = so.fits.range.disks; slots = so.fits.range.slots; events = All-push EventInRange c.events e so.fits.range.events fine.fits };
+        printable = record { version = so.fits.printable.version; disks = so.fits.printable.disks; slots = so.fits.printable.slots; events = All-push (λ x. IsPrintableKind x.what) c.events e so.fits.printable.events fine.printable; words = All-push (λ x. IsWordOf c.version (word_for x.what)) c.events e so.fits.printable.words of };
       };
       count = omega (arith, length_push c.events e);
     }
@@ -209,13 +210,13 @@ two_lines : (a b rest : List ℕ) → ((a ++ 10 ∷ []) ++ ((b ++ 10 ∷ []) ++ 
 two_lines a b rest = simp (append_assoc, append-nil)
 
 -- the first two lines
-pub begun_so : {A : Type 0} (text : List ℕ) (version cache : ℕ) (middle l rest : List ℕ) → IsVersion version → text ≡ header version ++ 10 ∷ middle → middle ≡ l ++ 10 ∷ rest → fields_of l ≡ cache_fields cache → cache < 2 ^ 32 → Sofar {A = A} text (record { version = version; cache = cache; slots = []; events = [] }) 3 rest
-unfolding trace_lines joined cache_line
-begun_so text version cache middle l rest one_of first second is range =
-    let e = line-fields_of l (cache_fields cache) is in
+pub begun_so : {A : Type 0} (text : List ℕ) (version : ℕ) (disks : Disks) (middle l rest : List ℕ) → IsVersion version → IsWordOf version (disks_word disks) → text ≡ header version ++ 10 ∷ middle → middle ≡ l ++ 10 ∷ rest → fields_of l ≡ disks_fields disks → DisksInRange disks → Sofar {A = A} text (record { version = version; disks = disks; slots = []; events = [] }) 3 rest
+unfolding trace_lines joined disks_line
+begun_so text version disks middle l rest one_of of first second is range =
+    let e = line-fields_of l (disks_fields disks) is in
     record {
-      spelled = first ∙ ap (λ (m : List ℕ). header version ++ 10 ∷ m) (second ∙ ap (λ (x : List ℕ). x ++ 10 ∷ rest) e) ∙ sym (two_lines (header version) (line (cache_fields cache)) rest);
-      fits = record { range = record { cache = range; slots = All-nil SlotInRange; events = λ k d lt. absurd (omega arith) }; printable = record { version = one_of; slots = All-nil (IsPrintableSlot version); events = λ k d lt. absurd (omega arith); words = λ k d lt. absurd (omega arith) } };
+      spelled = first ∙ ap (λ (m : List ℕ). header version ++ 10 ∷ m) (second ∙ ap (λ (x : List ℕ). x ++ 10 ∷ rest) e) ∙ sym (two_lines (header version) (line (disks_fields disks)) rest);
+      fits = record { range = record { disks = range; slots = All-nil SlotInRange; events = λ k d lt. absurd (omega arith) }; printable = record { version = one_of; disks = of; slots = All-nil (IsPrintableSlot version); events = λ k d lt. absurd (omega arith); words = λ k d lt. absurd (omega arith) } };
       count = refl;
     }
 
@@ -247,5 +248,5 @@ pub numbered : {A : Type 0} (text : List ℕ) (c : Content A) (k : ℕ) (rest : 
 unfolding trace_lines joined
 numbered text c k rest so =
     let count = so.count in
-    let others : List (List ℕ) = cache_line c.cache ∷ (map (slot_line c.version) c.slots ++ map event_line c.events) in
+    let others : List (List ℕ) = disks_line c.disks ∷ (map (slot_line c.version) c.slots ++ map event_line c.events) in
     omega (arith, ap length so.spelled, length-append (joined (trace_lines c)) rest, length-append (ended (header c.version)) (joined others), length-append (header c.version) (10 ∷ []), length_joined others, length-append (map (slot_line c.version) c.slots) (map event_line c.events), length-map c.slots (slot_line c.version), length-map c.events event_line)

@@ -5,12 +5,16 @@ use Rattle.std.proofs.lemmas.Bool.{cases_eq, cases_lt, cases_order}
 use Rattle.hex.specs.Hex.{decode_of, encode_lower, lower_digits}
 use Rattle.hex.proofs.HexLemmas.{decode_of-encode_lower, length-encode_with}
 use Rattle.hex.specs.declared.error.FromHexError.{FromHexError}
+use Rattle.block_device.specs.declared.operation.Verdict.{Verdict}
+use Rattle.block_device.specs.declared.operation.Verdict.TheVariants.{Done, Failed}
 use Rattle.mmio_window.specs.declared.device_kind.DeviceKind.{DeviceKind}
 use Rattle.mmio_window.specs.declared.device_kind.DeviceKind.TheVariants.{Block, Console}
 use Rattle.board.specs.declared.event.Event.{Event}
 use Rattle.board.specs.declared.event.EventKind.{EventKind}
 use Rattle.board.specs.declared.event.EventKind.TheVariants as what
 use Rattle.board.specs.declared.spec.SlotSpec.{SlotSpec}
+use Rattle.trace.specs.declared.disks.Disks.{Disks}
+use Rattle.trace.specs.declared.disks.Disks.TheVariants as kept
 use Rattle.trace.specs.declared.fault.FaultKind.{FaultKind}
 use Rattle.trace.specs.declared.fault.FaultKind.TheVariants as kind
 use Rattle.trace.specs.declared.word.Word.TheVariants.{Slot}
@@ -20,11 +24,11 @@ use Rattle.trace.specs.Printable.{IsPrintableKind, IsWriteAccess, KindInRange}
 use Rattle.trace.specs.Refusals.{IsFine, IsFineSlot}
 use Rattle.trace.specs.Version.{IsVersion}
 use Rattle.hexadecimal.specs.Spelling.{bytes, fixed}
-use Rattle.trace.specs.Spelling.{mode, window}
-use Rattle.trace.specs.Text.{Content, cache_line, event_fields, event_line, slot_fields, slot_line, text, trace_lines, what_fields, word_for}
+use Rattle.trace.specs.Spelling.{mode, verdict, window}
+use Rattle.trace.specs.Text.{Content, disks_fields, disks_line, event_fields, event_line, slot_fields, slot_line, text, trace_lines, what_fields, word_for}
 use Rattle.trace.specs.Words.{spelled}
 use Rattle.hexadecimal.proofs.ByteFields.{AreBytes, is_bytes}
-use Rattle.trace.proofs.Entries.{cut_cache, cut_event, cut_slot, entered_event, entered_slot, fits_digits, same_word}
+use Rattle.trace.proofs.Entries.{cut_disks, cut_event, cut_slot, entered_event, entered_slot, fits_digits, same_word}
 use Rattle.hexadecimal.proofs.Numbers.{same_fixed, same_num}
 use Rattle.trace.proofs.Signs.{lines_of-joined}
 use Rattle.trace.proofs.Sofar.{Fits, Sofar, clean, lines_left, next_is, unbroken}
@@ -43,6 +47,12 @@ same_mode false false e = refl
 same_mode false true e = absurd (omega (arith, ap (λ (xs : List ℕ). get_or xs 1 0) e))
 same_mode true false e = absurd (omega (arith, ap (λ (xs : List ℕ). get_or xs 1 0) e))
 same_mode true true e = refl
+
+same_verdict : (a b : Verdict) → verdict a ≡ verdict b → a ≡ b
+same_verdict Done Done e = refl
+same_verdict Done Failed e = absurd (omega (arith, ap length e))
+same_verdict Failed Done e = absurd (omega (arith, ap length e))
+same_verdict Failed Failed e = refl
 
 ok_is : (x y : List ℕ) (r : Result (List ℕ) FromHexError) → r ≡ Ok x → r ≡ Ok y → x ≡ y
 ok_is x y r p q = cc
@@ -186,6 +196,24 @@ same_what m n (what.MemRead a r) (what.Restore ys) rv rw' fv fw e = absurd (omeg
 same_what m n (what.MemWrite a xs) (what.Restore ys) rv rw' fv fw e = absurd (omega (arith, ap sign e))
 same_what m n (what.Input xs) (what.Restore ys) rv rw' fv fw e = absurd (omega (arith, ap sign e))
 same_what m n (what.Resize a r) (what.Restore ys) rv rw' fv fw e = absurd (omega (arith, ap sign e))
+same_what m n (what.Complete a) (what.Complete b) rv rw' fv fw e =
+    let slot = same_num m n (ap (λ (fs : List (List ℕ)). get_or fs 1 []) e) in
+    let verdict' = same_verdict a b (ap (λ (fs : List (List ℕ)). get_or fs 2 []) e) in
+    (slot, cc)
+same_what m n (what.Complete c) (what.Read l p x) rv rw' fv fw e = absurd (omega (arith, ap sign e))
+same_what m n (what.Complete c) (what.Write l p x v') rv rw' fv fw e = absurd (omega (arith, ap sign e))
+same_what m n (what.Complete c) (what.MemRead b t) rv rw' fv fw e = absurd (omega (arith, ap sign e))
+same_what m n (what.Complete c) (what.MemWrite b ys) rv rw' fv fw e = absurd (omega (arith, ap sign e))
+same_what m n (what.Complete c) (what.Input ys) rv rw' fv fw e = absurd (omega (arith, ap sign e))
+same_what m n (what.Complete c) (what.Resize b t) rv rw' fv fw e = absurd (omega (arith, ap sign e))
+same_what m n (what.Complete c) (what.Restore ys) rv rw' fv fw e = absurd (omega (arith, ap sign e))
+same_what m n (what.Read k o w) (what.Complete c) rv rw' fv fw e = absurd (omega (arith, ap sign e))
+same_what m n (what.Write k o w u) (what.Complete c) rv rw' fv fw e = absurd (omega (arith, ap sign e))
+same_what m n (what.MemRead a r) (what.Complete c) rv rw' fv fw e = absurd (omega (arith, ap sign e))
+same_what m n (what.MemWrite a xs) (what.Complete c) rv rw' fv fw e = absurd (omega (arith, ap sign e))
+same_what m n (what.Input xs) (what.Complete c) rv rw' fv fw e = absurd (omega (arith, ap sign e))
+same_what m n (what.Resize a r) (what.Complete c) rv rw' fv fw e = absurd (omega (arith, ap sign e))
+same_what m n (what.Restore xs) (what.Complete c) rv rw' fv fw e = absurd (omega (arith, ap sign e))
 
 pub same_event_fields : {A : Type 0} (d e : Event A) → IsFine d → IsFine e → event_fields d ≡ event_fields e → d ≡ e
 same_event_fields d e fd fe h =
@@ -248,20 +276,27 @@ all_fine_slots c h = λ k d lt. record { fits = h.range.slots k d lt; printable 
 lines_of_text : {A : Type 0} (c : Content A) → Fits c → lines_of (text c) ≡ trace_lines c ++ lines_of []
 lines_of_text c h = ap lines_of (sym (append-nil (text c))) ∙ lines_of-joined (trace_lines c) [] (unbroken c h)
 
+-- the second line says where the disks are
+same_disks : (c d : Disks) → disks_fields c ≡ disks_fields d → c ≡ d
+same_disks (kept.Cached m) (kept.Cached n) e = ap kept.Cached (same_num m n (ap (λ (fs : List (List ℕ)). get_or fs 1 []) e))
+same_disks (kept.Cached m) kept.Hosted e = absurd (omega (arith, ap length e))
+same_disks kept.Hosted (kept.Cached n) e = absurd (omega (arith, ap length e))
+same_disks kept.Hosted kept.Hosted e = refl
+
 same_lines : {A : Type 0} (c d : Content A) → Fits c → Fits d → trace_lines c ≡ trace_lines d → c ≡ d
 unfolding trace_lines
 same_lines c d hc hd e =
     let version : c.version ≡ d.version = omega (arith, ap (λ (ls : List (List ℕ)). get_or (get_or ls 0 []) 8 0) e) in
-    let caches : cache_line c.cache ≡ cache_line d.cache = ap (λ (ls : List (List ℕ)). get_or ls 1 []) e in
-    let cache = same_num c.cache d.cache (ap (λ (fs : List (List ℕ)). get_or fs 1 []) (sym (cut_cache c.cache) ∙ ap fields_of caches ∙ cut_cache d.cache)) in
+    let seconds : disks_line c.disks ≡ disks_line d.disks = ap (λ (ls : List (List ℕ)). get_or ls 1 []) e in
+    let disks = same_disks c.disks d.disks (sym (cut_disks c.disks) ∙ ap fields_of seconds ∙ cut_disks d.disks) in
     let fine : All (IsFineSlot c.version) d.slots = subst (λ (v : ℕ). All (IsFineSlot v) d.slots) (sym version) (all_fine_slots d hd) in
     let lines : map (slot_line c.version) c.slots ++ map event_line c.events ≡ map (slot_line c.version) d.slots ++ map event_line d.events =
     ap (drop 2) e ∙ ap (λ (v : ℕ). map (slot_line v) d.slots ++ map event_line d.events) (sym version) in
     let parts = same_parts c.version hc.printable.version c.slots d.slots c.events d.events (all_fine_slots c hc) fine (all_fine c hc) (all_fine d hd) lines in
-    ap (λ (n : ℕ). record { version = n; cache = c.cache; slots = c.slots; events = c.events }) version
-    ∙ ap (λ (n : ℕ). record { version = d.version; cache = n; slots = c.slots; events = c.events }) cache
-    ∙ ap (λ (ss : List SlotSpec). record { version = d.version; cache = d.cache; slots = ss; events = c.events }) parts.0
-    ∙ ap (λ es. record { version = d.version; cache = d.cache; slots = d.slots; events = es }) parts.1
+    ap (λ (n : ℕ). record { version = n; disks = c.disks; slots = c.slots; events = c.events }) version
+    ∙ ap (λ (k : Disks). record { version = d.version; disks = k; slots = c.slots; events = c.events }) disks
+    ∙ ap (λ (ss : List SlotSpec). record { version = d.version; disks = d.disks; slots = ss; events = c.events }) parts.0
+    ∙ ap (λ es. record { version = d.version; disks = d.disks; slots = d.slots; events = es }) parts.1
 
 -- a text belongs to one trace
 pub one_trace : {A : Type 0} (c d : Content A) → Fits c → Fits d → text c ≡ text d → c ≡ d

@@ -7,7 +7,7 @@ use Rattle.trace.specs.declared.table.Field.TheVariants.{Identity, Sectors}
 use Rattle.trace.specs.declared.value.FieldValue.{FieldValue}
 use Rattle.trace.specs.declared.value.FieldValue.TheVariants as value
 use Rattle.trace.specs.declared.word.Word.{Word}
-use Rattle.trace.specs.declared.word.Word.TheVariants.{Cache, Slot, Read, Write, MemRead, MemWrite, Input, Resize, Restore}
+use Rattle.trace.specs.declared.word.Word.TheVariants.{Cache, Hosted, Slot, Read, Write, MemRead, MemWrite, Input, Resize, Restore, Complete}
 use Rattle.trace.specs.Printable.{IsWriteAccess}
 use Rattle.trace.specs.Spelling.{value_text}
 use Rattle.trace.specs.Values.{AreOf, IsOf, SaysValue, SayValues}
@@ -74,6 +74,7 @@ last_few true = omega arith
 
 pub at_most_eight : (version : ℕ) (word : Word) → length (fields_in version word) ≤ 8
 at_most_eight version Cache = omega arith
+at_most_eight version Hosted = omega arith
 at_most_eight version Slot = omega (arith, last_few (version == 1))
 at_most_eight version Read = omega arith
 at_most_eight version Write = omega arith
@@ -82,10 +83,12 @@ at_most_eight version MemWrite = omega arith
 at_most_eight version Input = omega arith
 at_most_eight version Resize = omega arith
 at_most_eight version Restore = omega arith
+at_most_eight version Complete = omega arith
 
 -- only a write's shapes depend on a width
 pub shapes_by : (version : ℕ) (word : Word) (width : List ℕ) (fields : List (List ℕ)) → (word ≡ Write → width ≡ width_among fields) → map (shape_of width) (fields_in version word) ≡ shapes version word fields
 shapes_by version Cache width fields same = refl
+shapes_by version Hosted width fields same = refl
 shapes_by version Slot width fields same =
     ap (λ (last : List Shape). Num 64 ∷ Num 64 ∷ Num 64 ∷ Num 64 ∷ Mode ∷ Num 16 ∷ Num 16 ∷ last)
     (map_since_version_2 (shape_of width) version (Identity ∷ []) ∙ sym (map_since_version_2 (shape_of (width_among fields)) version (Identity ∷ [])))
@@ -96,10 +99,12 @@ shapes_by version MemWrite width fields same = refl
 shapes_by version Input width fields same = refl
 shapes_by version Resize width fields same = refl
 shapes_by version Restore width fields same = refl
+shapes_by version Complete width fields same = refl
 
 -- the fields of an event are the same in each version
 pub same_right : (version other : ℕ) (word : Word) (fields : List (List ℕ)) → word ≢ Slot → AreRight version word fields → AreRight other word fields
 same_right version other Cache fields event h = h
+same_right version other Hosted fields event h = h
 same_right version other Slot fields event h = absurd (event refl)
 same_right version other Read fields event h = h
 same_right version other Write fields event h = h
@@ -108,6 +113,7 @@ same_right version other MemWrite fields event h = h
 same_right version other Input fields event h = h
 same_right version other Resize fields event h = h
 same_right version other Restore fields event h = h
+same_right version other Complete fields event h = h
 
 -- ---- a write
 

@@ -1,9 +1,9 @@
 -- What later versions have.
 use Rattle.std.proofs.Common.{◌≡◌, ◌==◌, ◌≤◌, ℕ, Bool, true, false, if◌then◌else◌, List, [], get_or, map, refl, arith, inl, inr}
 use Rattle.trace.specs.declared.word.Word.{Word}
-use Rattle.trace.specs.declared.word.Word.TheVariants.{Cache, Slot, Read, Write, MemRead, MemWrite, Input, Resize, Restore}
+use Rattle.trace.specs.declared.word.Word.TheVariants.{Cache, Hosted, Slot, Read, Write, MemRead, MemWrite, Input, Resize, Restore, Complete}
 use Rattle.trace.specs.Printable.{IsPrintable}
-use Rattle.trace.specs.Text.{Content, as_version, word_for}
+use Rattle.trace.specs.Text.{Content, as_version, disks_word, word_for}
 use Rattle.trace.specs.Version.{IsVersion, since_version_2}
 use Rattle.trace.specs.Words.{IsWordOf}
 
@@ -18,6 +18,7 @@ map_since_version_2 f version xs = map_if f (version == 1) xs
 -- a word stays one of the later versions
 pub word_later : (v w : ℕ) (word : Word) → v ≤ w → IsWordOf v word → IsWordOf w word
 word_later v w Cache le h = tt
+word_later v w Hosted le h = omega arith
 word_later v w Slot le h = tt
 word_later v w Read le h = tt
 word_later v w Write le h = tt
@@ -26,10 +27,12 @@ word_later v w MemWrite le h = tt
 word_later v w Input le h = tt
 word_later v w Resize le h = tt
 word_later v w Restore le h = omega arith
+word_later v w Complete le h = omega arith
 
 -- version 3 has every word
 pub word_of_3 : (word : Word) → IsWordOf 3 word
 word_of_3 Cache = tt
+word_of_3 Hosted = omega arith
 word_of_3 Slot = tt
 word_of_3 Read = tt
 word_of_3 Write = tt
@@ -38,6 +41,7 @@ word_of_3 MemWrite = tt
 word_of_3 Input = tt
 word_of_3 Resize = tt
 word_of_3 Restore = omega arith
+word_of_3 Complete = omega arith
 
 pub first_is_1 : (v w : ℕ) → IsVersion v → v ≤ w → w ≡ 1 → v ≡ 1
 first_is_1 v w one_of le e = elim one_of [ inl one ↦ one | inr more ↦ elim more [ inl two ↦ absurd (omega arith) | inr three ↦ absurd (omega arith) ] ]
@@ -46,6 +50,7 @@ first_is_1 v w one_of le e = elim one_of [ inl one ↦ one | inr more ↦ elim m
 pub fits_later : {A : Type 0} (version : ℕ) (t : Content A) → IsVersion version → t.version ≤ version → IsPrintable t → IsPrintable (as_version version t)
 fits_later version t one_of le h = record {
   version = one_of;
+  disks = word_later t.version version (disks_word t.disks) le h.disks;
   slots = λ k d lt e. h.slots k d lt (first_is_1 t.version version h.version le e);
   events = h.events;
   words = λ k d lt. word_later t.version version (word_for (get_or t.events k d).what) le (h.words k d lt);

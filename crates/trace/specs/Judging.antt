@@ -4,6 +4,7 @@ use Rattle.board.specs.declared.event.Event.{Event}
 use Rattle.board.specs.declared.event.EventKind.{EventKind}
 use Rattle.board.specs.declared.event.EventKind.TheVariants as event
 use Rattle.board.specs.declared.spec.SlotSpec.{SlotSpec}
+use Rattle.trace.specs.declared.disks.Disks.{Disks}
 use Rattle.trace.specs.declared.read.judging.Judged.{Judged}
 use Rattle.trace.specs.declared.read.said.Said.{Said}
 use Rattle.trace.specs.Refusals.{IsFine, SaysEvent, SaysSlot}
@@ -38,7 +39,7 @@ pub record AreEventLines (A : Type 0) (room : ℕ) (lines : List ℕ) : Type 0 w
 -- what was judged, without where it lies in memory
 pub record Judgement : Type 0 where
   pub version : ℕ
-  pub cache : ℕ
+  pub disks : Disks
   pub slots : List SlotSpec
   pub events : List ℕ
   pub longest : ℕ
@@ -47,7 +48,7 @@ pub record Judgement : Type 0 where
 abbrev pub judgement : {A : Type 0} → Judged A → Judgement
 judgement j = record {
   version = j.version;
-  cache = j.cache;
+  disks = j.disks;
   slots = j.slots.items;
   events = j.events.now;
   longest = j.longest;
@@ -56,14 +57,14 @@ judgement j = record {
 
 -- the trace without its events
 abbrev pub kept : (A : Type 0) → Judgement → Content A
-kept A j = record { version = j.version; cache = j.cache; slots = j.slots; events = [] }
+kept A j = record { version = j.version; disks = j.disks; slots = j.slots; events = [] }
 
 -- the text is that of one trace, of which this is kept
 pub record IsJudged (A : Type 0) (text : List ℕ) (j : Judgement) : Type 0 where
   pub trace : Content A
   pub read : IsTraceOf text trace
   pub version : trace.version ≡ j.version
-  pub cache : trace.cache ≡ j.cache
+  pub disks : trace.disks ≡ j.disks
   pub slots : trace.slots ≡ j.slots
   pub lines_of : AreLinesOf trace.events j.events
   pub fit : HaveRoom j.longest trace.events

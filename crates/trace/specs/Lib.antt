@@ -10,6 +10,7 @@ pub mod Reading
 pub mod Said
 pub mod Refusals
 pub mod Records
+pub mod Asked
 pub mod Sends
 pub mod Judging
 pub mod Events

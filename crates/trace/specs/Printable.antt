@@ -2,9 +2,11 @@
 use Rattle.std.specs.Prelude.{◌≡◌, ℕ, ◌*◌, ◌^◌, ◌<◌, List, All, ⊤, length}
 use Rattle.board.specs.declared.event.Event.{Event}
 use Rattle.board.specs.declared.event.EventKind.{EventKind}
-use Rattle.board.specs.declared.event.EventKind.TheVariants.{Read, Write, MemRead, MemWrite, Input, Resize, Restore}
+use Rattle.board.specs.declared.event.EventKind.TheVariants.{Read, Write, MemRead, MemWrite, Input, Resize, Restore, Complete}
 use Rattle.board.specs.declared.spec.SlotSpec.{SlotSpec}
-use Rattle.trace.specs.Text.{Content, word_for}
+use Rattle.trace.specs.declared.disks.Disks.{Disks}
+use Rattle.trace.specs.declared.disks.Disks.TheVariants.{Cached, Hosted}
+use Rattle.trace.specs.Text.{Content, disks_word, word_for}
 use Rattle.trace.specs.Version.{IsVersion, identity_in_version_1}
 use Rattle.trace.specs.Words.{IsWidth, IsWordOf}
 
@@ -27,15 +29,17 @@ IsPrintableKind (MemWrite addr bs) = ⊤
 IsPrintableKind (Input bs) = ⊤
 IsPrintableKind (Resize cols rows) = ⊤
 IsPrintableKind (Restore bs) = ⊤
+IsPrintableKind (Complete verdict) = ⊤
 
 -- a slot that has a line in a version: version 1 leaves its identity out
 abbrev pub IsPrintableSlot : ℕ → SlotSpec → Type 0
 IsPrintableSlot version s = version ≡ 1 → s.identity ≡ identity_in_version_1
 
--- a trace that has a text: there is such a version, and each of its slots and events has a line, whose word is of that
--- version
+-- a trace that has a text: there is such a version, each of its slots and events has a line, and each line's word is of
+-- that version
 pub record IsPrintable {A : Type 0} (t : Content A) : Type 0 where
   pub version : IsVersion t.version
+  pub disks : IsWordOf t.version (disks_word t.disks)
   pub slots : All (IsPrintableSlot t.version) t.slots
   pub events : All (λ e. IsPrintableKind e.what) t.events
   pub words : All (λ e. IsWordOf t.version (word_for e.what)) t.events
@@ -75,12 +79,17 @@ KindInRange (MemWrite addr bs) = BytesInRange addr bs
 KindInRange (Input bs) = EachInRange bs
 KindInRange (Resize cols rows) = SizeInRange cols rows
 KindInRange (Restore bs) = EachInRange bs
+KindInRange (Complete verdict) = ⊤
 
 pub record EventInRange {A : Type 0} (e : Event A) : Type 0 where
   pub slot : e.slot < 2 ^ 8
   pub what : KindInRange e.what
 
+abbrev pub DisksInRange : Disks → Type 0
+DisksInRange (Cached capacity) = capacity < 2 ^ 32
+DisksInRange Hosted = ⊤
+
 pub record InRange {A : Type 0} (t : Content A) : Type 0 where
-  pub cache : t.cache < 2 ^ 32
+  pub disks : DisksInRange t.disks
   pub slots : All SlotInRange t.slots
   pub events : All EventInRange t.events

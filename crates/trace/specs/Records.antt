@@ -15,6 +15,8 @@ reply_field (reply.Took n) = codes "took:" ++ num n
 reply_field reply.BadSlot = codes "badslot"
 reply_field reply.BadRange = codes "badrange"
 reply_field reply.BadState = codes "badstate"
+reply_field reply.Busy = codes "busy"
+reply_field reply.Idle = codes "idle"
 reply_field reply.NoMemory = codes "nomem"
 
 -- the slot, the reply, the console output, and InterruptStatus of both windows by one digit each

@@ -3,17 +3,18 @@ use Rattle.std.specs.Prelude.{◌≡◌, ◌⊎◌, ℕ, ◌^◌, ◌<◌, ◌�
 use Rattle.trace.specs.declared.fault.FaultKind.{FaultKind}
 use Rattle.trace.specs.declared.fault.FaultKind.TheVariants as kind
 use Rattle.board.specs.declared.event.Event.{Event}
-use Rattle.trace.specs.Printable.{EventInRange, IsPrintableKind, IsPrintableSlot}
+use Rattle.trace.specs.declared.disks.Disks.{Disks}
+use Rattle.trace.specs.Printable.{DisksInRange, EventInRange, IsPrintableKind, IsPrintableSlot}
 use Rattle.trace.specs.Cuts.{lines_of, fields_of}
 use Rattle.trace.specs.Faults.{AllSay, AreAsMany, IsHeader, MayStand, first_field, other_fields}
-use Rattle.trace.specs.Text.{Content, header, cache_fields, slot_fields, event_fields, word_for}
+use Rattle.trace.specs.Text.{Content, header, disks_fields, disks_word, slot_fields, event_fields, word_for}
 use Rattle.trace.specs.Printable.{SlotInRange}
 use Rattle.trace.specs.Version.{IsVersion}
 use Rattle.board.specs.declared.spec.SlotSpec.{SlotSpec}
 use Rattle.trace.specs.declared.read.entry.Entry.{Entry}
 use Rattle.trace.specs.declared.read.entry.Entry.TheVariants as entry
 use Rattle.trace.specs.declared.word.Word.{Word}
-use Rattle.trace.specs.declared.word.Word.TheVariants.{Cache, Slot}
+use Rattle.trace.specs.declared.word.Word.TheVariants.{Slot}
 use Rattle.trace.specs.declared.read.said.Said.{Said}
 use Rattle.trace.specs.Said.{IsFineSaid, said_fields}
 use Rattle.trace.specs.Words.{IsWordOf, spelled, shapes}
@@ -48,10 +49,6 @@ RefusesLine version begun line kind.Word = (word : Word) → MayStand 3 word →
 RefusesLine version begun line kind.Order = (begun ≡ true) × (first_field line ≡ spelled Slot)
 RefusesLine version begun line fault = RefusesAfterWord version begun line fault
 
--- the same of a word that has the same fields in each version
-abbrev pub RefusesFieldsOf : Word → List (List ℕ) → FaultKind → Type 0
-RefusesFieldsOf word fields fault = (version : ℕ) → RefusesFields version word fields fault
-
 -- the fields of what was read
 abbrev pub entry_fields : {A : Type 0} → ℕ → Entry A → List (List ℕ)
 entry_fields version (entry.Slot s) = slot_fields version s
@@ -84,33 +81,37 @@ pub record IsFirst (text : List ℕ) (version : ℕ) (rest : List ℕ) : Type 0 
   pub one_of : IsVersion version
   pub ended : text ≡ header version ++ 10 ∷ rest
 
--- a text whose first line is that of the cache
-pub record IsSecond (text : List ℕ) (sectors : ℕ) (rest : List ℕ) : Type 0 where
-  pub fits : sectors < 2 ^ 32
+-- in a version, a text whose first line says where the disks are
+pub record IsSecond (version : ℕ) (text : List ℕ) (disks : Disks) (rest : List ℕ) : Type 0 where
+  pub fits : DisksInRange disks
+  pub of_version : IsWordOf version (disks_word disks)
   pub line : List ℕ
   pub ended : text ≡ line ++ 10 ∷ rest
-  pub fields : fields_of line ≡ cache_fields sectors
+  pub fields : fields_of line ≡ disks_fields disks
 
--- a text whose first line is ended and begins with another word
-pub record IsOtherWord (text : List ℕ) : Type 0 where
+-- a text whose first line is ended and begins with no word of the version that may stand in line 2
+pub record IsOtherWord (version : ℕ) (text : List ℕ) : Type 0 where
   pub line : List ℕ
   pub rest : List ℕ
   pub cut : lines_of text ≡ line ∷ lines_of rest
-  pub other : first_field line ≡ spelled Cache → ⊥
+  pub other : (word : Word) → MayStand 2 word → IsWordOf version word → ¬ (first_field line ≡ spelled word)
 
--- a text whose first line is that of the cache but for its fields
-pub record RefusesCache (text : List ℕ) (fault : FaultKind) : Type 0 where
+-- a text whose first line has such a word, but for its fields
+pub record RefusesDisks (version : ℕ) (text : List ℕ) (fault : FaultKind) : Type 0 where
   pub line : List ℕ
   pub rest : List ℕ
   pub cut : lines_of text ≡ line ∷ lines_of rest
-  pub first : first_field line ≡ spelled Cache
-  pub refused : RefusesFieldsOf Cache (other_fields line) fault
+  pub word : Word
+  pub may : MayStand 2 word
+  pub of_version : IsWordOf version word
+  pub first : first_field line ≡ spelled word
+  pub refused : RefusesFields version word (other_fields line) fault
 
 -- the second line, at the front of a text, is refused
-abbrev pub RefusesSecond : List ℕ → FaultKind → Type 0
-RefusesSecond text kind.Cut = lines_of text ≡ text ∷ []
-RefusesSecond text kind.Word = IsOtherWord text
-RefusesSecond text fault = RefusesCache text fault
+abbrev pub RefusesSecond : ℕ → List ℕ → FaultKind → Type 0
+RefusesSecond version text kind.Cut = lines_of text ≡ text ∷ []
+RefusesSecond version text kind.Word = IsOtherWord version text
+RefusesSecond version text fault = RefusesDisks version text fault
 
 -- whether an event was read
 abbrev pub has_begun : {A : Type 0} → Content A → Bool

@@ -1,13 +1,15 @@
 -- How each field of a trace and of the records is spelled, as a list of ASCII bytes.
 use Rattle.std.specs.Prelude.{ℕ, ◌+◌, ◌*◌, Bool, true, false, List, [], ◌∷◌, codes}
 use Rattle.hexadecimal.specs.Spelling.{num, fixed, bytes}
+use Rattle.block_device.specs.declared.operation.Verdict as operation
+use Rattle.block_device.specs.declared.operation.Verdict.TheVariants.{Done, Failed}
 use Rattle.mmio_window.specs.declared.device_kind.DeviceKind.{DeviceKind}
 use Rattle.mmio_window.specs.declared.device_kind.DeviceKind.TheVariants.{Block, Console}
 use Rattle.trace.specs.declared.print.line.LineFields.{LineFields}
 use Rattle.trace.specs.declared.table.Field.{Field}
 use Rattle.trace.specs.declared.table.Field.TheVariants as field
 use Rattle.trace.specs.declared.value.FieldValue.{FieldValue}
-use Rattle.trace.specs.declared.value.FieldValue.TheVariants.{Number, Mode, Window, Offset, Width, Value, Identity, Spelled}
+use Rattle.trace.specs.declared.value.FieldValue.TheVariants.{Number, Mode, Window, Offset, Width, Value, Identity, Verdict, Spelled}
 
 -- the window of a kind of device
 abbrev pub window : DeviceKind → List ℕ
@@ -18,6 +20,11 @@ window Console = codes "c"
 abbrev pub mode : Bool → List ℕ
 mode false = codes "rw"
 mode true = codes "ro"
+
+-- what came of an operation
+abbrev pub verdict : operation.Verdict → List ℕ
+verdict Done = codes "done"
+verdict Failed = codes "failed"
 
 -- the width of a register access, which is one digit (48 is `0`)
 abbrev pub width_digit : ℕ → List ℕ
@@ -32,6 +39,7 @@ value_text (Offset offset) = fixed 3 offset
 value_text (Width width) = num width
 value_text (Value width value) = fixed (2 * width) value
 value_text (Identity bs) = bytes bs
+value_text (Verdict came) = verdict came
 value_text (Spelled field) = field.now
 
 -- a field of a line, by what its fields say
@@ -53,3 +61,4 @@ field_text says field.Value = fixed (2 * says.width) says.value
 field_text says field.Address = num says.address
 field_text says field.Length = num says.length
 field_text says field.Bytes = bytes says.bytes.now
+field_text says field.Verdict = verdict says.verdict

@@ -6,23 +6,26 @@ use Rattle.board.specs.declared.event.Event.{Event}
 use Rattle.board.specs.declared.event.EventKind.{EventKind}
 use Rattle.board.specs.declared.event.EventKind.TheVariants as what
 use Rattle.board.specs.declared.spec.SlotSpec.{SlotSpec}
+use Rattle.block_device.specs.declared.operation.Verdict.{Verdict}
+use Rattle.trace.specs.declared.disks.Disks.{Disks}
+use Rattle.trace.specs.declared.disks.Disks.TheVariants as disks
 use Rattle.trace.specs.declared.trace.Trace.{Trace}
 use Rattle.trace.specs.declared.word.Word.{Word}
-use Rattle.trace.specs.declared.word.Word.TheVariants.{Cache, Slot, Read, Write, MemRead, MemWrite, Input, Resize, Restore}
+use Rattle.trace.specs.declared.word.Word.TheVariants.{Cache, Hosted, Slot, Read, Write, MemRead, MemWrite, Input, Resize, Restore, Complete}
 use Rattle.hexadecimal.specs.Spelling.{num, fixed, bytes}
-use Rattle.trace.specs.Spelling.{window, width_digit, mode}
+use Rattle.trace.specs.Spelling.{window, width_digit, mode, verdict}
 use Rattle.trace.specs.Version.{since_version_2}
 use Rattle.trace.specs.Words.{spelled}
 
 -- a trace without where it lies in memory
 pub record Content (A : Type 0) : Type 0 where
   pub version : ℕ
-  pub cache : ℕ
+  pub disks : Disks
   pub slots : List SlotSpec
   pub events : List (Event A)
 
 abbrev pub content : {A : Type 0} → Trace A → Content A
-content t = record { version = t.version; cache = t.cache; slots = t.slots.items; events = t.events.items }
+content t = record { version = t.version; disks = t.disks; slots = t.slots.items; events = t.events.items }
 
 -- a line of fields: a space stands between two of them
 abbrev pub line : List (List ℕ) → List ℕ
@@ -32,8 +35,14 @@ line fields = join_with_byte 32 fields
 abbrev pub header : ℕ → List ℕ
 header version = codes "vreplay " ++ (48 + version) ∷ []
 
-abbrev pub cache_fields : ℕ → List (List ℕ)
-cache_fields sectors = spelled Cache ∷ num sectors ∷ []
+-- the second line: the capacity of the cache before the image, or that the host has the disks
+abbrev pub disks_word : Disks → Word
+disks_word (disks.Cached capacity) = Cache
+disks_word disks.Hosted = Hosted
+
+abbrev pub disks_fields : Disks → List (List ℕ)
+disks_fields (disks.Cached capacity) = spelled Cache ∷ num capacity ∷ []
+disks_fields disks.Hosted = spelled Hosted ∷ []
 
 -- a slot, in a version
 abbrev pub slot_fields : ℕ → SlotSpec → List (List ℕ)
@@ -66,6 +75,10 @@ resize_fields slot cols rows = spelled Resize ∷ num slot ∷ num cols ∷ num 
 abbrev pub restore_fields : ℕ → List ℕ → List (List ℕ)
 restore_fields slot bs = spelled Restore ∷ num slot ∷ bytes bs ∷ []
 
+-- what was in flight of a slot's disk came to its end
+abbrev pub complete_fields : ℕ → Verdict → List (List ℕ)
+complete_fields slot came = spelled Complete ∷ num slot ∷ verdict came ∷ []
+
 -- the word of what a slot does
 abbrev pub word_for : {A : Type 0} → EventKind A → Word
 word_for (what.Read kind offset width) = Read
@@ -75,6 +88,7 @@ word_for (what.MemWrite addr bs) = MemWrite
 word_for (what.Input bs) = Input
 word_for (what.Resize cols rows) = Resize
 word_for (what.Restore bs) = Restore
+word_for (what.Complete came) = Complete
 
 -- the fields of what a slot does
 abbrev pub what_fields : {A : Type 0} → ℕ → EventKind A → List (List ℕ)
@@ -85,6 +99,7 @@ what_fields slot (what.MemWrite addr bs) = mem_write_fields slot addr bs
 what_fields slot (what.Input bs) = input_fields slot bs
 what_fields slot (what.Resize cols rows) = resize_fields slot cols rows
 what_fields slot (what.Restore bs) = restore_fields slot bs
+what_fields slot (what.Complete came) = complete_fields slot came
 
 abbrev pub event_fields : {A : Type 0} → Event A → List (List ℕ)
 event_fields e = what_fields e.slot e.what
@@ -96,12 +111,12 @@ slot_line version s = line (slot_fields version s)
 unfoldable pub event_line : {A : Type 0} → Event A → List ℕ
 event_line e = line (event_fields e)
 
-unfoldable pub cache_line : ℕ → List ℕ
-cache_line sectors = line (cache_fields sectors)
+unfoldable pub disks_line : Disks → List ℕ
+disks_line d = line (disks_fields d)
 
--- the lines of a trace: the header, the cache, the slots, the events
+-- the lines of a trace: the header, where its disks are, the slots, the events
 unfoldable pub trace_lines : {A : Type 0} → Content A → List (List ℕ)
-trace_lines t = header t.version ∷ cache_line t.cache ∷ map (slot_line t.version) t.slots ++ map event_line t.events
+trace_lines t = header t.version ∷ disks_line t.disks ∷ map (slot_line t.version) t.slots ++ map event_line t.events
 
 -- lines as a text, each ended by a line feed
 abbrev pub ended : List ℕ → List ℕ
@@ -115,8 +130,8 @@ abbrev pub text : {A : Type 0} → Content A → List ℕ
 text t = joined (trace_lines t)
 
 -- its first two lines
-abbrev pub front_text : ℕ → ℕ → List ℕ
-front_text version cache = ended (header version) ++ ended (cache_line cache)
+abbrev pub front_text : ℕ → Disks → List ℕ
+front_text version d = ended (header version) ++ ended (disks_line d)
 
 -- the same trace as one of a version
 abbrev pub as_version : {A : Type 0} → ℕ → Content A → Content A

@@ -1,11 +1,12 @@
 -- The values of a line's fields: of which shape one is, and those that the fields say.
 use Rattle.std.specs.Prelude.{◌≡◌, ℕ, ◌*◌, ◌^◌, ◌<◌, Bool, List, [], ◌∷◌, map}
 use Rattle.std.specs.Borrow.{Bor}
+use Rattle.block_device.specs.declared.operation.Verdict as operation
 use Rattle.mmio_window.specs.declared.device_kind.DeviceKind.{DeviceKind}
 use Rattle.trace.specs.declared.value.FieldValue.{FieldValue}
 use Rattle.trace.specs.declared.value.FieldValue.TheVariants as value
 use Rattle.trace.specs.Spelling.{value_text}
-use Rattle.trace.specs.Words.{Shape, Num, Offset, Window, Width, Value, Mode, Bytes, Identity, IsIdentityField, IsWidth, IsWidthField, Says}
+use Rattle.trace.specs.Words.{Shape, Num, Offset, Window, Width, Value, Mode, Verdict, Bytes, Identity, IsIdentityField, IsWidth, IsWidthField, Says}
 
 -- the value is one of a shape; where there is no width to read it by, any is
 abbrev pub IsOf : Shape → FieldValue → Type 0
@@ -15,6 +16,7 @@ IsOf Window v = (kind : DeviceKind) × (v ≡ value.Window kind)
 IsOf Width v = (width : ℕ) × ((v ≡ value.Width width) × IsWidth width)
 IsOf (Value width_field) v = (width : ℕ) → IsWidthField width_field width → (n : ℕ) × ((v ≡ value.Value width n) × (n < 16 ^ (2 * width)))
 IsOf Mode v = (read_only : Bool) × (v ≡ value.Mode read_only)
+IsOf Verdict v = (came : operation.Verdict) × (v ≡ value.Verdict came)
 IsOf Bytes v = (field : Bor (List ℕ)) × ((v ≡ value.Spelled field) × Says Bytes field.now)
 IsOf Identity v = (bs : List ℕ) × ((v ≡ value.Identity bs) × IsIdentityField (value_text v) bs)
 

@@ -1,12 +1,13 @@
 -- The table of a trace's lines: the word that each begins with, and what the fields after it say.
 use Rattle.std.specs.Prelude.{◌≡◌, ℕ, ◌*◌, ◌≤◌, ◌⊎◌, ⊤, Bool, List, [], ◌∷◌, codes, length, map, slice_index_or}
 use Rattle.mmio_window.specs.declared.device_kind.DeviceKind.{DeviceKind}
+use Rattle.block_device.specs.declared.operation.Verdict as operation
 use Rattle.trace.specs.declared.table.Field.{Field}
 use Rattle.trace.specs.declared.table.Field.TheVariants as field
 use Rattle.trace.specs.declared.word.Word.{Word}
-use Rattle.trace.specs.declared.word.Word.TheVariants.{Cache, Slot, Read, Write, MemRead, MemWrite, Input, Resize, Restore}
+use Rattle.trace.specs.declared.word.Word.TheVariants.{Cache, Hosted, Slot, Read, Write, MemRead, MemWrite, Input, Resize, Restore, Complete}
 use Rattle.hexadecimal.specs.Fields.{IsBytesField, IsFixed, SpellsBytes, SpellsNumber}
-use Rattle.trace.specs.Spelling.{window, width_digit, mode}
+use Rattle.trace.specs.Spelling.{window, width_digit, mode, verdict}
 use Rattle.trace.specs.Version.{since_version_2}
 
 -- how many bytes a register access may have
@@ -31,6 +32,7 @@ pub data Shape : Type 0 where
   Width : Shape
   Value : (width_field : List ℕ) → Shape
   Mode : Shape
+  Verdict : Shape
   Bytes : Shape
   Identity : Shape
 
@@ -43,12 +45,14 @@ Says Window field = (kind : DeviceKind) × (field ≡ window kind)
 Says Width field = (width : ℕ) × IsWidthField field width
 Says (Value width_field) field = (width : ℕ) → IsWidthField width_field width → (n : ℕ) × IsFixed (2 * width) field n
 Says Mode field = (read_only : Bool) × (field ≡ mode read_only)
+Says Verdict field = (came : operation.Verdict) × (field ≡ verdict came)
 Says Bytes field = SpellsBytes field
 Says Identity field = (bs : List ℕ) × IsIdentityField field bs
 
 -- how each word is spelled
 abbrev pub spelled : Word → List ℕ
 spelled Cache = codes "cache"
+spelled Hosted = codes "hosted"
 spelled Slot = codes "slot"
 spelled Read = codes "r"
 spelled Write = codes "w"
@@ -57,10 +61,14 @@ spelled MemWrite = codes "mw"
 spelled Input = codes "in"
 spelled Resize = codes "sz"
 spelled Restore = codes "st"
+spelled Complete = codes "io"
 
--- the words of a version: a restore has one from version 3 on, and the others are in each
+-- the words of a version: hosted disks, restores and completions have theirs from version 3 on, and the others are in
+-- each
 abbrev pub IsWordOf : ℕ → Word → Type 0
+IsWordOf version Hosted = 3 ≤ version
 IsWordOf version Restore = 3 ≤ version
+IsWordOf version Complete = 3 ≤ version
 IsWordOf version _ = ⊤
 
 abbrev pub IsInEach : Word → Type 0
@@ -69,6 +77,7 @@ IsInEach word = (version : ℕ) → IsWordOf version word
 -- the fields after each word, in a version
 abbrev pub fields_in : ℕ → Word → List Field
 fields_in version Cache = field.Sectors ∷ []
+fields_in version Hosted = []
 fields_in version Slot =
     field.Base ∷ field.Size ∷ field.Start ∷ field.Count ∷ field.Mode ∷ field.Columns ∷ field.Rows ∷ since_version_2 version (field.Identity ∷ [])
 fields_in version Read = field.Slot ∷ field.Window ∷ field.Offset ∷ field.Width ∷ []
@@ -78,6 +87,7 @@ fields_in version MemWrite = field.Slot ∷ field.Address ∷ field.Bytes ∷ []
 fields_in version Input = field.Slot ∷ field.Bytes ∷ []
 fields_in version Resize = field.Slot ∷ field.Columns ∷ field.Rows ∷ []
 fields_in version Restore = field.Slot ∷ field.Bytes ∷ []
+fields_in version Complete = field.Slot ∷ field.Verdict ∷ []
 
 -- of the fields of a line, the one by which a value is read
 abbrev pub width_among : List (List ℕ) → List ℕ
@@ -102,6 +112,7 @@ shape_of width field.Value = Value width
 shape_of width field.Address = Num 64
 shape_of width field.Length = Num 32
 shape_of width field.Bytes = Bytes
+shape_of width field.Verdict = Verdict
 
 -- the shapes of the fields after a word, in a version, where these are the fields
 abbrev pub shapes : ℕ → Word → List (List ℕ) → List Shape

@@ -4,9 +4,10 @@
 //! one text. `read` has the way from a text to its trace, `print` the way back and the text of records, and
 //! `round_trip` goes both ways. `word` says what a line is, `table` which fields it has, `value` what one says, and
 //! `version` what the first line says. How numbers and bytes are spelled is `hexadecimal`'s.
-//! `fault` has what is answered for a text that isn't a trace, and `laws` says that a text has one meaning or one fault.
+//! `disks` is where the guests' disks are. `fault` has what is answered for a text that isn't a trace, and `laws` says that a text has one meaning or one fault.
 #![tactic(auto)]
 
+mod disks;
 mod fault;
 mod laws;
 mod no_memory;
@@ -19,11 +20,13 @@ mod value;
 mod version;
 mod word;
 
+pub use disks::Disks;
 pub use fault::{FaultKind, TraceFault};
 pub use laws::{a_trace_has_no_fault, one_fault, one_trace};
 pub use no_memory::NoMemory;
 pub use print::{
-    Buffer, is_printable, print_records, print_trace, put_line, put_read, write_whole,
+    Buffer, is_printable, print_records, print_trace, put_asked, put_fields, put_line, put_read,
+    write_whole,
 };
 pub use read::{
     Judged, Said, event_of_line, field_at_fault, first_word, judge, line_of, read_bytes,

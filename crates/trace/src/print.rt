@@ -1,26 +1,29 @@
 //! Writing a whole trace.
 //!
 //! `line` writes a line, and `range` says the bounds of its numbers. `records` puts records into the
-//! `buffer` before a writer, and `write` writes whole texts.
+//! `buffer` before a writer, `asked` what a host is asked to do, and `write` writes whole texts.
 
 ghost use Rattle.std.specs.Prelude.{◌≡◌, ◌*◌, ◌^◌, ◌<◌, ◌↔◌, ◌++◌, ◌∷◌, All, IsTrue, IfOk, OnOk, map};
 ghost use Rattle.trace.specs.Printable.{InRange, IsAccess, IsPrintable, IsPrintableKind, IsPrintableSlot};
 ghost use Rattle.trace.specs.Spelling.{field_text};
-ghost use Rattle.trace.specs.Text.{content, text as text_of, ended, event_fields, event_line, front_text, joined, slot_line, word_for};
+ghost use Rattle.trace.specs.Text.{content, disks_word, text as text_of, ended, event_fields, event_line, front_text, joined, slot_line, word_for};
 ghost use Rattle.trace.specs.Version.{IsVersion};
 ghost use Rattle.trace.specs.Words.{IsWidth, IsWordOf, fields_in, spelled};
 
+mod asked;
 mod buffer;
 mod line;
 mod range;
 mod records;
 mod write;
 
+use crate::disks::{Disks, word_of_disks};
 use crate::no_memory::NoMemory;
+pub use crate::print::asked::put_asked;
 pub use crate::print::buffer::Buffer;
 use crate::print::line::{LineFields, push_line};
 use crate::print::range::in_range;
-pub use crate::print::records::{print_records, put_line, put_read};
+pub use crate::print::records::{print_records, put_fields, put_line, put_read};
 pub use crate::print::write::write_whole;
 use crate::trace::Trace;
 use crate::version::{VERSION_1, VERSION_2, VERSION_3, header_of, identity_in_version_1};
@@ -29,12 +32,12 @@ use board::{Event, EventKind, SlotSpec};
 use std::alloc::{AllocError, Allocator};
 
 /// Whether the trace has a text: its version is 1, 2 or 3, in version 1 each slot has the identity of that version, only
-/// version 3 has a restore, the offset of each register access has three digits, its width is 1, 2 or 4, and a value that
+/// version 3 has hosted disks, restores and completions, the offset of each register access has three digits, its width is 1, 2 or 4, and a value that
 /// is written is within that width. Each trace that was read has one.
 pub fn is_printable<A: Allocator>(trace: &Trace<A>) -> bool
     ensures { IsTrue result ↔ IsPrintable (content trace.now) }
 {
-    is_version(trace.version)
+    has_front(trace.version, trace.disks)
         && slots_have_lines(trace.version, &trace.slots)
         && events_have_lines(&trace.events)
         && events_have_words(trace.version, &trace.events)
@@ -45,6 +48,13 @@ fn is_version(version: u8) -> bool
     ensures { IsTrue result ↔ IsVersion version }
 {
     version == VERSION_1 || version == VERSION_2 || version == VERSION_3
+}
+
+// Whether there is such a version, and it has the word that says where the disks are.
+fn has_front(version: u8, disks: Disks) -> bool
+    ensures { IsTrue result ↔ (IsVersion version × IsWordOf version (disks_word disks)) }
+{
+    is_version(version) && is_word_of(version, word_of_disks(disks))
 }
 
 // Whether each slot has a line in a version.
@@ -98,7 +108,8 @@ fn has_line<A: Allocator>(what: &EventKind<A>) -> bool
         | EventKind::MemWrite { .. }
         | EventKind::Input { .. }
         | EventKind::Resize { .. }
-        | EventKind::Restore { .. } => true,
+        | EventKind::Restore { .. }
+        | EventKind::Complete { .. } => true,
     }
 }
 
@@ -130,7 +141,7 @@ pub fn print_trace<A: Allocator>(alloc: A, trace: &Trace<A>) -> Result<Vec<u8, A
 {
     in_range(trace);
     let mut out = Vec::new(alloc);
-    push_front(&mut out, trace.version, trace.cache)?;
+    push_front(&mut out, trace.version, trace.disks)?;
     push_slots(&mut out, trace.version, &trace.slots)?;
     push_events(&mut out, &trace.events)?;
     Ok(out)
@@ -162,18 +173,22 @@ fn push_events<A: Allocator>(out: &mut Vec<u8, A>, events: &[Event<A>]) -> Resul
 }
 
 // Appends the first two lines.
-#[tactic(auto, unfolding(crate::specs::Text::cache_line))]
-fn push_front<A: Allocator>(out: &mut Vec<u8, A>, version: u8, cache: u32) -> Result<(), AllocError>
+#[tactic(auto, unfolding(crate::specs::Text::disks_line))]
+fn push_front<A: Allocator>(
+    out: &mut Vec<u8, A>,
+    version: u8,
+    disks: Disks,
+) -> Result<(), AllocError>
     requires { IsVersion version }
-    ensures { OnOk result (out.new.items ≡ out.old.items ++ front_text version cache) }
+    ensures { OnOk result (out.new.items ≡ out.old.items ++ front_text version disks) }
 {
     out.extend_from_slice(header_of(version))?;
     out.push(b'\n')?;
-    let fields = LineFields {
-        sectors: cache,
-        ..LineFields::default()
-    };
-    push_line(out, version, Word::Cache, &fields)
+    let mut fields = LineFields::default();
+    if let Disks::Cached { capacity } = disks {
+        fields.sectors = capacity;
+    }
+    push_line(out, version, word_of_disks(disks), &fields)
 }
 
 // Appends the line of a slot.
@@ -257,6 +272,10 @@ fn event_says<A: Allocator>(event: &Event<A>) -> (Word, LineFields<'_>)
         EventKind::Restore { bytes } => {
             fields.bytes = bytes.as_slice();
             (Word::Restore, fields)
+        }
+        EventKind::Complete { verdict } => {
+            fields.verdict = *verdict;
+            (Word::Complete, fields)
         }
     }
 }

@@ -28,6 +28,7 @@ mod offset;
 mod said;
 mod values;
 
+use crate::disks::Disks;
 use crate::fault::{FaultKind, TraceFault};
 use crate::read::at_fault::fault_in;
 pub use crate::read::at_fault::{field_at_fault, first_word};
@@ -36,12 +37,12 @@ use crate::read::cut::{take_field, take_line};
 use crate::read::entry::{Entry, entry_of};
 pub use crate::read::event_line::event_of_line;
 pub use crate::read::events::take_event;
-use crate::read::fields::sectors_of;
+use crate::read::fields::disks_of;
 pub use crate::read::judging::{Judged, judge};
 pub use crate::read::said::Said;
 use crate::trace::Trace;
-use crate::version::{VERSION_1, version_of};
-use crate::word::{Word, is_cache};
+use crate::version::version_of;
+use crate::word::second_word;
 use board::Event;
 pub use hexadecimal::{read_bytes, spelled_len};
 use std::alloc::{AllocError, Allocator};
@@ -60,21 +61,21 @@ pub(crate) fn after_header(text: &[u8]) -> Result<(u8, &[u8]), FaultKind>
     Ok((version, rest))
 }
 
-/// The capacity of the cache, from the second line, and what follows it.
-pub(crate) fn cache_of(rest: &[u8]) -> Result<(u32, &[u8]), FaultKind>
-    ensures ok { IfOk result (λ x. IsSecond rest.now x.0 x.1.now) }
-    ensures err { IfErr result (λ fault. RefusesSecond rest.now fault) }
+/// Where the disks are in a trace of a version, from the second line, and what follows it.
+pub(crate) fn after_disks(version: u8, rest: &[u8]) -> Result<(Disks, &[u8]), FaultKind>
+    ensures ok { IfOk result (λ x. IsSecond version rest.now x.0 x.1.now) }
+    ensures err { IfErr result (λ fault. RefusesSecond version rest.now fault) }
 {
     let Some((line, after)) = take_line(rest) else {
         return Err(FaultKind::Cut);
     };
     let (first, others) = take_field(line);
-    if !is_cache(first) {
+    let Some(word) = second_word(version, first) else {
         return Err(FaultKind::Word);
-    }
-    match sectors_of(others) {
-        Some(cache) => Ok((cache, after)),
-        None => Err(fault_in(VERSION_1, Word::Cache, others)),
+    };
+    match disks_of(version, word, others) {
+        Some(disks) => Ok((disks, after)),
+        None => Err(fault_in(version, word, others)),
     }
 }
 
@@ -101,11 +102,11 @@ pub fn read_trace<A: Allocator + Copy>(alloc: A, text: &[u8]) -> Result<Trace<A>
         Ok(found) => found,
         Err(kind) => return Err(TraceFault { line: 1, kind }),
     };
-    let (cache, mut rest) = match cache_of(rest) {
+    let (disks, mut rest) = match after_disks(version, rest) {
         Ok(found) => found,
         Err(kind) => return Err(TraceFault { line: 2, kind }),
     };
-    let mut trace = Trace::new(alloc, version, cache);
+    let mut trace = Trace::new(alloc, version, disks);
     let mut line = 3;
     while !rest.is_empty() {
         let Some((this, after)) = take_line(rest) else {

@@ -32,6 +32,8 @@ pub enum Field {
     Address,
     Length,
     Bytes,
+    /// How an operation of a slot came out.
+    Verdict,
 }
 
 /// The fields after a word in a version, in their order.
@@ -41,6 +43,7 @@ pub fn fields_after(version: u8, word: Word) -> &'static [Field]
     use Field::*;
     match word {
         Word::Cache => &[Sectors],
+        Word::Hosted => &[],
         Word::Slot if version == VERSION_1 => &[Base, Size, Start, Count, Mode, Columns, Rows],
         Word::Slot => &[Base, Size, Start, Count, Mode, Columns, Rows, Identity],
         Word::Read => &[Slot, Window, Offset, Width],
@@ -50,5 +53,6 @@ pub fn fields_after(version: u8, word: Word) -> &'static [Field]
         Word::Input => &[Slot, Bytes],
         Word::Resize => &[Slot, Columns, Rows],
         Word::Restore => &[Slot, Bytes],
+        Word::Complete => &[Slot, Verdict],
     }
 }

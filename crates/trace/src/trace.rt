@@ -5,6 +5,7 @@ ghost use Rattle.trace.specs.Text.{as_version, content};
 ghost use Rattle.trace.specs.Printable.{IsPrintable};
 ghost use Rattle.trace.specs.Version.{IsVersion};
 
+use crate::disks::Disks;
 use board::{Event, SlotSpec};
 use std::alloc::{Allocator, Global};
 
@@ -14,8 +15,8 @@ use std::alloc::{Allocator, Global};
 pub struct Trace<A: Allocator = Global> {
     /// The version of its text: 1, 2 or 3.
     pub version: u8,
-    /// The capacity of the cache, in sectors.
-    pub cache: u32,
+    /// Where the guests' disks are.
+    pub disks: Disks,
     /// The slots, numbered from 0 in their order.
     pub slots: Vec<SlotSpec, A>,
     /// The events, in the order in which they happen.
@@ -24,12 +25,12 @@ pub struct Trace<A: Allocator = Global> {
 
 impl<A: Allocator + Copy> Trace<A> {
     /// A trace with no slot and no event. This takes no memory.
-    pub fn new(alloc: A, version: u8, cache: u32) -> Trace<A>
-        ensures { content result ≡ record { version = version; cache = cache; slots = []; events = [] } }
+    pub fn new(alloc: A, version: u8, disks: Disks) -> Trace<A>
+        ensures { content result ≡ record { version = version; disks = disks; slots = []; events = [] } }
     {
         Trace {
             version,
-            cache,
+            disks,
             slots: Vec::new(alloc),
             events: Vec::new(alloc),
         }

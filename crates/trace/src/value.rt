@@ -1,6 +1,6 @@
 //! The value of a field, as a line is read.
 
-use board::DeviceKind;
+use board::{DeviceKind, Verdict};
 
 /// The most fields that a word has after it.
 pub(crate) const MOST_FIELDS: usize = 8;
@@ -16,6 +16,7 @@ pub(crate) enum FieldValue<'a> {
     /// A value of so many bytes.
     Value(u8, u32),
     Identity([u8; 20]),
+    Verdict(Verdict),
     /// A field as it stands in its line.
     Spelled(&'a [u8]),
 }

@@ -11,7 +11,7 @@ pub const VERSION_1: u8 = 1;
 /// The first version whose `slot` lines end in the identity.
 pub const VERSION_2: u8 = 2;
 
-/// The version with restores, which has every word.
+/// The version with restores and hosted disks, which has every word.
 pub const VERSION_3: u8 = 3;
 
 /// The identity of each slot of a version 1 trace.

@@ -1,6 +1,7 @@
 //! The words that lines begin with.
 
 ghost use Rattle.std.specs.Prelude.{◌≡◌, ◌≢◌, ◌↔◌, IsTrue, IfSome, IfNone};
+ghost use Rattle.trace.specs.Faults.{MayStand};
 ghost use Rattle.trace.specs.Text.{word_for};
 ghost use Rattle.trace.specs.Words.{IsWordOf, spelled};
 ghost use Rattle.trace.specs.declared.word.Word.{Word};
@@ -9,10 +10,12 @@ use crate::version::VERSION_3;
 use board::EventKind;
 use std::alloc::Allocator;
 
-/// The first word of a line after the header. The second line has `Cache`, the later ones the others.
+/// The first word of a line after the header. The second line has `Cache` or `Hosted`, the later ones the
+/// others.
 #[derive(Clone, Copy, Debug, PartialEq, Eq)]
 pub enum Word {
     Cache,
+    Hosted,
     Slot,
     Read,
     Write,
@@ -21,6 +24,7 @@ pub enum Word {
     Input,
     Resize,
     Restore,
+    Complete,
 }
 
 /// The word that a field is in some version.
@@ -36,8 +40,10 @@ pub(crate) fn word_of(field: &[u8]) -> Option<Word>
         b"in" => Some(Word::Input),
         b"sz" => Some(Word::Resize),
         b"st" => Some(Word::Restore),
+        b"io" => Some(Word::Complete),
         b"slot" => Some(Word::Slot),
         b"cache" => Some(Word::Cache),
+        b"hosted" => Some(Word::Hosted),
         _ => None,
     }
 }
@@ -60,7 +66,7 @@ pub(crate) fn is_word_of(version: u8, word: Word) -> bool
     ensures { IsTrue result ↔ IsWordOf version word }
 {
     match word {
-        Word::Restore => version >= VERSION_3,
+        Word::Hosted | Word::Restore | Word::Complete => version >= VERSION_3,
         _ => true,
     }
 }
@@ -77,6 +83,7 @@ pub(crate) fn word_for<A: Allocator>(what: &EventKind<A>) -> Word
         EventKind::Input { .. } => Word::Input,
         EventKind::Resize { .. } => Word::Resize,
         EventKind::Restore { .. } => Word::Restore,
+        EventKind::Complete { .. } => Word::Complete,
     }
 }
 
@@ -92,14 +99,23 @@ pub(crate) fn spelling_of(word: Word) -> &'static [u8]
         Word::Input => b"in",
         Word::Resize => b"sz",
         Word::Restore => b"st",
+        Word::Complete => b"io",
         Word::Slot => b"slot",
         Word::Cache => b"cache",
+        Word::Hosted => b"hosted",
     }
 }
 
-/// Whether a field is the word of the second line.
-pub(crate) fn is_cache(field: &[u8]) -> bool
-    ensures { IsTrue result ↔ (field.now ≡ spelled Word.Cache) }
+/// The word of the second line that a field is in a version.
+pub(crate) fn second_word(version: u8, field: &[u8]) -> Option<Word>
+    ensures some { IfSome result (λ word. field.now ≡ spelled word) }
+    ensures may { IfSome result (λ word. MayStand 2 word) }
+    ensures of_version { IfSome result (IsWordOf version) }
+    ensures none { IfNone result ((word : Word) → MayStand 2 word → IsWordOf version word → field.now ≢ spelled word) }
 {
-    matches!(field, b"cache")
+    match word_in(version, field)? {
+        Word::Cache => Some(Word::Cache),
+        Word::Hosted => Some(Word::Hosted),
+        _ => None,
+    }
 }

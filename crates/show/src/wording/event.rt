@@ -2,7 +2,7 @@
 
 use crate::weave::Text;
 use crate::wording::names::{field_name, register_name, say_interrupts, say_status};
-use board::{DeviceKind, EventKind};
+use board::{DeviceKind, EventKind, Verdict};
 use mmio_window::{CONFIGURATION_OFFSET, Register};
 
 /// How many bytes of a text are shown.
@@ -18,6 +18,7 @@ pub fn say_place(text: &mut Text, what: &EventKind) {
         EventKind::MemRead { .. } | EventKind::MemWrite { .. } => " memory: ",
         EventKind::Input { .. } | EventKind::Resize { .. } => " console: ",
         EventKind::Restore { .. } => " devices: ",
+        EventKind::Complete { .. } => " disk: ",
     });
 }
 
@@ -64,6 +65,10 @@ pub fn say_event(text: &mut Text, what: &EventKind) {
             text.say("are restored from ");
             text.counted(bytes.as_slice().len() as u64, "byte");
         }
+        EventKind::Complete { verdict } => text.say(match verdict {
+            Verdict::Done => "what was in flight is done",
+            Verdict::Failed => "what was in flight has failed",
+        }),
     }
 }
 

@@ -7,7 +7,7 @@ ghost use Rattle.trace.specs.Words.{fields_in, spelled};
 
 use crate::table::{Field, fields_after};
 use crate::word::{Word, spelling_of};
-use board::DeviceKind;
+use board::{DeviceKind, Verdict};
 use hexadecimal::{push_bytes, push_fixed, push_num};
 use std::alloc::{AllocError, Allocator};
 
@@ -32,6 +32,7 @@ pub(crate) struct LineFields<'a> {
     pub address: u64,
     pub length: u32,
     pub bytes: &'a [u8],
+    pub verdict: Verdict,
 }
 
 impl Default for LineFields<'_> {
@@ -54,6 +55,7 @@ impl Default for LineFields<'_> {
             address: 0,
             length: 0,
             bytes: &[],
+            verdict: Verdict::Done,
         }
     }
 }
@@ -107,5 +109,9 @@ fn push_field<A: Allocator>(
         Field::Address => push_num(out, fields.address),
         Field::Length => push_num(out, u64::from(fields.length)),
         Field::Bytes => push_bytes(out, fields.bytes),
+        Field::Verdict => match fields.verdict {
+            Verdict::Done => out.extend_from_slice(b"done"),
+            Verdict::Failed => out.extend_from_slice(b"failed"),
+        },
     }
 }

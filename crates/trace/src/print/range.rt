@@ -4,9 +4,10 @@
 //! nothing when they run.
 
 ghost use Rattle.std.specs.Prelude.{All, ◌^◌, ◌<◌};
-ghost use Rattle.trace.specs.Printable.{EventInRange, InRange, KindInRange, SlotInRange};
+ghost use Rattle.trace.specs.Printable.{DisksInRange, EventInRange, InRange, KindInRange, SlotInRange};
 ghost use Rattle.trace.specs.Text.{content};
 
+use crate::disks::Disks;
 use crate::trace::Trace;
 use board::{Event, EventKind, SlotSpec};
 use std::alloc::Allocator;
@@ -15,9 +16,20 @@ use std::alloc::Allocator;
 pub(crate) fn in_range<A: Allocator>(trace: &Trace<A>)
     ensures { InRange (content trace.now) }
 {
-    let _cache = trace.cache;
+    disks_in_range(trace.disks);
     slots_in_range(&trace.slots);
     events_in_range(&trace.events);
+}
+
+fn disks_in_range(disks: Disks)
+    ensures { DisksInRange disks }
+{
+    match disks {
+        Disks::Cached { capacity } => {
+            let _capacity = capacity;
+        }
+        Disks::Hosted => {}
+    }
 }
 
 fn slots_in_range(slots: &[SlotSpec])

@@ -3,10 +3,10 @@
 ghost use Rattle.std.specs.Prelude.{◌≡◌, ◌≤◌, ◌/◌, ◌%◌, ◌∷◌, [], ◌++◌, All, IfOk, codes, drop, length, take};
 ghost use Rattle.board.specs.Line.{HasInterruptWords};
 ghost use Rattle.hex.specs.Hex.{encode_lower};
-ghost use Rattle.trace.specs.Records.{entry_of, quiet_line, read_line, record_line, records_text, reply_field};
+ghost use Rattle.trace.specs.Records.{entry_of, quiet_line, read_line, record_fields, record_line, records_text, reply_field};
 ghost use Rattle.trace.specs.Sends.{Sends, waiting};
 ghost use Rattle.hexadecimal.specs.Spelling.{bytes as bytes_field, digit, fixed, num};
-ghost use Rattle.trace.specs.Text.{ended};
+ghost use Rattle.trace.specs.Text.{ended, line};
 
 use crate::no_memory::NoMemory;
 use crate::print::buffer::{Buffer, Nowhere};
@@ -63,6 +63,7 @@ fn put_record<W: Write, A: Allocator, B: Allocator>(
 }
 
 /// Puts the line of a record that is told by its parts.
+#[tactic(auto, unfolding(crate::specs::Records::record_line))]
 pub fn put_line<W: Write, A: Allocator, B: Allocator>(
     buffer: &mut Buffer<B>,
     out: &mut W,
@@ -76,33 +77,34 @@ pub fn put_line<W: Write, A: Allocator, B: Allocator>(
     ensures { Sends (W.contents out.old) (W.contents out.new) (waiting buffer.old) (ended (record_line (entry_of slot reply.now output.now words))) (waiting buffer.new) }
 {
     if !output.is_empty() {
-        put_fields(buffer, out, slot, reply, output, words);
+        put_fields(buffer, out, slot, reply, output, words, b'\n');
         return;
     }
     match reply {
         Reply::Value(value) => put_value(buffer, out, slot, *value, words),
         Reply::Done => put_done(buffer, out, slot, words),
-        _ => put_fields(buffer, out, slot, reply, output, words),
+        _ => put_fields(buffer, out, slot, reply, output, words, b'\n'),
     }
 }
 
-// Puts such a line field after field.
-fn put_fields<W: Write, A: Allocator, B: Allocator>(
+/// Puts the fields of a record that is told by its parts, and this byte behind them.
+pub fn put_fields<W: Write, A: Allocator, B: Allocator>(
     buffer: &mut Buffer<B>,
     out: &mut W,
     slot: u8,
     reply: &Reply<A>,
     output: &[u8],
     words: (u8, u8),
+    end: u8,
 )
     requires block { words.0 ≤ 3 }
     requires console { words.1 ≤ 3 }
-    ensures { Sends (W.contents out.old) (W.contents out.new) (waiting buffer.old) (ended (record_line (entry_of slot reply.now output.now words))) (waiting buffer.new) }
+    ensures { Sends (W.contents out.old) (W.contents out.new) (waiting buffer.old) (line (record_fields (entry_of slot reply.now output.now words)) ++ end ∷ []) (waiting buffer.new) }
 {
     put_slot(buffer, out, slot);
     put_reply(buffer, out, reply);
     put_output(buffer, out, output);
-    put_words(buffer, out, words);
+    put_words(buffer, out, words, end);
 }
 
 // Puts the line of a value without output, all of it at once.
@@ -152,33 +154,34 @@ fn put_numbered<W: Write, B: Allocator>(buffer: &mut Buffer<B>, out: &mut W, slo
     }
 }
 
-/// Puts the line of the record of a read of memory, whose bytes lie where they were read.
+/// Puts the fields of the record of a read of memory, whose bytes lie where they were read, and this byte behind them.
 pub fn put_read<W: Write, B: Allocator>(
     buffer: &mut Buffer<B>,
     out: &mut W,
     slot: u8,
     bytes: &[u8],
     words: (u8, u8),
+    end: u8,
 )
     requires block { words.0 ≤ 3 }
     requires console { words.1 ≤ 3 }
-    ensures { Sends (W.contents out.old) (W.contents out.new) (waiting buffer.old) (ended (read_line slot bytes.now words)) (waiting buffer.new) }
+    ensures { Sends (W.contents out.old) (W.contents out.new) (waiting buffer.old) (read_line slot bytes.now words ++ end ∷ []) (waiting buffer.new) }
 {
     put_slot(buffer, out, slot);
     buffer.put(out, b"b:");
     put_bytes(buffer, out, bytes);
     put_output(buffer, out, &[]);
-    put_words(buffer, out, words);
+    put_words(buffer, out, words, end);
 }
 
-// Puts both interrupt words, each after a space, and the line's end.
-fn put_words<W: Write, B: Allocator>(buffer: &mut Buffer<B>, out: &mut W, words: (u8, u8))
+// Puts both interrupt words, each after a space, and this byte behind them.
+fn put_words<W: Write, B: Allocator>(buffer: &mut Buffer<B>, out: &mut W, words: (u8, u8), end: u8)
     requires block { words.0 ≤ 3 }
     requires console { words.1 ≤ 3 }
-    ensures { Sends (W.contents out.old) (W.contents out.new) (waiting buffer.old) (32 ∷ digit words.0 ∷ 32 ∷ digit words.1 ∷ 10 ∷ []) (waiting buffer.new) }
+    ensures { Sends (W.contents out.old) (W.contents out.new) (waiting buffer.old) (32 ∷ digit words.0 ∷ 32 ∷ digit words.1 ∷ end ∷ []) (waiting buffer.new) }
 {
-    let end = [b' ', digit_of(words.0), b' ', digit_of(words.1), b'\n'];
-    buffer.put(out, &end);
+    let last = [b' ', digit_of(words.0), b' ', digit_of(words.1), end];
+    buffer.put(out, &last);
 }
 
 // Puts a slot's number and a space.
@@ -214,12 +217,14 @@ fn put_reply<W: Write, A: Allocator, B: Allocator>(
         Reply::BadSlot => buffer.put(out, b"badslot"),
         Reply::BadRange => buffer.put(out, b"badrange"),
         Reply::BadState => buffer.put(out, b"badstate"),
+        Reply::Busy => buffer.put(out, b"busy"),
+        Reply::Idle => buffer.put(out, b"idle"),
         Reply::NoMemory => buffer.put(out, b"nomem"),
     }
 }
 
-// Puts a number without leading zeros.
-fn put_num<W: Write, B: Allocator>(buffer: &mut Buffer<B>, out: &mut W, n: u64)
+/// Puts a number without leading zeros.
+pub(super) fn put_num<W: Write, B: Allocator>(buffer: &mut Buffer<B>, out: &mut W, n: u64)
     ensures { Sends (W.contents out.old) (W.contents out.new) (waiting buffer.old) (num n) (waiting buffer.new) }
 {
     if n < 16 {

@@ -1,10 +1,10 @@
 //! Fields that choose one of a few values.
 
 ghost use Rattle.std.specs.Prelude.{◌≡◌, IfSome, IfNone, OnSome};
-ghost use Rattle.trace.specs.Spelling.{window, mode};
-ghost use Rattle.trace.specs.Words.{IsWidthField, Says, Window, Width, Mode};
+ghost use Rattle.trace.specs.Spelling.{window, mode, verdict};
+ghost use Rattle.trace.specs.Words.{IsWidthField, Says, Window, Width, Mode, Verdict as ByVerdict};
 
-use board::DeviceKind;
+use board::{DeviceKind, Verdict};
 
 /// The kind of device whose window a field names.
 pub(crate) fn window_of(field: &[u8]) -> Option<DeviceKind>
@@ -42,6 +42,19 @@ pub(crate) fn mode_of(field: &[u8]) -> Option<bool>
     match field {
         b"rw" => Some(false),
         b"ro" => Some(true),
+        _ => None,
+    }
+}
+
+/// How an operation came out.
+pub(crate) fn verdict_of(field: &[u8]) -> Option<Verdict>
+    ensures some { IfSome result (λ came. field.now ≡ verdict came) }
+    ensures said { OnSome result (Says ByVerdict field.now) }
+    ensures none { IfNone result (¬ Says ByVerdict field.now) }
+{
+    match field {
+        b"done" => Some(Verdict::Done),
+        b"failed" => Some(Verdict::Failed),
         _ => None,
     }
 }

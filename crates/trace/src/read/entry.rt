@@ -59,7 +59,7 @@ pub(crate) fn by_fields<A: Allocator>(
         return Err(FaultKind::Word);
     };
     match word {
-        Word::Cache => Err(FaultKind::Word),
+        Word::Cache | Word::Hosted => Err(FaultKind::Word),
         Word::Slot if begun => Err(FaultKind::Order),
         Word::Slot => match slot_of(version, rest) {
             Some(slot) => Ok(Entry::Slot(slot)),

@@ -5,35 +5,45 @@
 ghost use Rattle.std.specs.Prelude.{◌≡◌, ◌≢◌, ◌<◌, ◌^◌, ◌∷◌, [], ℕ, All, IfSome, IfNone, length, map};
 ghost use Rattle.std.specs.Option.{option_copied};
 ghost use Rattle.trace.specs.Cuts.{fields_left};
+ghost use Rattle.trace.specs.Faults.{MayStand};
+ghost use Rattle.trace.specs.Printable.{DisksInRange};
 ghost use Rattle.trace.specs.Refusals.{IsFineSlot};
 ghost use Rattle.trace.specs.Said.{IsFineSaid, said_fields};
 ghost use Rattle.hexadecimal.specs.Spelling.{bytes as bytes_field};
 ghost use Rattle.trace.specs.Spelling.{value_text};
-ghost use Rattle.trace.specs.Text.{cache_fields, slot_fields, word_for};
+ghost use Rattle.trace.specs.Text.{disks_fields, disks_word, slot_fields, word_for};
 ghost use Rattle.trace.specs.Values.{AreOf};
 ghost use Rattle.trace.specs.Version.{IsVersion, identity_in_version_1, since_version_2};
 ghost use Rattle.trace.specs.Words.{AreRight, Identity as ByIdentity, shapes, spelled};
 
+use crate::disks::Disks;
 use crate::read::said::Said;
 use crate::read::values::values_of;
 use crate::value::FieldValue::{
-    self, Identity, Mode, Number, Offset, Spelled, Value, Width, Window,
+    self, Identity, Mode, Number, Offset, Spelled, Value, Verdict, Width, Window,
 };
 use crate::version::{VERSION_1, VERSION_3, identity_in_version_1};
 use crate::word::Word;
 use board::{EventKind, Extent, SlotSpec};
 use std::alloc::Allocator;
 
-/// The capacity of the cache that the fields after its word say.
-pub(crate) fn sectors_of(rest: Option<&[u8]>) -> Option<u32>
-    ensures fields { IfSome result (λ sectors. cache_fields sectors ≡ spelled Word.Cache ∷ fields_left (option_copied rest.entry)) }
-    ensures none { IfNone result ((version : ℕ) → ¬ AreRight version Word.Cache (fields_left (option_copied rest.entry))) }
+/// Where the disks are that a word of the second line and the fields after it say.
+pub(crate) fn disks_of(version: u8, word: Word, rest: Option<&[u8]>) -> Option<Disks>
+    requires { MayStand 2 word }
+    ensures fields { IfSome result (λ disks. disks_fields disks ≡ spelled word ∷ fields_left (option_copied rest.entry)) }
+    ensures word { IfSome result (λ disks. disks_word disks ≡ word) }
+    ensures fits { IfSome result DisksInRange }
+    ensures none { IfNone result (¬ AreRight version word (fields_left (option_copied rest.entry))) }
 {
-    let values = values_of(VERSION_1, Word::Cache, rest)?;
-    let &[Number(sectors)] = values.as_slice() else {
-        unreachable!()
-    };
-    Some(sectors as u32)
+    let values = values_of(version, word, rest)?;
+    match (word, values.as_slice()) {
+        (Word::Cache, &[Number(sectors)]) => {
+            let capacity = sectors as u32;
+            Some(Disks::Cached { capacity })
+        }
+        (Word::Hosted, []) => Some(Disks::Hosted),
+        _ => unreachable!(),
+    }
 }
 
 /// The event that the fields after a word say. They are the same in each version that has it.
@@ -42,7 +52,7 @@ pub(crate) fn event_of<A: Allocator>(
     word: Word,
     rest: Option<&[u8]>,
 ) -> Option<Said<'_, A>>
-    requires not_cache { word ≢ Word.Cache }
+    requires late { MayStand 3 word }
     requires not_slot { word ≢ Word.Slot }
     ensures fields { IfSome result (λ e. said_fields e ≡ spelled word ∷ fields_left (option_copied rest.entry)) }
     ensures word { IfSome result (λ e. word_for e.event.what ≡ word) }
@@ -55,7 +65,7 @@ pub(crate) fn event_of<A: Allocator>(
 
 // What the values after a word say.
 fn said_of<'a, A: Allocator>(alloc: A, word: Word, values: &[FieldValue<'a>]) -> Said<'a, A>
-    requires not_cache { word ≢ Word.Cache }
+    requires late { MayStand 3 word }
     requires not_slot { word ≢ Word.Slot }
     requires values { AreOf (shapes 3 word (map value_text values.now)) values.now }
     ensures fields { said_fields result ≡ spelled word ∷ map value_text values.now }
@@ -97,7 +107,13 @@ fn said_of<'a, A: Allocator>(alloc: A, word: Word, values: &[FieldValue<'a>]) ->
             };
             Said::restore(alloc, slot as u8, bytes)
         }
-        Word::Cache | Word::Slot => unreachable!(),
+        Word::Complete => {
+            let &[Number(slot), Verdict(verdict)] = values else {
+                unreachable!()
+            };
+            Said::plain(slot as u8, EventKind::Complete { verdict })
+        }
+        Word::Cache | Word::Hosted | Word::Slot => unreachable!(),
     }
 }
 

@@ -6,11 +6,12 @@ ghost use Rattle.trace.specs.Refusals.{RefusesLine};
 ghost use Rattle.trace.specs.Reading.{IsTraceFault};
 ghost use Rattle.trace.specs.Version.{IsVersion};
 
+use crate::disks::Disks;
 use crate::fault::{FaultKind, TraceFault};
 use crate::read::cut::take_line;
 use crate::read::entry::{Entry, by_fields};
 use crate::read::frequent::frequent;
-use crate::read::{after_header, cache_of};
+use crate::read::{after_disks, after_header};
 use board::SlotSpec;
 use std::alloc::{Allocator, Global};
 
@@ -18,7 +19,7 @@ use std::alloc::{Allocator, Global};
 #[derive(Drop)]
 pub struct Judged<'a, A: Allocator = Global> {
     pub version: u8,
-    pub cache: u32,
+    pub disks: Disks,
     pub slots: Vec<SlotSpec, A>,
     /// The lines of its events.
     pub events: &'a [u8],
@@ -36,13 +37,13 @@ pub fn judge<A: Allocator + Copy>(alloc: A, text: &[u8]) -> Result<Judged<'_, A>
         Ok(found) => found,
         Err(kind) => return Err(TraceFault { line: 1, kind }),
     };
-    let (cache, mut rest) = match cache_of(rest) {
+    let (disks, mut rest) = match after_disks(version, rest) {
         Ok(found) => found,
         Err(kind) => return Err(TraceFault { line: 2, kind }),
     };
     let mut judged = Judged {
         version,
-        cache,
+        disks,
         slots: Vec::new(alloc),
         events: rest,
         longest: 0,

@@ -7,13 +7,13 @@ ghost use Rattle.trace.specs.Values.{SayValues, SaysValue};
 ghost use Rattle.trace.specs.Words.{AllRight, AreRight, Says, Value as ByWidth, shape_of, shapes, width_among};
 ghost use Rattle.trace.specs.declared.word.Word.{Word};
 
-use crate::read::choice::{mode_of, width_of, window_of};
+use crate::read::choice::{mode_of, verdict_of, width_of, window_of};
 use crate::read::cut::{at_end, next_field, nth_field};
 use crate::read::identity::identity_of;
 use crate::read::offset::offset_of;
 use crate::table::{Field, fields_after};
 use crate::value::FieldValue::{
-    self, Identity, Mode, Number, Offset, Spelled, Value, Width, Window,
+    self, Identity, Mode, Number, Offset, Spelled, Value, Verdict, Width, Window,
 };
 use crate::value::MOST_FIELDS;
 use crate::word::Word;
@@ -82,6 +82,7 @@ fn value_of<'a>(field: Field, width: &[u8], bytes: &'a [u8]) -> Option<FieldValu
         Field::Window => Some(Window(window_of(bytes)?)),
         Field::Width => Some(Width(width_of(bytes)?)),
         Field::Mode => Some(Mode(mode_of(bytes)?)),
+        Field::Verdict => Some(Verdict(verdict_of(bytes)?)),
         Field::Bytes if are_bytes(bytes) => Some(Spelled(bytes)),
         Field::Bytes => None,
         Field::Identity => Some(Identity(identity_of(bytes)?)),

@@ -220,6 +220,7 @@ fn answer_event<A: Allocator + Copy>(
         EventKind::Input { bytes } => put_typed(answer, session.input(slot, bytes.as_slice())),
         EventKind::Resize { cols, rows } => put_result(answer, session.resize(slot, *cols, *rows)),
         EventKind::Restore { bytes } => put_result(answer, session.restore(slot, bytes.as_slice())),
+        EventKind::Complete { .. } => Err(Stuck::Words),
     }
 }
 

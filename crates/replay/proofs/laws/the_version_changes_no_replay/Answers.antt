@@ -6,4 +6,4 @@ returns g c t version old new before after outcome range printable few one_of le
     let disk = g.I.Image.disk in
     let may : MayReplay t = record { fits = record { range = range; printable = printable }; few = few } in
     let other = as_version_may version t one_of le may in
-    (alike disk old new before after t.version version t.cache t.slots t.events may other outcome, alike disk old new before after version t.version t.cache t.slots t.events other may outcome)
+    (alike disk old new before after t.version version t.disks t.slots t.events may other outcome, alike disk old new before after version t.version t.disks t.slots t.events other may outcome)

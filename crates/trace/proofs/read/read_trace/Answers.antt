@@ -15,21 +15,21 @@ pub returns-in-Err-clause-none : goal.returns-in-Err-clause-none
 returns-in-Err-clause-none g c known u range printable is =
     no_fault c.args.text.now u 1 c.in-Err.kind (record { range = range; printable = printable }) is (returns-in-Err-clause-fault g c known)
 
-pub returns-in-Err-cache_of-clause-fault : goal.returns-in-Err-cache_of-clause-fault
-returns-in-Err-cache_of-clause-fault g c known = second_fault c.in-Ok.found.0 c.args.text.now c.in-Ok.found.1.now c.in-Ok.ensures.ok.one_of c.in-Ok.ensures.ok.ended c.in-Err-cache_of.kind c.in-Err-cache_of.ensures.err known
+pub returns-in-Err-after_disks-clause-fault : goal.returns-in-Err-after_disks-clause-fault
+returns-in-Err-after_disks-clause-fault g c known = second_fault c.in-Ok.found.0 c.args.text.now c.in-Ok.found.1.now c.in-Ok.ensures.ok.one_of c.in-Ok.ensures.ok.ended c.in-Err-after_disks.kind c.in-Err-after_disks.ensures.err known
 
-pub returns-in-Err-cache_of-clause-none : goal.returns-in-Err-cache_of-clause-none
-returns-in-Err-cache_of-clause-none g c known u range printable is =
-    no_fault c.args.text.now u 2 c.in-Err-cache_of.kind (record { range = range; printable = printable }) is (returns-in-Err-cache_of-clause-fault g c known)
+pub returns-in-Err-after_disks-clause-none : goal.returns-in-Err-after_disks-clause-none
+returns-in-Err-after_disks-clause-none g c known u range printable is =
+    no_fault c.args.text.now u 2 c.in-Err-after_disks.kind (record { range = range; printable = printable }) is (returns-in-Err-after_disks-clause-fault g c known)
 
-pub returns-in-Err-cache_of-clause-clean : goal.returns-in-Err-cache_of-clause-clean
-returns-in-Err-cache_of-clause-clean g c = head_clean c.in-Ok.found.0 c.args.text.now c.in-Ok.found.1.now c.in-Ok.ensures.ok.one_of c.in-Ok.ensures.ok.ended
+pub returns-in-Err-after_disks-clause-clean : goal.returns-in-Err-after_disks-clause-clean
+returns-in-Err-after_disks-clause-clean g c = head_clean c.in-Ok.found.0 c.args.text.now c.in-Ok.found.1.now c.in-Ok.ensures.ok.one_of c.in-Ok.ensures.ok.ended
 
 pub loop-rest-init : goal.loop-rest-init
 loop-rest-init g c =
-    let second = c.in-Ok-cache_of.ensures.ok in
-    subst (λ x. Sofar c.args.text.now x 3 c.in-Ok-cache_of.found.1.now) (sym c.new-trace.ensures)
-    (begun_so c.args.text.now c.in-Ok.found.0 c.in-Ok-cache_of.found.0 c.in-Ok.found.1.now second.line c.in-Ok-cache_of.found.1.now c.in-Ok.ensures.ok.one_of c.in-Ok.ensures.ok.ended second.ended second.fields second.fits)
+    let second = c.in-Ok-after_disks.ensures.ok in
+    subst (λ x. Sofar c.args.text.now x 3 c.in-Ok-after_disks.found.1.now) (sym c.new-trace.ensures)
+    (begun_so c.args.text.now c.in-Ok.found.0 c.in-Ok-after_disks.found.0 c.in-Ok.found.1.now second.line c.in-Ok-after_disks.found.1.now c.in-Ok.ensures.ok.one_of second.of_version c.in-Ok.ensures.ok.ended second.ended second.fields second.fits)
 
 pub returns-in_default-clause-fault : goal.returns-in_default-clause-fault
 returns-in_default-clause-fault g c known =

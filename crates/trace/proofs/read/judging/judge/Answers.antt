@@ -10,22 +10,22 @@ pub returns-in-Err-clause-fault : goal.returns-in-Err-clause-fault
 returns-in-Err-clause-fault g c =
     is_fault g.row.A.Denot c.args.text.now _ (λ known. head_fault c.args.text.now c.in-Err.kind c.in-Err.ensures.err) (omega arith) (nothing_before c.args.text.now)
 
-pub returns-in-Err-cache_of-clause-fault : goal.returns-in-Err-cache_of-clause-fault
-returns-in-Err-cache_of-clause-fault g c =
+pub returns-in-Err-after_disks-clause-fault : goal.returns-in-Err-after_disks-clause-fault
+returns-in-Err-after_disks-clause-fault g c =
     let first = c.in-Ok.ensures.ok in
     is_fault g.row.A.Denot c.args.text.now _
-    (second_fault c.in-Ok.found.0 c.args.text.now c.in-Ok.found.1.now first.one_of first.ended c.in-Err-cache_of.kind c.in-Err-cache_of.ensures.err) (omega arith)
+    (second_fault c.in-Ok.found.0 c.args.text.now c.in-Ok.found.1.now first.one_of first.ended c.in-Err-after_disks.kind c.in-Err-after_disks.ensures.err) (omega arith)
     (head_clean c.in-Ok.found.0 c.args.text.now c.in-Ok.found.1.now first.one_of first.ended)
 
 pub loop-rest-init : goal.loop-rest-init
 loop-rest-init g c =
     let first = c.in-Ok.ensures.ok in
-    let second = c.in-Ok-cache_of.ensures.ok in
-    let rest = c.in-Ok-cache_of.found.1.now in
-    subst (λ (slots : List SlotSpec). JudgedSofar g.row.A.Denot c.args.text.now (record { version = c.in-Ok.found.0; cache = c.in-Ok-cache_of.found.0; slots = slots; events = rest; longest = 0; longest_line = 1 }) 3 rest)
+    let second = c.in-Ok-after_disks.ensures.ok in
+    let rest = c.in-Ok-after_disks.found.1.now in
+    subst (λ (slots : List SlotSpec). JudgedSofar g.row.A.Denot c.args.text.now (record { version = c.in-Ok.found.0; disks = c.in-Ok-after_disks.found.0; slots = slots; events = rest; longest = 0; longest_line = 1 }) 3 rest)
     (sym c.new.ensures.items)
-    (judged_first g.row.A.Denot c.args.text.now c.in-Ok.found.0 c.in-Ok-cache_of.found.0 rest
-    (begun_so c.args.text.now c.in-Ok.found.0 c.in-Ok-cache_of.found.0 c.in-Ok.found.1.now second.line rest first.one_of first.ended second.ended second.fields second.fits))
+    (judged_first g.row.A.Denot c.args.text.now c.in-Ok.found.0 c.in-Ok-after_disks.found.0 rest
+    (begun_so c.args.text.now c.in-Ok.found.0 c.in-Ok-after_disks.found.0 c.in-Ok.found.1.now second.line rest first.one_of second.of_version first.ended second.ended second.fields second.fits))
 
 pub returns-in_default-clause-fault : goal.returns-in_default-clause-fault
 returns-in_default-clause-fault g c =

@@ -1,0 +1,210 @@
+//! Running the events of lines that were judged on a board whose disks the host serves.
+//!
+//! As `running` does it over an image; each record says besides which operation began with its event.
+
+ghost use Rattle.std.specs.Prelude.{◌≡◌, ◌≤◌, [], if◌then◌else◌, None, List, IfSome, length};
+ghost use Rattle.std.specs.List.{slice_get};
+ghost use Rattle.std.specs.Option.{option_map};
+ghost use Rattle.board.specs.declared.event.Event.{Event};
+ghost use Rattle.board.specs.declared.event.EventKind.{EventKind};
+ghost use Rattle.board.specs.Hosting.{verdict_in};
+ghost use Rattle.trace.specs.Judging.{AreEventLines, AreLinesOf, said_len};
+ghost use Rattle.trace.specs.Events.{BeginsWithEvent};
+ghost use Rattle.trace.specs.Said.{IsFineSaid};
+ghost use Rattle.trace.specs.Sends.{waiting};
+ghost use Rattle.replay.specs.Hosted.{SendsHosted, begins, flight_at, told_of_flight};
+ghost use Rattle.replay.specs.Running.{HasRoomFor, HostsEvent, HostsSaid, IsHostedPart, RunsLine, RunsSaid, SendsOneHosted, words_at};
+
+use crate::running::bytes_in;
+use block_device::Operation;
+use board::{Event, EventKind, HostedBoard, HostedTaken, Reply, RestoreRefusal};
+use chain::Segment;
+use std::alloc::Allocator;
+use std::io::Write;
+use trace::{Buffer, Said, put_asked, put_fields, put_read, take_event};
+
+/// Runs the events that the lines say, and sends the text of their records.
+pub(crate) fn run_lines<W: Write, A: Allocator + Copy>(
+    alloc: A,
+    board: &mut HostedBoard<A>,
+    lines: &[u8],
+    room: &mut [u8],
+    text: &mut Buffer<A>,
+    writer: &mut W,
+)
+    requires { AreEventLines A (length room.old) lines.now }
+    ensures { (events : List (Event A)) → AreLinesOf events lines.now →
+        SendsHosted board.old board.new events (W.contents writer.old) (W.contents writer.new) (waiting text.old) (waiting text.new) }
+{
+    let mut output = Vec::new(alloc);
+    let mut rest = lines;
+    while !rest.is_empty() {
+        rest = run_line(alloc, board, rest, room, &mut output, text, writer);
+    }
+}
+
+// Runs the event that the first line says, sends the text of its record, and answers what follows that line.
+fn run_line<'a, W: Write, A: Allocator + Copy>(
+    alloc: A,
+    board: &mut HostedBoard<A>,
+    lines: &'a [u8],
+    room: &mut [u8],
+    output: &mut Vec<u8, A>,
+    text: &mut Buffer<A>,
+    writer: &mut W,
+) -> &'a [u8]
+    requires begins { BeginsWithEvent lines.now }
+    requires room { HasRoomFor A lines.now (length room.old) }
+    requires empty { output.old.items ≡ [] }
+    ensures ran { RunsLine A lines.now result.now
+        (SendsOneHosted board.old board.new (W.contents writer.old) (W.contents writer.new) (waiting text.old) (waiting text.new)) }
+    ensures empty { output.new.items ≡ [] }
+{
+    let (said, after) = take_event(alloc, lines);
+    run_event(board, &said, room, output, text, writer);
+    after
+}
+
+// Runs an event, and sends the text of its record. What the console puts out waits in `output` meanwhile. Memory that
+// is read is printed where it lies.
+fn run_event<W: Write, A: Allocator + Copy>(
+    board: &mut HostedBoard<A>,
+    said: &Said<'_, A>,
+    room: &mut [u8],
+    output: &mut Vec<u8, A>,
+    text: &mut Buffer<A>,
+    writer: &mut W,
+)
+    requires fine { IsFineSaid said.now }
+    requires room { said_len said.now ≤ length room.old }
+    requires empty { output.old.items ≡ [] }
+    ensures sent { RunsSaid said.now
+        (SendsOneHosted board.old board.new (W.contents writer.old) (W.contents writer.new) (waiting text.old) (waiting text.new)) }
+    ensures empty { output.new.items ≡ [] }
+{
+    let slot = said.event.slot;
+    if let EventKind::MemRead { addr, len } = said.event.what {
+        if let Some(part) = part_of(board, slot, addr, len) {
+            put_read(text, writer, slot, part, words(board, slot), b' ');
+            put_asked(text, writer, None);
+            return;
+        }
+    }
+    let is_next = begins_next(board, &said.event);
+    let reply = answer(board, said, room, output);
+    let words = words(board, slot);
+    put_fields(text, writer, slot, &reply, output.as_slice(), words, b' ');
+    put_asked(text, writer, begun(board, slot, is_next));
+    output.clear();
+}
+
+// Whether what is in flight behind the event begins with it.
+fn begins_next<A: Allocator>(board: &HostedBoard<A>, event: &Event<A>) -> bool
+    ensures { result ≡ begins (verdict_in event.now.what) (flight_at board.now event.now.slot) }
+{
+    match event.what {
+        EventKind::Complete { .. } => true,
+        _ => board.operation(event.slot).is_none(),
+    }
+}
+
+// What is in flight of a slot, where it began with the last event.
+fn begun<A: Allocator>(
+    board: &HostedBoard<A>,
+    slot: u8,
+    is_next: bool,
+) -> Option<(Operation, &[Segment])>
+    ensures { option_map (λ asked. (asked.0, asked.1.now)) result ≡ told_of_flight (if is_next then flight_at board.now slot else None) }
+{
+    if !is_next {
+        return None;
+    }
+    let operation = board.operation(slot)?;
+    let runs = board.runs(slot)?;
+    Some((operation, runs))
+}
+
+// The bytes of a slot's memory from an address on, where they lie.
+fn part_of<A: Allocator>(board: &HostedBoard<A>, slot: u8, addr: u64, len: u32) -> Option<&[u8]>
+    ensures { IfSome result (λ part. IsHostedPart board.now slot addr len part.now) }
+{
+    board.memory(slot)?.part(addr, u64::from(len))
+}
+
+// The interrupt words of a slot.
+fn words<A: Allocator>(board: &HostedBoard<A>, slot: u8) -> (u8, u8)
+    ensures is { result ≡ words_at (slice_get board.now slot) }
+    ensures block { result.0 ≤ 3 }
+    ensures console { result.1 ≤ 3 }
+{
+    match board.interrupts(slot) {
+        Some(words) => words,
+        None => (0, 0),
+    }
+}
+
+// Handles an event.
+fn answer<A: Allocator + Copy>(
+    board: &mut HostedBoard<A>,
+    said: &Said<'_, A>,
+    room: &mut [u8],
+    output: &mut Vec<u8, A>,
+) -> Reply<A>
+    requires fine { IsFineSaid said.now }
+    requires room { said_len said.now ≤ length room.old }
+    requires empty { output.old.items ≡ [] }
+    ensures { HostsSaid said.now board.old result output.new.items board.new }
+{
+    let slot = said.event.slot;
+    match said.event.what {
+        EventKind::MemWrite { addr, .. } => {
+            write_memory(board, slot, addr, bytes_in(room, said.bytes))
+        }
+        EventKind::Input { .. } => input(board, slot, bytes_in(room, said.bytes)),
+        EventKind::Restore { .. } => restore(board, slot, bytes_in(room, said.bytes)),
+        _ => {
+            let HostedTaken { reply, .. } = board.step(slot, &said.event.what, output);
+            reply
+        }
+    }
+}
+
+// Writes bytes to a slot's memory.
+fn write_memory<A: Allocator>(
+    board: &mut HostedBoard<A>,
+    slot: u8,
+    addr: u64,
+    bytes: &[u8],
+) -> Reply<A>
+    ensures { HostsEvent board.old (record { slot = slot; what = EventKind.MemWrite addr bytes.now }) result [] board.new }
+{
+    if board.write_memory(slot, addr, bytes) {
+        Reply::Done
+    } else if (slot as usize) < board.slots() {
+        Reply::BadRange
+    } else {
+        Reply::BadSlot
+    }
+}
+
+// Types bytes to a slot's console.
+fn input<A: Allocator + Copy>(board: &mut HostedBoard<A>, slot: u8, bytes: &[u8]) -> Reply<A>
+    ensures { HostsEvent board.old (record { slot = slot; what = EventKind.Input bytes.now }) result [] board.new }
+{
+    match board.input(slot, bytes) {
+        Some(taken) => Reply::Took(taken),
+        None => Reply::BadSlot,
+    }
+}
+
+// Restores a slot's devices from a snapshot.
+fn restore<A: Allocator>(board: &mut HostedBoard<A>, slot: u8, bytes: &[u8]) -> Reply<A>
+    ensures { HostsEvent board.old (record { slot = slot; what = EventKind.Restore bytes.now }) result [] board.new }
+{
+    match board.restore(slot, bytes) {
+        Ok(()) => Reply::Done,
+        Err(RestoreRefusal::BadSlot) => Reply::BadSlot,
+        Err(RestoreRefusal::Busy) => Reply::Busy,
+        Err(RestoreRefusal::Fault(_)) => Reply::BadState,
+    }
+}

@@ -1,0 +1,25 @@
+//! Where the guests' disks are, as the second line says.
+
+ghost use Rattle.std.specs.Prelude.{◌≡◌};
+ghost use Rattle.trace.specs.Text.{disks_word};
+
+use crate::word::Word;
+
+/// Where the disks of a trace's guests are.
+#[derive(Clone, Copy, Debug, PartialEq, Eq)]
+pub enum Disks {
+    /// On the one image of all guests, behind a cache of so many sectors.
+    Cached { capacity: u32 },
+    /// With the host, which serves each guest's own disk. Only version 3 has this.
+    Hosted,
+}
+
+/// The word of the line that says so.
+pub(crate) fn word_of_disks(disks: Disks) -> Word
+    ensures { result ≡ disks_word disks }
+{
+    match disks {
+        Disks::Cached { .. } => Word::Cache,
+        Disks::Hosted => Word::Hosted,
+    }
+}

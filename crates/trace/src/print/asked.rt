@@ -1,0 +1,99 @@
+//! The last field of a record where the host serves the disks: what it is asked to do.
+
+ghost use Rattle.std.specs.Prelude.{◌≡◌, ◌++◌, ◌∷◌, []};
+ghost use Rattle.std.specs.List.{flat_map};
+ghost use Rattle.std.specs.Option.{option_map};
+ghost use Rattle.trace.specs.Asked.{asked_field, kind_field, operation_field, other_run, run_field, runs_field, stable_mark};
+ghost use Rattle.trace.specs.Sends.{Sends, waiting};
+
+use crate::print::buffer::Buffer;
+use crate::print::records::put_num;
+use block_device::{Operation, OperationKind};
+use chain::Segment;
+use std::alloc::Allocator;
+use std::io::Write;
+
+/// Puts the operation that began with an event, with the runs where its bytes lie, and the line's end.
+pub fn put_asked<W: Write, B: Allocator>(
+    buffer: &mut Buffer<B>,
+    out: &mut W,
+    asked: Option<(Operation, &[Segment])>,
+)
+    ensures { Sends (W.contents out.old) (W.contents out.new) (waiting buffer.old) (asked_field (option_map (λ a. (a.0, a.1.now)) asked.entry) ++ 10 ∷ []) (waiting buffer.new) }
+{
+    let Some((operation, runs)) = asked else {
+        buffer.put(out, b"-\n");
+        return;
+    };
+    put_operation(buffer, out, operation, runs);
+    buffer.put(out, b"\n");
+}
+
+// Puts an operation and its runs.
+fn put_operation<W: Write, B: Allocator>(
+    buffer: &mut Buffer<B>,
+    out: &mut W,
+    operation: Operation,
+    runs: &[Segment],
+)
+    ensures { Sends (W.contents out.old) (W.contents out.new) (waiting buffer.old) (operation_field operation runs.now) (waiting buffer.new) }
+{
+    buffer.put(out, kind_name(operation.kind));
+    buffer.put(out, stable_name(operation.stable));
+    buffer.put(out, b":");
+    put_num(buffer, out, operation.start);
+    buffer.put(out, b":");
+    put_num(buffer, out, operation.len);
+    buffer.put(out, b":");
+    put_runs(buffer, out, runs);
+}
+
+// How a kind of operation is spelled.
+fn kind_name(kind: OperationKind) -> &'static [u8]
+    ensures { result.now ≡ kind_field kind }
+{
+    match kind {
+        OperationKind::In => b"in",
+        OperationKind::Out => b"out",
+        OperationKind::Flush => b"flush",
+        OperationKind::Zeroes => b"zeroes",
+    }
+}
+
+// What follows it where the operation has to be on the medium before it is done.
+fn stable_name(stable: bool) -> &'static [u8]
+    ensures { result.now ≡ stable_mark stable }
+{
+    if stable { b"-stable" } else { b"" }
+}
+
+// Puts runs, or `-` where there are none.
+fn put_runs<W: Write, B: Allocator>(buffer: &mut Buffer<B>, out: &mut W, runs: &[Segment])
+    ensures { Sends (W.contents out.old) (W.contents out.new) (waiting buffer.old) (runs_field runs.now) (waiting buffer.new) }
+{
+    let [first, others @ ..] = runs else {
+        buffer.put(out, b"-");
+        return;
+    };
+    put_run(buffer, out, *first);
+    put_others(buffer, out, others);
+}
+
+// Puts the runs behind the first, each after a comma.
+fn put_others<W: Write, B: Allocator>(buffer: &mut Buffer<B>, out: &mut W, runs: &[Segment])
+    ensures { Sends (W.contents out.old) (W.contents out.new) (waiting buffer.old) (flat_map other_run runs.now) (waiting buffer.new) }
+{
+    for run in runs {
+        buffer.put(out, b",");
+        put_run(buffer, out, *run);
+    }
+}
+
+// Puts one run.
+fn put_run<W: Write, B: Allocator>(buffer: &mut Buffer<B>, out: &mut W, run: Segment)
+    ensures { Sends (W.contents out.old) (W.contents out.new) (waiting buffer.old) (run_field run) (waiting buffer.new) }
+{
+    put_num(buffer, out, run.addr);
+    buffer.put(out, b"+");
+    put_num(buffer, out, u64::from(run.len));
+}
