@@ -95,7 +95,7 @@ device_same : (e : Extent) (start count : ℕ) (read_only : Bool) (identity : Li
 device_same e start count read_only identity own is = rw (← own, is) refl
 
 -- its guest knows it as it is
-own_device : (slot : BoardSlot) → slot.extent.start ≡ 0 → device_of (hosted_slot slot) ≡ device_at slot
+pub own_device : (slot : BoardSlot) → slot.extent.start ≡ 0 → device_of (hosted_slot slot) ≡ device_at slot
 own_device slot own = device_same slot.extent 0 (sectors_of (hosted_slot slot).extent) slot.read_only slot.identity own (own_count slot own)
 
 -- a slot after its block device served it

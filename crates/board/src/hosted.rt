@@ -2,7 +2,7 @@
 //! what it wants and the host says what came of it.
 //!
 //! `slot` has one guest, of whose requests one is in flight at most; `access` is what an embedder reaches between events,
-//! `saved` a slot's snapshot,
+//! `view` what somebody sees who only looks, `saved` a slot's snapshot,
 //! `reply` what a call comes to, and `laws` has what holds of all calls, whatever their order. Nothing is shared between slots: there is no image.
 
 ghost use Rattle.std.specs.Prelude.{◌≡◌, ◌≢◌, ◌↔◌, ◌<◌, ◌≤◌, ℕ, List, Option, Some, None, length, map, IfOk, IfSome, IfNone, IsSome, IsSomeAnd, IfErr, IsErrAnd, OnOk};
@@ -21,6 +21,7 @@ mod laws;
 mod reply;
 mod saved;
 mod slot;
+mod view;
 
 use crate::check;
 use crate::event::EventKind;

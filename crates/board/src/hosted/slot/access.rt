@@ -6,18 +6,28 @@ ghost use Rattle.std.specs.Borrow.{sem, u8, Array, Lends};
 ghost use Rattle.guest_memory.specs.Memory.{is_inside, put};
 ghost use Rattle.board.specs.declared.event.EventKind.{EventKind};
 ghost use Rattle.board.specs.declared.reply.Reply.{Reply};
-ghost use Rattle.board.specs.Hosting.{TakesHosted};
+ghost use Rattle.board.specs.Hosting.{TakesHosted, device_at, hosted_slot};
 ghost use Rattle.board.specs.HostedLine.{with_bytes, with_memory};
+ghost use Rattle.board.specs.Task.{device_of};
 ghost use Rattle.board.specs.contracts.hosted.slot.HostedSlot.{the_row};
 
 use crate::hosted::slot::HostedSlot;
 use crate::pause::Turn;
 use crate::reply::Reply;
+use crate::slot::Slot;
 use chain::Budget;
 use guest_memory::GuestMemory;
 use std::alloc::Allocator;
 
 impl<A: Allocator> HostedSlot<A> {
+    /// The guest's memory and devices, beside what is in flight.
+    pub(crate) fn devices(&self) -> &Slot<A>
+        ensures slot { hosted_slot result.now ≡ self.now.slot }
+        ensures device { device_at result.now ≡ device_of self.now.slot }
+    {
+        &self.slot
+    }
+
     /// The guest's memory.
     pub(crate) fn memory(&self) -> &GuestMemory<A>
         ensures { result.now ≡ self.now.slot.memory }
