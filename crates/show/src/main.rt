@@ -2,7 +2,7 @@
 //!
 //! `words` reads what a call asks for, `program` does it, and `replaying` replays the trace into a weaver, which takes the
 //! records and says between them what a `teller` tells of their events. `watch` goes along with the events on a board of its
-//! own: `service` serves a queue chain by chain, and `seen` says what of a guest changed, in the words of
+//! own, `watched`: `service` serves a queue chain by chain, and `seen` says what of a guest changed, in the words of
 //! `wording`. `page` makes a page of it all, whose own text stands in `page_text`.
 #![tactic(auto)]
 
@@ -15,6 +15,7 @@ mod seen;
 mod service;
 mod teller;
 mod watch;
+mod watched;
 mod weave;
 mod wording;
 mod words;

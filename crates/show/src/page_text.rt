@@ -22,6 +22,7 @@ main{flex:1;min-height:0;display:flex}
 .row{height:20px;padding:0 8px;white-space:nowrap;overflow:hidden;text-overflow:ellipsis;font:12px/20px ui-monospace,monospace;border-left:4px solid transparent;cursor:pointer}
 .row .n{display:inline-block;width:6em;color:var(--dim);text-align:right;margin-right:1em}
 .row.on{background:var(--pick)}
+.row.flight .n{box-shadow:inset -3px 0 var(--service)}
 .row em{font-style:normal;color:var(--fault);font-weight:600}
 aside{flex:1 1 44%;min-width:0;overflow:auto;border-left:1px solid var(--line);padding:8px 12px}
 aside h2{font-size:13px;margin:12px 0 4px}
@@ -56,9 +57,12 @@ pub static TAIL: &str = r##"</script>
 const raw=document.getElementById("text").textContent,$=id=>document.getElementById(id);
 const plain=s=>s.replace(/&lt;/g,"<").replace(/&amp;/g,"&");
 const KINDS=["read","write","memory","service","typed","refused","mistake","fault"];
+const PLACES=["block","console","memory","disk","devices"];
 const FAULTS=/^ {2}ends: (a fault|Jump|Index|Loop|TooMany|Table|Nested|Joined|NoIndirect|Range|TooLong)\b/;
 // ---- the events of the text, by places in it
 const at=[],ends=[],guest=[],place=[],kind=[],number=[],said=new Map(),board=[],mistakes=[];
+// of each event the one that asked for what is in flight of its guest, or -1; of each guest that one; and each flight from its asking on
+const flight=[],asked=new Map(),flights=[];
 let guests=0,summary="";
 function keyOf(line){const m=/^ {2}state (\w+) (status|features|generation|queue \d( descriptor \d+| used \d+| on offer)?)/.exec(line);return m?m[1]+" "+m[2]:null}
 function read(){
@@ -67,13 +71,14 @@ function read(){
     let q=raw.indexOf("\n",p);if(q<0)q=raw.length;
     const c=raw.charCodeAt(p);
     if(c>=48&&c<=57){
-      const line=raw.slice(p,Math.min(q,p+96)),m=/^(\d+) guest (\d+) (block|console|memory): (\w+)/.exec(line);
+      const line=raw.slice(p,Math.min(q,p+96)),m=/^(\d+) guest (\d+) (block|console|memory|disk|devices): (\w+)/.exec(line);
       if(m){
         e=at.length;at.push(p);ends.push(q);number.push(+m[1]);const g=+m[2];guest.push(g);if(g>=guests)guests=g+1;
-        place.push(m[3]==="block"?0:m[3]==="console"?1:2);
+        place.push(PLACES.indexOf(m[3]));flight.push(asked.has(g)?asked.get(g):-1);
         let k=m[3]==="memory"?2:m[4]==="reads"?0:m[4]==="types"||m[4]==="is"?4:1;
         const whole=raw.slice(p,q);
-        if(/ -> (outside memory|no )/.test(whole))k=5;
+        if(/ -> (outside memory|no |busy|idle)/.test(whole))k=5;
+        else if(m[3]==="disk"&&asked.delete(g))flights.push([g,flight[e],e]);
         kind.push(k);
       }else board.push(raw.slice(p,q));
     }else if(c===32&&e>=0&&!over){
@@ -82,13 +87,17 @@ function read(){
       if(d===115){const line=raw.slice(p,q),key=keyOf(line);
         if(key){const name=guest[e]+" "+key;let s=said.get(name);if(!s)said.set(name,s=[]);s.push([e,line])}}
       else if(d===109){kind[e]=Math.max(kind[e],6)}
-      else if(d===101){kind[e]=Math.max(kind[e],FAULTS.test(raw.slice(p,q))?7:3)}
+      else if(d===101){
+        const line=raw.slice(p,q);kind[e]=Math.max(kind[e],FAULTS.test(line)?7:3);
+        if(line==="  ends: a request is in flight"){asked.set(guest[e],e);if(flight[e]<0)flight[e]=e}
+      }
     }else if(c===101){summary=raw.slice(p,q);over=true}
     else if(over){const line=raw.slice(p,q),m=/^ {2}line (\d+),/.exec(line);if(m)mistakes.push([+m[1],line.trim()])}
     p=q+1;
   }
 }
 read();
+for(const [g,e] of asked)flights.push([g,e,at.length-1]);
 const count=at.length,trouble=e=>kind[e]>=5;
 const lineOf=e=>{let q=raw.indexOf("\n",at[e]);return raw.slice(at[e],q<0?raw.length:q)};
 // ---- what is shown
@@ -110,7 +119,7 @@ function draw(){
 }
 function el(tag,cls,text){const x=document.createElement(tag);if(cls)x.className=cls;if(text!==undefined)x.textContent=text;return x}
 function rowFor(e){
-  const r=el("div","row"+(e===cur?" on":""));r.dataset.e=e;r.style.borderLeftColor="var(--"+KINDS[kind[e]]+")";
+  const r=el("div","row"+(e===cur?" on":"")+(flight[e]<0?"":" flight"));r.dataset.e=e;r.style.borderLeftColor="var(--"+KINDS[kind[e]]+")";
   const line=plain(lineOf(e)),gap=line.indexOf(" "),tab=line.indexOf("\t");
   r.append(el("span","n",line.slice(0,gap)),line.slice(gap+1,tab<0?undefined:tab));
   if(kind[e]>=6)r.append(" ",el("em","",KINDS[kind[e]]));
@@ -153,6 +162,7 @@ function side(){
   s.append(el("h2","","Line "+number[e]));
   const first=el("pre","",head.slice(head.indexOf(" ")+1,tab<0?undefined:tab));first.id="what";s.append(first);
   const rec=el("pre","key",tab<0?"":"record  "+head.slice(tab+1));rec.id="record";s.append(rec);
+  if(flight[e]>=0&&flight[e]!==e){const x=el("div","item link","in flight since line "+number[flight[e]]);x.id="flight";x.onclick=()=>pick(flight[e]);s.append(x)}
   const came=text.slice(1).filter(l=>!l.startsWith("  state"));
   if(came.length){s.append(el("h2","","What came of it"));for(const l of came)s.append(el("pre",/^ {2}(mistake|ends: [A-Z])/.test(l)?"bad":"",l.slice(2)))}
   const st=stateAt(guest[e],e);
@@ -225,8 +235,11 @@ function lanes(){
   const css=getComputedStyle(document.documentElement),colors=KINDS.map(k=>css.getPropertyValue("--"+k));
   const most=new Int8Array(guests*w).fill(-1);
   for(const e of shown){const i=guest[e]*w+Math.min(w-1,Math.floor(e*w/count));if(kind[e]>most[i])most[i]=kind[e]}
-  const wide=Math.max(1,w/count);
+  const wide=Math.max(1,w/count),flies=new Uint8Array(guests*w),X=e=>Math.min(w-1,Math.floor(e*w/count));
+  for(const [g,a,b] of flights)flies.fill(1,g*w+X(a),g*w+X(b)+1);
   for(let g=0;g<guests;g++)for(let i=0;i<w;i++){const k=most[g*w+i];if(k>=0){x.fillStyle=colors[k];x.fillRect(i,g*16+3,wide,12)}}
+  x.fillStyle=colors[3];
+  for(let g=0;g<guests;g++)for(let i=0;i<w;i++)if(flies[g*w+i])x.fillRect(i,g*16+16,1,2);
   x.fillStyle=css.getPropertyValue("--fg");x.fillRect(Math.floor(cur*w/Math.max(1,count)),0,1.5,h);
 }
 // ---- choosing
@@ -237,7 +250,7 @@ function box(where,id,text,color){
   l.append(i,t," ");where.append(l);
 }
 for(let g=0;g<guests;g++)if(guest.includes(g))box($("guests"),"g"+g,"guest "+g);
-["block","console","memory"].forEach((p,i)=>box($("guests"),"p"+i,p));
+PLACES.forEach((p,i)=>{if(place.includes(i))box($("guests"),"p"+i,p)});
 KINDS.forEach((k,i)=>box($("kinds"),"k"+i,k,k));
 $("sum").textContent=summary.replace("end: ","");
 function seek(step,test){for(let i=rowOf(cur)+(shown[rowOf(cur)]===cur||step<0?step:0);i>=0&&i<shown.length;i+=step)if(test(shown[i])){pick(shown[i]);return true}return false}

@@ -1,12 +1,12 @@
 //! What is seen of a guest's devices, and said where it changes.
 
-use crate::guest::{SlotQueue, queue_of, window_of};
+use crate::guest::{SlotQueue, queue_of};
+use crate::watched::Watched;
 use crate::weave::Text;
 use crate::wording::{
     Change, NEW_WINDOW, Table, WindowSeen, say_changes, say_on_offer, window_seen,
 };
-use board::{Board, DeviceKind};
-use sector_cache::MemoryImage;
+use board::DeviceKind;
 use std::alloc::Global;
 
 /// What was said last of a guest's windows, and of its queues' descriptors.
@@ -21,7 +21,7 @@ pub struct Guest {
 
 impl Guest {
     /// A slot's guest, of which nothing was said. This takes no memory.
-    pub fn new(alloc: Global, board: &Board<MemoryImage>, slot: u8) -> Guest {
+    pub fn new(alloc: Global, board: &Watched, slot: u8) -> Guest {
         Guest {
             block: seen(board, slot, DeviceKind::Block),
             console: seen(board, slot, DeviceKind::Console),
@@ -33,7 +33,7 @@ impl Guest {
 
     /// Says what of the windows and of the queues isn't as it was, and answers whether a descriptor isn't that was available
     /// in a packed ring.
-    pub fn say_changes(&mut self, board: &Board<MemoryImage>, slot: u8, text: &mut Text) -> bool {
+    pub fn say_changes(&mut self, board: &Watched, slot: u8, text: &mut Text) -> bool {
         let (block, console) = (self.block, self.console);
         self.block = seen(board, slot, DeviceKind::Block);
         self.console = seen(board, slot, DeviceKind::Console);
@@ -53,7 +53,7 @@ impl Guest {
 // was available in a packed ring.
 fn say_queue(
     text: &mut Text,
-    board: &Board<MemoryImage>,
+    board: &Watched,
     at: SlotQueue,
     table: &mut Table,
     old: &WindowSeen,
@@ -74,9 +74,8 @@ fn say_queue(
 }
 
 // What is seen of a slot's window.
-fn seen(board: &Board<MemoryImage>, slot: u8, kind: DeviceKind) -> WindowSeen {
-    let window = window_of(board, slot, kind);
-    match (board.memory(slot), window) {
+fn seen(board: &Watched, slot: u8, kind: DeviceKind) -> WindowSeen {
+    match (board.memory(slot), board.window(slot, kind)) {
         (Some(mem), Some(window)) => window_seen(mem, window),
         _ => NEW_WINDOW,
     }

@@ -1,16 +1,16 @@
 //! Serving a queue chain by chain, and saying of each what was taken and what came of it.
 
-use crate::guest::{SlotQueue, queue_of, ring_of, window_of};
+use crate::guest::{SlotQueue, queue_of, ring_of};
+use crate::watched::Watched;
 use crate::weave::Text;
 use crate::wording::{
-    Ahead, Mistake, SHOWN, fault_name, look_ahead, say_notification, say_queue_head, say_received,
-    say_request, say_site, say_used, size_of, used_entry,
+    Ahead, Mistake, SHOWN, fault_name, look_ahead, next_place, say_asked, say_notification,
+    say_queue_head, say_received, say_request, say_site, say_used, size_of, used_entry,
 };
-use board::{Board, DeviceKind, EventKind, Pause, Reply, Turn};
+use board::{DeviceKind, EventKind, Reply, Turn};
 use chain::{Budget, Chain, Fault};
 use mmio_window::Queue;
 use negotiation::{Flags, Status};
-use sector_cache::MemoryImage;
 use std::alloc::Global;
 
 /// What a service came to.
@@ -34,7 +34,7 @@ const MOST_CHAINS: usize = 256;
 
 /// Handles an event that serves a queue, and says of each chain what came of it. `output` gets what the console puts out.
 pub fn serve(
-    board: &mut Board<MemoryImage>,
+    board: &mut Watched,
     served: SlotQueue,
     what: &EventKind,
     chain: &mut Chain,
@@ -45,12 +45,12 @@ pub fn serve(
     let mut said = Text::new(alloc);
     let mut pause = None;
     let mut mistake = None;
-    let first = place_of(board, served);
+    let first = opened_at(board, served);
     for _ in 0..MOST_CHAINS {
         said.clear();
-        let ahead = ahead_of(board, served, pause.is_none(), chain, &mut said);
+        let ahead = next_of(board, served, pause.is_none(), chain, &mut said);
         let from = output.len();
-        let turn = turn_of(board, served.slot, what, pause, ONE_CHAIN, output);
+        let turn = board.turn(served.slot, what, pause, ONE_CHAIN, output);
         if is_past(board, served, ahead) {
             text.put(said.bytes());
             say_outcome(
@@ -69,16 +69,18 @@ pub fn serve(
             Turn::More(next) => pause = Some(next),
             Turn::Answered(reply) => {
                 let fault = fault_of(board, served, ahead, chain, &mut said);
+                say_further(board, served, ahead, text);
+                let asked = ask(board, served, chain, text);
                 say_end(board, served, &reply, first, fault, text);
                 return Service {
                     reply,
                     fault,
-                    mistake,
+                    mistake: mistake.or(asked),
                 };
             }
         }
     }
-    let reply = match turn_of(board, served.slot, what, pause, Budget::UNLIMITED, output) {
+    let reply = match board.turn(served.slot, what, pause, Budget::UNLIMITED, output) {
         Turn::Answered(reply) => reply,
         Turn::More(_) => Reply::Done,
     };
@@ -89,24 +91,26 @@ pub fn serve(
     }
 }
 
-// The next piece of the event.
-fn turn_of(
-    board: &mut Board<MemoryImage>,
-    slot: u8,
-    what: &EventKind,
-    pause: Option<Pause>,
-    budget: Budget,
-    output: &mut Vec<u8>,
-) -> Turn {
-    match pause {
-        None => board.begin(slot, what, budget, output).turn,
-        Some(pause) => board.go_on(slot, pause, budget, output).turn,
+// What the service goes past next: the chain in flight, which is completed, or what it takes.
+fn next_of(
+    board: &mut Watched,
+    served: SlotQueue,
+    opens: bool,
+    chain: &mut Chain,
+    text: &mut Text,
+) -> Ahead {
+    match board.take_flight(served) {
+        Some(flight) => {
+            text.say("  the chain in flight:\n");
+            flight
+        }
+        None => ahead_of(board, served, opens, chain, text),
     }
 }
 
 // What the service takes next.
 fn ahead_of(
-    board: &Board<MemoryImage>,
+    board: &Watched,
     served: SlotQueue,
     opens: bool,
     chain: &mut Chain,
@@ -132,15 +136,38 @@ fn mistake_of(ahead: Ahead) -> Option<Mistake> {
 }
 
 // The place of a queue, where it is ready.
-fn place_of(board: &Board<MemoryImage>, served: SlotQueue) -> Option<u16> {
+fn place_of(board: &Watched, served: SlotQueue) -> Option<u16> {
     match ring_of(board, served)? {
         Queue::Split(ring) => Some(ring.place()),
         Queue::Packed(ring) => Some(ring.place()),
     }
 }
 
+// The place at which the service of a queue was opened. Where none is open it is the queue's.
+fn opened_at(board: &Watched, served: SlotQueue) -> Option<u16> {
+    let (_, registers) = queue_of(board, served)?;
+    match &registers.ring {
+        Some(Queue::Split(ring)) => Some(ring.place().wrapping_sub(ring.passed())),
+        Some(Queue::Packed(ring)) => {
+            let size = size_of(registers);
+            let back = size.wrapping_mul(2).wrapping_sub(ring.passed());
+            Some(next_place(ring.place(), back, size))
+        }
+        None => None,
+    }
+}
+
+// The place up to which the service has settled whether to notify the driver.
+fn closed_at(board: &Watched, served: SlotQueue) -> Option<u16> {
+    if board.is_in_flight(served) {
+        opened_at(board, served)
+    } else {
+        place_of(board, served)
+    }
+}
+
 // Whether the service went past the chain that was ahead.
-fn is_past(board: &Board<MemoryImage>, served: SlotQueue, ahead: Ahead) -> bool {
+fn is_past(board: &Watched, served: SlotQueue, ahead: Ahead) -> bool {
     match ahead {
         Ahead::Chain { place, .. } => place_of(board, served) != Some(place),
         _ => false,
@@ -150,7 +177,7 @@ fn is_past(board: &Board<MemoryImage>, served: SlotQueue, ahead: Ahead) -> bool 
 // The fault that ended a service, where one did: that of what was ahead, or that of the chain behind it. A window that is
 // served doesn't need a reset before.
 fn fault_of(
-    board: &Board<MemoryImage>,
+    board: &Watched,
     served: SlotQueue,
     ahead: Ahead,
     chain: &mut Chain,
@@ -172,7 +199,7 @@ fn fault_of(
 
 // Says what came of a chain: what its device did, and the used entry.
 fn say_outcome(
-    board: &Board<MemoryImage>,
+    board: &Watched,
     served: SlotQueue,
     ahead: Ahead,
     chain: &Chain,
@@ -194,6 +221,7 @@ fn say_outcome(
         _ => {
             text.say("    transmits ");
             let bytes = put_out.unwrap_or(&[]);
+            let bytes = bytes.get(..chain.readable_len() as usize).unwrap_or(bytes);
             text.counted(bytes.len() as u64, "byte");
             text.say(" ");
             text.quoted(bytes, SHOWN);
@@ -209,9 +237,51 @@ fn say_outcome(
     say_used(text, used);
 }
 
+// Says that a service went past more than the chain that was ahead, as a hosted board does in one piece.
+fn say_further(board: &Watched, served: SlotQueue, ahead: Ahead, text: &mut Text) {
+    match (ahead, place_of(board, served)) {
+        (Ahead::Chain { place, next, .. }, Some(last)) if last != place && last != next => {
+            text.say("  further chains were served at once\n");
+        }
+        _ => {}
+    }
+}
+
+// Says the chain of a block device that is in flight since this event, and keeps it. It answers what the chain has that the
+// standard forbids a driver.
+fn ask(
+    board: &mut Watched,
+    served: SlotQueue,
+    chain: &mut Chain,
+    text: &mut Text,
+) -> Option<Mistake> {
+    if !board.is_in_flight(served) {
+        return None;
+    }
+    let (operation, runs) = board.operation(served.slot)?;
+    let Ahead::Chain {
+        place,
+        next,
+        request,
+        mistake,
+    } = ahead_of(board, served, false, chain, text)
+    else {
+        return None;
+    };
+    say_asked(text, &request?, operation, runs);
+    let flight = Ahead::Chain {
+        place,
+        next,
+        request,
+        mistake: None,
+    };
+    board.keep_flight(served.slot, flight);
+    mistake
+}
+
 // Says why a service ended, and whether a notification was wanted.
 fn say_end(
-    board: &Board<MemoryImage>,
+    board: &Watched,
     served: SlotQueue,
     reply: &Reply,
     first: Option<u16>,
@@ -232,8 +302,9 @@ fn say_end(
         }
         (None, Reply::NoMemory) => text.say("no memory for the output"),
         (None, _) if needs_reset(board, served) => text.say("a fault of the next chain"),
+        (None, _) if board.is_in_flight(served) => text.say("a request is in flight"),
         (None, _) => {
-            let pending = pending_of(board, served.slot);
+            let pending = board.pending(served.slot);
             text.say(match (served.kind, served.queue, pending) {
                 (DeviceKind::Console, 0, 0) => "no input is left",
                 _ => "nothing more is on offer",
@@ -241,26 +312,20 @@ fn say_end(
         }
     }
     text.say("\n");
-    if let (Some(first), Some(last)) = (first, place_of(board, served)) {
-        say_notification(text, mem, registers, first, last);
+    if let (Some(first), Some(last)) = (first, closed_at(board, served)) {
+        if first != last || !board.is_in_flight(served) {
+            say_notification(text, mem, registers, first, last);
+        }
     }
 }
 
 // Whether the device of a queue asks to be reset.
-fn needs_reset(board: &Board<MemoryImage>, served: SlotQueue) -> bool {
-    match window_of(board, served.slot, served.kind) {
+fn needs_reset(board: &Watched, served: SlotQueue) -> bool {
+    match board.window(served.slot, served.kind) {
         Some(window) => {
             let status = window.negotiation().status();
             status.contains(Status::DEVICE_NEEDS_RESET)
         }
         None => false,
-    }
-}
-
-// How many bytes are typed to a slot's console and not yet taken.
-fn pending_of(board: &Board<MemoryImage>, slot: u8) -> usize {
-    match board.console_device(slot) {
-        Some(console) => console.pending_len(),
-        None => 0,
     }
 }

@@ -1,12 +1,12 @@
 //! What is said of the events of a trace, one after another, by a watcher that goes along with them.
 
 use crate::watch::Watcher;
+use crate::watched::Watched;
 use crate::weave::{Tell, Text, take_line};
-use board::Board;
 use replay::limit_memories;
 use sector_cache::MemoryImage;
 use std::alloc::Global;
-use trace::{Disks, event_of_line, read_trace};
+use trace::{event_of_line, read_trace};
 
 /// What was said last of the events of a trace, and those that are left.
 #[derive(Drop)]
@@ -77,7 +77,7 @@ impl Tell for Teller<'_> {
     }
 }
 
-// A watcher on the board of what stands before a trace's events, where there is one over the image. It says that board.
+// A watcher on the board of what stands before a trace's events, where there is one. It says that board.
 fn watcher_of(
     alloc: Global,
     front: &[u8],
@@ -86,10 +86,7 @@ fn watcher_of(
 ) -> Option<Watcher> {
     let mut trace = read_trace(alloc, front).ok()?;
     limit_memories(&mut trace.slots);
-    let Disks::Cached { capacity } = trace.disks else {
-        return None;
-    };
-    let board = Board::new(alloc, &trace.slots, before, capacity).ok()?;
+    let board = Watched::new(alloc, trace.disks, &trace.slots, before)?;
     let watcher = Watcher::new(alloc, board).ok()?;
     watcher.say_board(&trace, text);
     Some(watcher)

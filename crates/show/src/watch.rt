@@ -1,17 +1,17 @@
 //! Going along with a replay: each event is handled by a board of one's own, and said.
 
-use crate::guest::{SlotQueue, ring_of, window_of};
+use crate::guest::{SlotQueue, ring_of};
 use crate::seen::Guest;
 use crate::service::serve;
+use crate::watched::Watched;
 use crate::weave::Text;
 use crate::wording::{
     Mistake, SHOWN, read_mistake, say_event, say_interrupts, say_place, say_value, write_mistake,
 };
-use board::{Board, DeviceKind, Event, EventKind, Reply, SlotSpec};
+use board::{DeviceKind, Event, EventKind, Reply, SlotSpec};
 use chain::{Chain, Fault};
 use mmio_window::Queue;
 use negotiation::{Features, Flags};
-use sector_cache::MemoryImage;
 use std::alloc::{AllocError, Global};
 use trace::{Disks, Trace};
 
@@ -24,7 +24,7 @@ const MOST_LISTED: u64 = 1000;
 /// A board that goes along, and what was seen of it.
 #[derive(Drop)]
 pub struct Watcher {
-    board: Board<MemoryImage>,
+    board: Watched,
     alloc: Global,
     guests: Vec<Guest>,
     chain: Chain,
@@ -38,7 +38,7 @@ pub struct Watcher {
 
 impl Watcher {
     /// One over a new board.
-    pub fn new(alloc: Global, board: Board<MemoryImage>) -> Result<Watcher, AllocError> {
+    pub fn new(alloc: Global, board: Watched) -> Result<Watcher, AllocError> {
         let mut guests = Vec::with_capacity(alloc, board.slots())?;
         for slot in 0..board.slots().min(64) {
             guests.push(Guest::new(alloc, &board, slot as u8))?;
@@ -66,10 +66,10 @@ impl Watcher {
                 text.counted(u64::from(capacity), "sector");
                 text.say("\n");
             }
-            Disks::Hosted => text.say("\n2 disks that the host serves\n"),
+            Disks::Hosted => text.say("\n2 hosted: the host serves each guest's disk\n"),
         }
         for (number, slot) in trace.slots.iter().enumerate() {
-            say_slot(text, number as u64, slot);
+            say_slot(text, number as u64, slot, trace.disks);
         }
     }
 
@@ -144,7 +144,10 @@ impl Watcher {
         if fault.is_some() {
             self.faults = self.faults.saturating_add(1);
         }
-        self.say_states(slot, event, line, tail);
+        // a busy event is made again, and judged then
+        if !matches!(&reply, Reply::Busy) {
+            self.say_states(slot, event, line, tail);
+        }
         self.note(line, slot, mistake, tail);
         self.note(line, slot, fault_mistake(fault, is_packed), tail);
     }
@@ -158,8 +161,8 @@ impl Watcher {
             }
             Reply::BadRange => head.say(" -> outside memory"),
             Reply::BadState => head.say(" -> no such snapshot"),
-            Reply::Busy => head.say(" -> busy"),
-            Reply::Idle => head.say(" -> nothing in flight"),
+            Reply::Busy => head.say(" -> busy, until the request in flight is done"),
+            Reply::Idle => head.say(" -> idle, nothing is in flight"),
             Reply::NoMemory => head.say(" -> no memory"),
             Reply::BadSlot => head.say(" -> no such guest"),
             _ => {}
@@ -243,7 +246,7 @@ impl Watcher {
 }
 
 // Says a slot of a trace.
-fn say_slot(text: &mut Text, number: u64, slot: &SlotSpec) {
+fn say_slot(text: &mut Text, number: u64, slot: &SlotSpec, disks: Disks) {
     text.count(number.wrapping_add(3));
     text.say(" guest ");
     text.count(number);
@@ -253,8 +256,10 @@ fn say_slot(text: &mut Text, number: u64, slot: &SlotSpec) {
     text.hex(slot.len);
     text.say(", ");
     text.counted(slot.extent.count, "sector");
-    text.say(" from ");
-    text.count(slot.extent.start);
+    if let Disks::Cached { .. } = disks {
+        text.say(" from ");
+        text.count(slot.extent.start);
+    }
     text.say(if slot.read_only {
         ", read-only"
     } else {
@@ -267,8 +272,9 @@ fn say_slot(text: &mut Text, number: u64, slot: &SlotSpec) {
     text.say("\n");
 }
 
-// The queue that an event serves, where it may serve one.
-fn served_of(board: &Board<MemoryImage>, event: &Event) -> Option<SlotQueue> {
+// The queue that an event serves, where it may serve one. That of a block device whose chain is in flight is served by the
+// completion alone.
+fn served_of(board: &Watched, event: &Event) -> Option<SlotQueue> {
     let slot = event.slot;
     let (kind, queue) = match &event.what {
         EventKind::Write {
@@ -278,20 +284,24 @@ fn served_of(board: &Board<MemoryImage>, event: &Event) -> Option<SlotQueue> {
             value,
         } => (*window, queue_named(board, slot, *window, *value)?),
         EventKind::Input { .. } => (DeviceKind::Console, 0),
+        EventKind::Complete { .. } => (DeviceKind::Block, 0),
         _ => return None,
     };
-    let window = window_of(board, slot, kind)?;
+    let window = board.window(slot, kind)?;
     let registers = window.registers(queue)?;
-    if window.negotiation().live() && registers.ring.is_some() {
-        Some(SlotQueue { slot, kind, queue })
+    let at = SlotQueue { slot, kind, queue };
+    let completes = matches!(&event.what, EventKind::Complete { .. });
+    let looks = completes == board.is_in_flight(at);
+    if looks && window.negotiation().live() && registers.ring.is_some() {
+        Some(at)
     } else {
         None
     }
 }
 
 // The queue that a value of QueueNotify names (4.2.3.3).
-fn queue_named(board: &Board<MemoryImage>, slot: u8, kind: DeviceKind, value: u32) -> Option<u32> {
-    let window = window_of(board, slot, kind)?;
+fn queue_named(board: &Watched, slot: u8, kind: DeviceKind, value: u32) -> Option<u32> {
+    let window = board.window(slot, kind)?;
     let features = window.negotiation().negotiated();
     if features.contains(Features::NOTIFICATION_DATA) {
         Some(value % 0x1_0000)
@@ -301,7 +311,7 @@ fn queue_named(board: &Board<MemoryImage>, slot: u8, kind: DeviceKind, value: u3
 }
 
 // Whether a queue's ring is packed.
-fn is_packed_queue(board: &Board<MemoryImage>, served: SlotQueue) -> bool {
+fn is_packed_queue(board: &Watched, served: SlotQueue) -> bool {
     matches!(ring_of(board, served), Some(Queue::Packed(_)))
 }
 

@@ -24,8 +24,8 @@ pub use fault_site::say_site;
 pub use mistakes::{Mistake, read_mistake, write_mistake};
 pub use names::{fault_name, say_interrupts};
 pub use notification::say_notification;
-pub use places::size_of;
-pub use request::{RequestSeen, say_request};
+pub use places::{next_place, size_of};
+pub use request::{RequestSeen, say_asked, say_request};
 pub use state::{
     NEW_WINDOW, QueueSeen, RingSeen, WindowSeen, say_changes, say_queue_head, window_seen,
 };

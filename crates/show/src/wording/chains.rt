@@ -6,7 +6,7 @@ ghost use Rattle.chain.specs.Buffers.{Good};
 use crate::weave::Text;
 use crate::wording::chain_mistakes::chain_mistake;
 use crate::wording::mistakes::Mistake;
-use crate::wording::places::size_of;
+use crate::wording::places::{next_place, size_of};
 use crate::wording::request::{RequestSeen, request_seen};
 use block_device::BlockDevice;
 use chain::{Buffer, Chain, Fault, Virtqueue};
@@ -19,9 +19,11 @@ use split_ring::SplitRing;
 /// What stands before a service at its ring's place.
 #[derive(Clone, Copy)]
 pub enum Ahead {
-    /// A chain at a place, what it asks of a block device, and what it has that the standard forbids a driver.
+    /// A chain at a place, the place behind it, what it asks of a block device, and what it has that the standard forbids a
+    /// driver.
     Chain {
         place: u16,
+        next: u16,
         request: Option<RequestSeen>,
         mistake: Option<Mistake>,
     },
@@ -64,6 +66,7 @@ pub fn look_ahead(
             let (place, _) = parts_of(&token);
             Ahead::Chain {
                 place,
+                next: behind(&token, size_of(registers)),
                 request,
                 mistake: chain_mistake(mem, queue, size_of(registers), &token, chain),
             }
@@ -78,6 +81,14 @@ fn parts_of(token: &Token) -> (u16, u16) {
     match token {
         Token::Split(token) => (token.place, token.head),
         Token::Packed(token) => (token.place, token.id),
+    }
+}
+
+// The place behind the chain of a token, in a queue of this size.
+fn behind(token: &Token, size: u16) -> u16 {
+    match token {
+        Token::Split(token) => token.place.wrapping_add(1),
+        Token::Packed(token) => next_place(token.place, token.length, size),
     }
 }
 

@@ -66,8 +66,8 @@ pub fn say_event(text: &mut Text, what: &EventKind) {
             text.counted(bytes.as_slice().len() as u64, "byte");
         }
         EventKind::Complete { verdict } => text.say(match verdict {
-            Verdict::Done => "what was in flight is done",
-            Verdict::Failed => "what was in flight has failed",
+            Verdict::Done => "done",
+            Verdict::Failed => "failed",
         }),
     }
 }

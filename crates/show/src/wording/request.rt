@@ -4,7 +4,7 @@ ghost use Rattle.std.specs.Prelude.{All};
 ghost use Rattle.chain.specs.Buffers.{Within};
 
 use crate::weave::Text;
-use block_device::{BlockDevice, Request, RequestStatus};
+use block_device::{BlockDevice, Operation, OperationKind, Request, RequestStatus};
 use chain::Chain;
 use guest_memory::GuestMemory;
 
@@ -57,12 +57,7 @@ fn status_of(chain: &Chain) -> Option<u64> {
 
 /// Says a request, and the status that its driver then reads.
 pub fn say_request(text: &mut Text, mem: &GuestMemory, seen: &RequestSeen) {
-    text.say("    ");
-    match seen.header {
-        Some((kind, sector)) => say_header(text, kind, sector, seen.request),
-        None => text.say("a request without a whole header"),
-    }
-    text.say(": ");
+    say_what(text, seen);
     match (seen.status_at, seen.request) {
         (None, _) => text.say("no room for a status"),
         (_, Request::Rejected(RequestStatus::IoError)) => text.say("IOERR"),
@@ -70,6 +65,49 @@ pub fn say_request(text: &mut Text, mem: &GuestMemory, seen: &RequestSeen) {
         (Some(at), _) => say_status(text, mem, at),
     }
     text.say("\n");
+}
+
+/// Says a request, and what the host is asked for it, with so many runs.
+pub fn say_asked(text: &mut Text, seen: &RequestSeen, operation: Operation, runs: usize) {
+    say_what(text, seen);
+    text.say("asks the host to ");
+    let runs = runs as u64;
+    match operation.kind {
+        OperationKind::In => say_transfer(text, "read ", operation, " into ", runs),
+        OperationKind::Out => say_transfer(text, "write ", operation, " out of ", runs),
+        OperationKind::Flush => text.say("make stable what was written"),
+        OperationKind::Zeroes => {
+            text.say("zero ");
+            text.counted(runs, "run");
+            text.say(" of the disk");
+        }
+    }
+    text.say(if operation.stable {
+        ", to be stable\n"
+    } else {
+        "\n"
+    });
+}
+
+// Says the bytes of an IN or OUT: how many, where on the disk, and the runs of guest memory.
+fn say_transfer(text: &mut Text, verb: &str, operation: Operation, way: &str, runs: u64) {
+    text.say(verb);
+    text.counted(operation.len, "byte");
+    text.say(" at byte ");
+    text.count(operation.start);
+    text.say(" of the disk");
+    text.say(way);
+    text.counted(runs, "run");
+}
+
+// Begins a line on a request.
+fn say_what(text: &mut Text, seen: &RequestSeen) {
+    text.say("    ");
+    match seen.header {
+        Some((kind, sector)) => say_header(text, kind, sector, seen.request),
+        None => text.say("a request without a whole header"),
+    }
+    text.say(": ");
 }
 
 // Says what a header asks for.
