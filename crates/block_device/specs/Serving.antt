@@ -4,7 +4,7 @@ use Rattle.chain.specs.declared.budget.Budget.{Budget}
 use Rattle.chain.specs.declared.budget.Progress.{Progress}
 use Rattle.chain.specs.declared.budget.Progress.TheVariants.{More, Done}
 use Rattle.chain.specs.Pieces.{Pauses, RunsWithin}
-use Rattle.chain.specs.Service.{Site}
+use Rattle.chain.specs.Service.{Device, Site}
 use Rattle.sector_cache.specs.Disk.{Disk}
 use Rattle.mmio_window.specs.declared.queue.Queue.{Queue}
 use Rattle.mmio_window.specs.declared.stage.Stage.{Stage}
@@ -29,10 +29,14 @@ abbrev pub Stops : BlockDevice → Budget → Site Queue Disk → Site Queue Dis
 Stops device budget start now Pause = Pauses queue_kind (block_device device) budget start now
 Stops device budget start now (End fault) = RunsWithin queue_kind (block_device device) budget start (ending_of fault) now
 
--- a piece, by how it leaves the queue
+-- a piece that is served so, by how it leaves the queue
+abbrev pub LeavesBy : Device Disk → Stage → Budget → Site Queue Disk → Site Queue Disk → Left → Type 0
+LeavesBy served stage budget old new Open = PausesAt stage served budget old new
+LeavesBy served stage budget old new (Closed fault wanted) = EndsAt stage served budget old new (ending_of fault) wanted
+
+-- a piece of the device
 abbrev pub LeavesQueue : BlockDevice → Stage → Budget → Site Queue Disk → Site Queue Disk → Left → Type 0
-LeavesQueue device stage budget old new Open = PausesAt stage (block_device device) budget old new
-LeavesQueue device stage budget old new (Closed fault wanted) = EndsAt stage (block_device device) budget old new (ending_of fault) wanted
+LeavesQueue device stage budget old new left = LeavesBy (block_device device) stage budget old new left
 
 -- what a window shows of a queue that is left so
 abbrev pub shown : Left → WindowState → WindowState

@@ -1,5 +1,6 @@
 use Rattle.block_device.specs.Extent.{extent_disk}
 use Rattle.block_device.proofs.Answering.{finished_does}
+use Rattle.block_device.proofs.Asking.{served_does}
 use Rattle.block_device.proofs.Touching.{untouched}
 use Rattle.block_device.proofs.device.BlockDevice.answer.Goals as goal
 
@@ -11,6 +12,11 @@ returns-in-Asks-clause-does g c =
     c.in-Asks.request begun.0.room c.perform-done.result.len c.finish.result.len c.perform-done.result.status c.finish.result.wrote
     begun.0.all begun.0.is (rw begun.1 at c.perform-done.ensures.done) c.perform-done.ensures.room
     c.finish.ensures.status c.finish.ensures.len c.finish.ensures.wrote
+
+pub returns-in-Answered-clause-does : goal.returns-in-Answered-clause-does
+returns-in-Answered-clause-does g c =
+    let disk = extent_disk c.args.self.now.extent (g.I.Image.disk c.args.cache.now) in
+    served_does c.args.self.now c.args.mem.now c.begin.new.mem c.args.chain.now disk disk c.in-Answered.answer.len c.in-Answered.answer.wrote (c.in-Answered.ensures.begun.0 disk)
 
 pub returns-in-Answered-clause-touches : goal.returns-in-Answered-clause-touches
 returns-in-Answered-clause-touches g c = untouched c.args.self.now.extent

@@ -9,7 +9,8 @@ use Rattle.block_device.proofs.Unasked.{any_disk}
 use Rattle.chain.specs.declared.budget.Progress.TheVariants.{More, Done}
 use Rattle.mmio_window.proofs.Soundness.{serving_keeps_sound}
 use Rattle.mmio_window.specs.Window.{queue_at}
-use Rattle.block_device.proofs.Pieces.{serves_to}
+use Rattle.block_device.specs.Asking.{unasked_device}
+use Rattle.block_device.proofs.Pieces.{serves_by}
 use Rattle.block_device.proofs.device.BlockDevice.host_piece.Goals as goal
 
 pub tell-operation-requires-clause-good : goal.tell-operation-requires-clause-good
@@ -55,7 +56,7 @@ returns-in-Asks-clause-sound g c =
 
 pub returns-in-More-clause-served : goal.returns-in-More-clause-served
 returns-in-More-clause-served g c disk =
-    serves_to c.args.self.now c.args.stage c.args.budget (queue_at 0 c.args.window.now) c.in-Some.queue.now c.host_queue.new.queue c.in-Plain.left More
+    serves_by c.args.self.now (unasked_device c.args.self.now) c.args.stage c.args.budget (queue_at 0 c.args.window.now) c.in-Some.queue.now c.host_queue.new.queue c.in-Plain.left More
     c.args.mem.now c.host_queue.new.mem c.args.window.now c.show.new.window disk disk
     c.in-Some.ensures.value (sym c.in-More.is ∙ c.show.ensures.progress) c.show.ensures.after (c.in-Plain.ensures.leaves disk)
 
@@ -67,7 +68,7 @@ returns-in-More-clause-sound g c =
 
 pub returns-in-Done-clause-served : goal.returns-in-Done-clause-served
 returns-in-Done-clause-served g c disk =
-    serves_to c.args.self.now c.args.stage c.args.budget (queue_at 0 c.args.window.now) c.in-Some.queue.now c.host_queue.new.queue c.in-Plain.left Done
+    serves_by c.args.self.now (unasked_device c.args.self.now) c.args.stage c.args.budget (queue_at 0 c.args.window.now) c.in-Some.queue.now c.host_queue.new.queue c.in-Plain.left Done
     c.args.mem.now c.host_queue.new.mem c.args.window.now c.show.new.window disk disk
     c.in-Some.ensures.value (sym c.in-Done.is ∙ c.show.ensures.progress) c.show.ensures.after (c.in-Plain.ensures.leaves disk)
 
