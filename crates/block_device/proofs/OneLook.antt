@@ -23,8 +23,6 @@ use Rattle.mmio_window.specs.Serving.{IsNotified, after_service}
 use Rattle.mmio_window.specs.Window.{WindowState, queue_at, with_ring}
 use Rattle.mmio_window.proofs.Pieces.{never_pauses, notified_once}
 use Rattle.mmio_window.proofs.QueueKind.{has_at_most_one_chain}
-use Rattle.packed_ring.specs.declared.ring.Token as packed
-use Rattle.split_ring.specs.declared.ring.Token as split
 use Rattle.sector_cache.specs.Disk.{Disk}
 use Rattle.block_device.specs.declared.device.BlockDevice.{BlockDevice}
 use Rattle.block_device.specs.declared.hosting.Flight.{Flight}
@@ -137,7 +135,7 @@ serves_once device site s t p q =
     let e = has_at_most_one_chain.entry site.memory site.ring s.buffers t.buffers s.entry t.entry p.offered q.offered in
     let there : GivesBy (EndsUnasked device.identity) device site.state (readable_of site.memory s.buffers) (length (writable_of s.buffers)) t.given =
     subst (λ (l : List Buffer). GivesBy (EndsUnasked device.identity) device site.state (readable_of site.memory l) (length (writable_of l)) t.given) (sym b) q.gives in
-    same_served s.buffers t.buffers s.entry t.entry s.given t.given b e (given_once device site.state _ _ s.given t.given p.gives there)
+    same_served s.buffers t.buffers s.entry t.entry s.given t.given b e (given_once device site.state (readable_of site.memory s.buffers) (length (writable_of s.buffers)) s.given t.given p.gives there)
 
 stop_once : (device : BlockDevice) (start : Site Queue Disk) (cs ds : List (Served Disk)) (a b : Site Queue Disk)
     → ServesAll queue_kind (unasked_device device) start cs a → ServesAll queue_kind (unasked_device device) start ds b → AsksHere device a → AsksHere device b → a ≡ b
@@ -165,20 +163,19 @@ stop_or_end device start (c ∷ cs) (d ∷ ds) a b ending p q x y =
 
 -- ---- what is in flight then
 
-same_split : (p q h k : ℕ) → p ≡ q → h ≡ k → ◌≡◌ {A = split.Token} (record { place = p; head = h }) (record { place = q; head = k })
+same_split : (p q h k : ℕ) → p ≡ q → h ≡ k → token.Split (record { place = p; head = h }) ≡ token.Split (record { place = q; head = k })
 same_split p q h k e f = rw (e, f) refl
 
-same_packed : (p q i j l k : ℕ) → p ≡ q → i ≡ j → l ≡ k → ◌≡◌ {A = packed.Token} (record { place = p; id = i; length = l }) (record { place = q; id = j; length = k })
+same_packed : (p q i j l k : ℕ) → p ≡ q → i ≡ j → l ≡ k → token.Packed (record { place = p; id = i; length = l }) ≡ token.Packed (record { place = q; id = j; length = k })
 same_packed p q i j l k e f g = rw (e, f, g) refl
 
 token_once : (ring : Queue) (s t : Token) → IsTaken ring s → IsTaken ring t → entry_of s ≡ entry_of t → s ≡ t
 token_once (Split ring) (token.Split a) (token.Split b) x y e =
-    ap (λ (k : split.Token). token.Split k) (same_split a.place b.place a.head b.head (x.place ∙ sym y.place) (ap (λ (n : Entry). n.id) e))
+    same_split a.place b.place a.head b.head (x.place ∙ sym y.place) (ap (λ (n : Entry). n.id) e)
 token_once (Split ring) (token.Split a) (token.Packed b) x y e = absurd y
 token_once (Split ring) (token.Packed a) t x y e = absurd x
 token_once (Packed ring) (token.Packed a) (token.Packed b) x y e =
-    ap (λ (k : packed.Token). token.Packed k)
-    (same_packed a.place b.place a.id b.id a.length b.length (x.place ∙ sym y.place) (ap (λ (n : Entry). n.id) e) (ap (λ (n : Entry). n.places) e))
+    same_packed a.place b.place a.id b.id a.length b.length (x.place ∙ sym y.place) (ap (λ (n : Entry). n.id) e) (ap (λ (n : Entry). n.places) e)
 token_once (Packed ring) (token.Packed a) (token.Split b) x y e = absurd y
 token_once (Packed ring) (token.Split a) t x y e = absurd x
 
