@@ -118,7 +118,6 @@ cut_puts ServeReceive state old new outcome f is = absurd f
 cut_puts ServeTransmit state old new outcome f is = tt
 cut_puts (PutOut byte) state old new outcome f is = tt
 
-
 refused_puts : {A : Type 0} (state : SlotState) (what : EventKind A) (outcome : Outcome A) (limit : ℕ) → FindsMemory (Some limit) what outcome.reply → IsRefused state what at_rest at_rest outcome → outcome.reply ≡ NoMemory → MayPutOut state what
 refused_puts state (Read window offset width) outcome limit found refused is = absurd refused
 refused_puts state (Write window offset width value) outcome limit found refused is = cut_puts (task_at window offset width value state) _ at_rest at_rest outcome refused is
@@ -148,7 +147,7 @@ next_within limit old what waiting outcome found within h = record {
   refused = λ none. given_puts old.slot what (beside_of outcome) limit found h.given none;
 }
 
-tail : List ℕ → List ℕ
+abbrev tail : List ℕ → List ℕ
 tail [] = []
 tail (x ∷ xs) = xs
 
