@@ -1,4 +1,5 @@
 pub mod Answering
+pub mod Asking
 pub mod Courses
 pub mod Durable
 pub mod Endings
@@ -7,6 +8,7 @@ pub mod Extents
 pub mod Failing
 pub mod Guests
 pub mod Judging
+pub mod OneLook
 pub mod OneService
 pub mod Pieces
 pub mod Requests

@@ -18,8 +18,9 @@ use Rattle.mmio_window.specs.declared.queue.Token.{Token}
 use Rattle.mmio_window.specs.Queue.{IsTaken, entry_of}
 use Rattle.block_device.specs.declared.request.Request.{Request}
 use Rattle.chain.specs.Bytes.{writable_of}
-use Rattle.block_device.specs.Asking.{IsAsked, found_by, status_by}
+use Rattle.block_device.specs.Asking.{IsAsked, found_by, status_by, unasked_device}
 use Rattle.block_device.proofs.Answering.{finished_does, found_less}
+use Rattle.block_device.proofs.Asking.{served_course}
 use Rattle.std.specs.Prelude.{None}
 use Rattle.chain.specs.Buffers.{Good}
 use Rattle.mmio_window.specs.declared.stage.Stage.{Stage}
@@ -49,14 +50,14 @@ module _ {Ring State : Type 0} (kind : Kind Ring) (device : Device State) where
 
 -- chains that asked for nothing were served within the budget since the piece began, of which this is left
 pub record IsUnasked (device : BlockDevice) (budget left : Budget) (start now : Memory) (first queue : Queue) : Type 0 where
-  pub piece : (disk : Disk) → IsInPiece queue_kind (block_device device) budget left (at_disk start first disk) (at_disk now queue disk)
+  pub piece : (disk : Disk) → IsInPiece queue_kind (unasked_device device) budget left (at_disk start first disk) (at_disk now queue disk)
   pub range : SameRange start now
   pub lies : LiesIn now queue
   pub made : made_as queue ≡ made_as first
 
 pub unasked_start : (device : BlockDevice) (budget : Budget) (m : Memory) (queue : Queue) → LiesIn m queue → IsUnasked device budget budget m m queue queue
 unasked_start device budget m queue lies = record {
-  piece = λ disk. piece_begins queue_kind (block_device device) budget (at_disk m queue disk);
+  piece = λ disk. piece_begins queue_kind (unasked_device device) budget (at_disk m queue disk);
   range = record { base = refl; size = refl };
   lies = lies;
   made = refl;
@@ -65,12 +66,12 @@ unasked_start device budget m queue lies = record {
 pub unasked_more : (device : BlockDevice) (budget left left' : Budget) (start m answered m' : Memory) (first queue taken queue' : Queue) (buffers : List Buffer) (entry : Entry) (len : ℕ) (any : Bool)
     → IsUnasked device budget left start m first queue → ¬ IsSpent left → left' ≡ less_chain left buffers
     → queue_kind.offers m queue ≡ true → queue_kind.Offers m queue buffers entry → taken ≡ queue
-    → ((disk : Disk) → Does (block_device device) m answered buffers disk disk len any)
+    → ((disk : Disk) → Does (unasked_device device) m answered buffers disk disk len any)
     → m' ≡ queue_kind.used answered taken entry len any → queue' ≡ queue_kind.past taken entry
     → SameRange m answered → SameRange answered m' → LiesIn m' queue' → made_as queue' ≡ made_as taken
     → IsUnasked device budget left' start m' first queue'
 unasked_more device budget left left' start m answered m' first queue taken queue' buffers entry len any h some spends offers offered same does used past range range' lies made = record {
-  piece = λ disk. piece_goes_on queue_kind (block_device device) budget left left' (at_disk start first disk)
+  piece = λ disk. piece_goes_on queue_kind (unasked_device device) budget left left' (at_disk start first disk)
       m answered m' queue queue' disk disk buffers entry len any (h.piece disk) some spends refl offers offered (does disk)
       (used ∙ ap (λ q. queue_kind.used answered q entry len any) same) (past ∙ ap (λ q. queue_kind.past q entry) same);
   range = same_trans start m m' h.range (same_trans m answered m' range range');
@@ -114,7 +115,7 @@ honest_host_serves device start asked old new before after disk disk' buffers fl
     let a = stops.asked in
     let what = flight.operation.kind in
     course_push queue_kind (block_device device) start asked back.done new before after disk disk' buffers (entry_of flight.token) back.len true
-    stops.course refl stops.offers stops.offered
+    (served_course device start (at_disk asked before disk) stops.course) refl stops.offers stops.offered
     (finished_does device asked old back.done buffers disk disk' request a.room (found_by what answer (w - 1)) back.len (status_by answer) true
     a.all a.is done (found_less what answer w (omega (arith, a.all))) back.completed.memory back.completed.len_is refl)
     back.used back.past

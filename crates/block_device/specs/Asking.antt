@@ -3,7 +3,7 @@ use Rattle.std.specs.Prelude.{◌≡◌, ℕ, ◌+◌, ◌-◌, ◌==◌, Bool, 
 use Rattle.guest_memory.specs.Memory.{Memory}
 use Rattle.chain.specs.declared.segment.Buffer.{Buffer}
 use Rattle.chain.specs.Bytes.{readable_of, writable_of, scatter}
-use Rattle.chain.specs.Service.{Does}
+use Rattle.chain.specs.Service.{Device, Does}
 use Rattle.sector_cache.specs.Disk.{Disk}
 use Rattle.block_device.specs.declared.answer.Begun.{Begun}
 use Rattle.block_device.specs.declared.answer.Begun.TheVariants.{Answered, Asks}
@@ -16,7 +16,8 @@ use Rattle.block_device.specs.declared.operation.OperationKind.{OperationKind}
 use Rattle.block_device.specs.declared.operation.OperationKind.TheVariants as kind
 use Rattle.block_device.specs.declared.operation.Verdict.{Verdict}
 use Rattle.block_device.specs.declared.operation.Verdict.TheVariants as verdict
-use Rattle.block_device.specs.Device.{block_device}
+use Rattle.block_device.specs.Device.{device_by}
+use Rattle.block_device.specs.Outcome.{Outcome, Ends}
 use Rattle.block_device.specs.Progress.{IsServable}
 use Rattle.block_device.specs.Request.{request_of, payload_of, code_of}
 
@@ -29,6 +30,15 @@ asks_image Flush = true
 asks_image GetId = false
 asks_image (WriteZeroes segments) = true
 
+-- A request that asks the image for nothing ends without it.
+pub record EndsUnasked (identity : List ℕ) (request : Request) (payload : List ℕ) (disk : Disk) (outcome : Outcome) : Type 0 where
+  pub unasked : asks_image request ≡ false
+  pub ends : Ends identity request payload disk outcome
+
+-- the device, as far as it serves chains that ask the image for nothing
+abbrev pub unasked_device : BlockDevice → Device Disk
+unasked_device device = device_by (EndsUnasked device.identity) device
+
 -- The chain of these buffers holds this request, which passed its checks and asks the image for something.
 pub record IsAsked (device : BlockDevice) (m : Memory) (buffers : List Buffer) (request : Request) : Type 0 where
   pub room : ℕ
@@ -40,7 +50,7 @@ pub record IsAsked (device : BlockDevice) (m : Memory) (buffers : List Buffer) (
 -- What a chain comes to before the image is asked: it is served, whatever the disk is, or it asks.
 abbrev pub Begins : BlockDevice → Memory → Memory → List Buffer → Begun → Type 0
 Begins device old new buffers (Answered answer) =
-    ((disk : Disk) → Does (block_device device) old new buffers disk disk answer.len answer.wrote) × (answer.failed ≡ false)
+    ((disk : Disk) → Does (unasked_device device) old new buffers disk disk answer.len answer.wrote) × (answer.failed ≡ false)
 Begins device old new buffers (Asks request) = IsAsked device old buffers request × (new ≡ old)
 
 -- the used len of a chain of so many writable places, of which these many first ones and the last one are written

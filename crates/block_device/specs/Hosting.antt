@@ -33,7 +33,7 @@ use Rattle.block_device.specs.declared.hosting.Leaving.{Leaving}
 use Rattle.block_device.specs.declared.hosting.Leaving.TheVariants as leaving
 use Rattle.block_device.specs.declared.request.Request.{Request}
 use Rattle.block_device.specs.declared.operation.Verdict.{Verdict}
-use Rattle.block_device.specs.Asking.{IsAsked, IsCompleted, found_by, status_by}
+use Rattle.block_device.specs.Asking.{IsAsked, IsCompleted, found_by, status_by, unasked_device}
 use Rattle.block_device.specs.Device.{block_device}
 use Rattle.block_device.specs.Extent.{extent_disk}
 use Rattle.block_device.specs.Operation.{operation_of, runs_for}
@@ -44,9 +44,9 @@ use Rattle.block_device.specs.Serving.{LeavesQueue, site_of}
 abbrev pub at_disk : Memory → Queue → Disk → Site Queue Disk
 at_disk m queue disk = record { memory = m; ring = queue; state = disk }
 
--- Chains were served that needed no disk, and the one on offer asks for it by this request; it isn't touched.
+-- Chains were served that ask for nothing, and the one on offer asks for the disk by this request; it isn't touched.
 pub record StopsAt (device : BlockDevice) (start now : Site Queue Disk) (buffers : List Buffer) (token : Token) (request : Request) : Type 0 where
-  pub course : Course queue_kind (block_device device) start now
+  pub course : Course queue_kind (unasked_device device) start now
   pub offers : queue_kind.offers now.memory now.ring ≡ true
   pub offered : queue_kind.Offers now.memory now.ring buffers (entry_of token)
   pub taken : IsTaken now.ring token
@@ -55,8 +55,8 @@ pub record StopsAt (device : BlockDevice) (start now : Site Queue Disk) (buffers
 -- how the chains of a piece end: at one that asks, with the budget spent, or with the service
 abbrev pub Halts : BlockDevice → Budget → Site Queue Disk → Site Queue Disk → List Buffer → Halt → Type 0
 Halts device budget start now buffers (Asks asked) = StopsAt device start now buffers asked.token asked.request
-Halts device budget start now buffers Pause = Pauses queue_kind (block_device device) budget start now
-Halts device budget start now buffers (End fault) = RunsWithin queue_kind (block_device device) budget start (ending_of fault) now
+Halts device budget start now buffers Pause = Pauses queue_kind (unasked_device device) budget start now
+Halts device budget start now buffers (End fault) = RunsWithin queue_kind (unasked_device device) budget start (ending_of fault) now
 
 -- ---- the whole piece, from its opening
 
@@ -68,7 +68,7 @@ pub record AsksAt (device : BlockDevice) (stage : Stage) (old new : Site Queue D
 
 abbrev pub LeavesAt : BlockDevice → Stage → Budget → Site Queue Disk → Site Queue Disk → List Buffer → Leaving → Type 0
 LeavesAt device stage budget old new buffers (leaving.Asks asked) = AsksAt device stage old new buffers asked
-LeavesAt device stage budget old new buffers (leaving.Plain left) = LeavesQueue (block_device device) stage budget old new left
+LeavesAt device stage budget old new buffers (leaving.Plain left) = LeavesQueue (unasked_device device) stage budget old new left
 
 -- whether the driver can't flush (5.2.6.2): its writes are stable once they are completed
 abbrev pub wants_stable : WindowState → Bool
@@ -86,19 +86,27 @@ pub record AsksIn (device : BlockDevice) (stage : Stage) (found : Option Queue) 
   pub runs_are : runs ≡ runs_for request new buffers
 
 -- A piece of a service of a disk that the host serves, whatever that has: it asks, or it is a piece of the device's
--- service that leaves the disk as it is.
+-- service whose chains all ask for nothing.
 abbrev pub HostsTo : BlockDevice → Stage → Budget → Option Queue → Hosted → Memory → Memory → WindowState → WindowState → List Buffer → List Segment → Disk → Type 0
 HostsTo device stage budget found (hosted.Asks flight) old new before after buffers runs disk = AsksIn device stage found old new before after buffers runs flight disk
 HostsTo device stage budget found hosted.More old new before after buffers runs disk =
-    ServesTo stage (block_device device) budget 0 found progress.More old new before after (extent_disk device.extent disk) (extent_disk device.extent disk)
+    ServesTo stage (unasked_device device) budget 0 found progress.More old new before after (extent_disk device.extent disk) (extent_disk device.extent disk)
 HostsTo device stage budget found hosted.Done old new before after buffers runs disk =
-    ServesTo stage (block_device device) budget 0 found progress.Done old new before after (extent_disk device.extent disk) (extent_disk device.extent disk)
+    ServesTo stage (unasked_device device) budget 0 found progress.Done old new before after (extent_disk device.extent disk) (extent_disk device.extent disk)
 
 -- of a piece that asks, this holds of the chain in flight
 abbrev pub IfAsks : (Flight → Type 0) → Hosted → Type 0
 IfAsks P (hosted.Asks flight) = P flight
 IfAsks P hosted.More = Unit {0}
 IfAsks P hosted.Done = Unit {0}
+
+-- what two looks leave is the same: the memory, the window, and what is in flight with its buffers and runs
+pub record SameLook (one other : Hosted) (m n : Memory) (v w : WindowState) (b c : List Buffer) (r s : List Segment) : Type 0 where
+  pub outcome : one ≡ other
+  pub memory : m ≡ n
+  pub window : v ≡ w
+  pub buffers : IfAsks (λ flight. b ≡ c) one
+  pub runs : IfAsks (λ flight. r ≡ s) one
 
 -- ---- a chain in flight
 

@@ -1,19 +1,28 @@
 //! Laws of the definitions. The bodies are empty: each contract is a theorem.
 
-ghost use Rattle.std.specs.Prelude.{◌≡◌, ◌≢◌, ◌⊎◌, ℕ, ◌+◌, ◌≤◌, Bool, Contains, IfSome, true, false, List, ◌∷◌, None, Some, length, map};
+ghost use Rattle.std.specs.Prelude.{◌≡◌, ◌≢◌, ◌⊎◌, ℕ, ◌+◌, ◌≤◌, Bool, Contains, IfSome, true, false, List, ◌∷◌, Option, None, Some, length, map};
 ghost use Rattle.std.specs.List.{slice_get};
+ghost use Rattle.guest_memory.specs.Memory.{Memory};
+ghost use Rattle.chain.specs.declared.budget.Budget.{Budget};
+ghost use Rattle.chain.specs.declared.segment.Buffer.{Buffer};
+ghost use Rattle.chain.specs.declared.segment.Segment.{Segment};
 ghost use Rattle.chain.specs.Pieces.{GoesInPieces, IsOneService, Pause};
 ghost use Rattle.chain.specs.Service.{Ending, Given, IsService, Refused, Served, ServesAll, Site, after, open_site};
 ghost use Rattle.sector_cache.specs.Disk.{Disk, IsWhole, KeepsClear};
 ghost use Rattle.sector_cache.specs.Sector.{sector_of};
 ghost use Rattle.sector_cache.specs.Stop.{BeginsAt, Only, TouchesSectors};
 ghost use Rattle.mmio_window.specs.declared.queue.Queue.{Queue};
+ghost use Rattle.mmio_window.specs.declared.stage.Stage.{Stage};
 ghost use Rattle.mmio_window.specs.Queue.{queue_kind};
+ghost use Rattle.mmio_window.specs.Window.{WindowState};
 ghost use Rattle.block_device.specs.declared.device.BlockDevice.{BlockDevice};
+ghost use Rattle.block_device.specs.declared.hosting.Flight.{Flight};
+ghost use Rattle.block_device.specs.declared.hosting.Hosted.{Hosted};
+ghost use Rattle.block_device.specs.declared.operation.Verdict.{Verdict};
 ghost use Rattle.block_device.specs.Device.{GivesBy, HasAnswer, block_device, exact_device};
 ghost use Rattle.block_device.specs.Durable.{Completion, IsCommitted, IsUnwritten, KeepsWordIn, Medium, must_last};
 ghost use Rattle.block_device.specs.Extent.{SameSectors};
-ghost use Rattle.block_device.specs.Hosting.{FlightOutlasts, HonestHostServes};
+ghost use Rattle.block_device.specs.Hosting.{CompletesIn, FlightOutlasts, HonestHostServes, HostsTo, SameLook};
 ghost use Rattle.block_device.specs.Outcome.{Completes, Ends};
 ghost use Rattle.block_device.specs.Touching.{device_over, sectors_of_chains, seen_chain, seen_site};
 
@@ -62,6 +71,23 @@ pub fn at_most_one_exact_service()
         → IsService queue_kind (exact_device device) old one ending wanted
         → IsService queue_kind (exact_device device) old other end wants
         → (one ≡ other) × (ending ≡ end) × (wanted ≡ wants) }
+{}
+
+/// A look at a queue of a disk that the host serves comes out in at most one way, where its budget has no limit.
+pub fn one_look()
+    ensures { (device : BlockDevice) (budget : Budget) (found : Option Queue) (one other : Hosted) (old m n : Memory)
+        (before v w : WindowState) (b c : List Buffer) (r s : List Segment) (disk : Disk)
+        → budget.chains ≡ None → budget.bytes ≡ None
+        → HostsTo device Stage.First budget found one old m before v b r disk
+        → HostsTo device Stage.First budget found other old n before w c s disk
+        → SameLook one other m n v w b c r s }
+{}
+
+/// And so does a completion by one verdict.
+pub fn one_completion()
+    ensures { (flight : Flight) (verdict : Verdict) (old m n : Memory) (before v w : WindowState) (buffers : List Buffer)
+        → CompletesIn flight verdict old m before v buffers → CompletesIn flight verdict old n before w buffers
+        → (m ≡ n) × (v ≡ w) }
 {}
 
 /// A chain in flight outlasts all that leaves the range of the guest's memory and the queues of its window. Of the writes to

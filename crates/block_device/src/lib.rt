@@ -24,8 +24,8 @@ pub use hosting::{Flight, Hosted};
 pub use laws::{
     a_cut_request_touches_its_own_sectors, a_flight_outlasts, a_hosted_flush_lasts,
     a_service_without_failure_is_exact, an_answered_write_is_flushed, an_honest_host_serves,
-    at_most_one_exact_service, no_service_is_refused, one_answer, one_failure_at_most,
-    pieces_are_one_service,
+    at_most_one_exact_service, no_service_is_refused, one_answer, one_completion,
+    one_failure_at_most, one_look, pieces_are_one_service,
 };
 pub use operation::{Operation, OperationKind, Verdict};
 pub use request::{Request, RequestStatus};

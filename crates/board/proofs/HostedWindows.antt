@@ -21,7 +21,7 @@ use Rattle.block_device.specs.declared.hosting.Flight.{Flight}
 use Rattle.block_device.specs.declared.hosting.Hosted.{Hosted}
 use Rattle.block_device.specs.declared.hosting.Hosted.TheVariants.{Asks, More, Done}
 use Rattle.block_device.specs.declared.operation.Verdict.{Verdict}
-use Rattle.block_device.specs.Device.{block_device}
+use Rattle.block_device.specs.Asking.{unasked_device}
 use Rattle.block_device.specs.Hosting.{CompletesIn, HostsTo}
 
 registers_kept : (kind : DeviceKind) (change : QueueRegisters → QueueRegisters) (w : WindowState) → KeepsDevice w (with_registers_in (queue_of kind 0) change w)
@@ -43,9 +43,9 @@ pub KeepsDevice-hosts : (device : BlockDevice) (stage : Stage) (budget : Budget)
     → HostsTo device stage budget found hosted old new before after buffers runs disk → KeepsDevice before after
 KeepsDevice-hosts device stage budget found (Asks flight) old new before after buffers runs disk h = at before _ after h.window (ring_kept before h.last)
 KeepsDevice-hosts device stage budget found More old new before after buffers runs disk h =
-    KeepsDevice-served (block_device device) budget 0 stage found progress.More old new before after _ _ h
+    KeepsDevice-served (unasked_device device) budget 0 stage found progress.More old new before after _ _ h
 KeepsDevice-hosts device stage budget found Done old new before after buffers runs disk h =
-    KeepsDevice-served (block_device device) budget 0 stage found progress.Done old new before after _ _ h
+    KeepsDevice-served (unasked_device device) budget 0 stage found progress.Done old new before after _ _ h
 
 -- after a completion
 pub KeepsDevice-completes : (flight : Flight) (answer : Verdict) (old new : Memory) (before after : WindowState) (buffers : List Buffer)

@@ -28,6 +28,7 @@ pub mod Flights
 pub mod Beside
 pub mod Hosts
 pub mod HostedAlone
+pub mod OneHosted
 pub mod Waiting
 pub mod HostedSpecs
 pub mod HostedWindows

@@ -4,8 +4,9 @@ use Rattle.std.specs.Prelude.{◌≡◌, ◌≢◌, ℕ, ◌==◌, ⊤, Bool, tr
 use Rattle.std.specs.List.{slice_get}
 use Rattle.guest_memory.specs.Memory.{Memory, put}
 use Rattle.board.specs.declared.event.EventKind.{EventKind}
+use Rattle.board.specs.declared.event.EventKind.TheVariants.{MemRead}
 use Rattle.board.specs.declared.reply.Reply.{Reply}
-use Rattle.board.specs.declared.reply.Reply.TheVariants.{BadRange, BadSlot, Bytes, Done}
+use Rattle.board.specs.declared.reply.Reply.TheVariants.{BadRange, BadSlot, Bytes, Done, NoMemory}
 use Rattle.board.specs.Hosting.{HostedOutcome, HostedState, IsHostedNext}
 use Rattle.board.specs.Machine.{block_irq, console_irq}
 use Rattle.board.specs.Within.{TakesWithin}
@@ -44,6 +45,18 @@ pub record IsCalledNext {A : Type 0} (old : HostedState) (call : HostedCall A) (
   pub next : IsHostedNext old call.event outcome
   pub within :
       DecidesBy call.limit old call.event outcome.state call.waiting (call.waiting ++ outcome.output) outcome.reply
+
+-- Memory was found for a call: what it puts out an outlet with a limit decides, and a read of memory found some.
+abbrev pub FindsMemory : {A : Type 0} → Option ℕ → EventKind A → Reply A → Type 0
+FindsMemory None event reply = reply ≢ NoMemory
+FindsMemory (Some limit) (MemRead addr len) reply = reply ≢ NoMemory
+FindsMemory (Some limit) event reply = ⊤
+
+-- and for each of these
+abbrev pub AreFound : {A : Type 0} → List (HostedCall A) → List (Told A) → Type 0
+AreFound [] told = ⊤
+AreFound (call ∷ calls) [] = ⊤
+AreFound (call ∷ calls) (told ∷ rest) = FindsMemory call.limit call.event told.reply × AreFound calls rest
 
 -- one call after another: what each is told, and the state after the last
 abbrev pub IsHostedCourse : {A : Type 0} → HostedState → List (HostedCall A) → List (Told A) → HostedState → Type 0

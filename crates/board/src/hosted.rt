@@ -27,8 +27,8 @@ use crate::check;
 use crate::event::EventKind;
 use crate::fault::BoardFault;
 pub use crate::hosted::laws::{
-    a_flight_outlasts_own_events, an_honest_host_serves, each_hosted_guest_is_alone,
-    what_waits_changes_nothing,
+    a_flight_outlasts_own_events, a_hosted_guest_alone_has_one_run, an_honest_host_serves,
+    each_hosted_guest_is_alone, one_hosted_outcome, what_waits_changes_nothing,
 };
 pub use crate::hosted::reply::HostedTaken;
 use crate::hosted::slot::HostedSlot;

@@ -34,8 +34,9 @@ pub use event::{Event, EventKind};
 pub use fault::BoardFault;
 pub use guest_memory::{GuestMemory, MemoryFault};
 pub use hosted::{
-    HostedBoard, HostedTaken, a_flight_outlasts_own_events, an_honest_host_serves,
-    each_hosted_guest_is_alone, what_waits_changes_nothing,
+    HostedBoard, HostedTaken, a_flight_outlasts_own_events, a_hosted_guest_alone_has_one_run,
+    an_honest_host_serves, each_hosted_guest_is_alone, one_hosted_outcome,
+    what_waits_changes_nothing,
 };
 pub use laws::{
     a_failed_event_keeps_the_rest, a_guest_alone_has_one_run, a_restored_guest_goes_on,

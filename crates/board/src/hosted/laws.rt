@@ -10,7 +10,7 @@ ghost use Rattle.block_device.specs.declared.operation.Verdict.{Verdict};
 ghost use Rattle.board.specs.Honest.{IsFlown, IsHonestlyServed};
 ghost use Rattle.board.specs.Slot.{SlotState};
 ghost use Rattle.board.specs.Hosting.{HostedOutcome, HostedState, InFlight, IsHostedNext, IsOwn, must_wait};
-ghost use Rattle.board.specs.HostedLine.{HostedMove, IsHostedLine, RunsHostedAlone};
+ghost use Rattle.board.specs.HostedLine.{AreFound, FindsMemory, HostedCall, HostedMove, IsCalledNext, IsHostedCourse, IsHostedLine, RunsHostedAlone, Told};
 
 use std::alloc::Allocator;
 
@@ -19,6 +19,21 @@ use std::alloc::Allocator;
 pub fn each_hosted_guest_is_alone<A: Allocator>()
     ensures { (g : ℕ) (old new : List HostedState) (moves : List (HostedMove A)) → IsHostedLine old moves new →
         (state : HostedState) → slice_get old g ≡ Some state → RunsHostedAlone g state moves new }
+{}
+
+/// A guest alone has at most one outcome of each call for which memory is found: its state, the event and what waits in its
+/// outlet decide it. Of an outlet with a limit that is also whether it is refused.
+pub fn one_hosted_outcome<A: Allocator>()
+    ensures { (old : HostedState) (call : HostedCall A) (one other : HostedOutcome A) →
+        IsCalledNext old call one → IsCalledNext old call other →
+        FindsMemory call.limit call.event one.reply → FindsMemory call.limit call.event other.reply → one ≡ other }
+{}
+
+/// And so its calls decide all that it is told, and its last state.
+pub fn a_hosted_guest_alone_has_one_run<A: Allocator>()
+    ensures { (old : HostedState) (calls : List (HostedCall A)) (told told' : List (Told A)) (one other : HostedState) →
+        IsHostedCourse old calls told one → IsHostedCourse old calls told' other →
+        AreFound calls told → AreFound calls told' → (told ≡ told') × (one ≡ other) }
 {}
 
 /// What is in flight stays in flight, whatever its guest does: only the completion ends it.

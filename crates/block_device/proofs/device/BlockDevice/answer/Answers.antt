@@ -3,6 +3,7 @@ use Rattle.chain.specs.Bytes.{readable_of, writable_of}
 use Rattle.block_device.specs.Extent.{extent_disk}
 use Rattle.block_device.specs.Touching.{sectors_of_chain}
 use Rattle.block_device.proofs.Answering.{finished_does}
+use Rattle.block_device.proofs.Asking.{served_does}
 use Rattle.block_device.proofs.Touching.{own_chain, own_extent, untouched, unwritten}
 use Rattle.block_device.proofs.device.BlockDevice.answer.Goals as goal
 
@@ -28,6 +29,11 @@ returns-in-Asks-clause-touches g c =
 pub returns-in-Answered-clause-own : goal.returns-in-Answered-clause-own
 returns-in-Answered-clause-own g c =
     unwritten (sectors_of_chain c.args.self.now (readable_of c.args.mem.now c.args.chain.now) (length (writable_of c.args.chain.now)))
+
+pub returns-in-Answered-clause-does : goal.returns-in-Answered-clause-does
+returns-in-Answered-clause-does g c =
+    let disk = extent_disk c.args.self.now.extent (g.I.Image.disk c.args.cache.now) in
+    served_does c.args.self.now c.args.mem.now c.begin.new.mem c.args.chain.now disk disk c.in-Answered.answer.len c.in-Answered.answer.wrote (c.in-Answered.ensures.begun.0 disk)
 
 pub returns-in-Answered-clause-touches : goal.returns-in-Answered-clause-touches
 returns-in-Answered-clause-touches g c = untouched c.args.self.now.extent

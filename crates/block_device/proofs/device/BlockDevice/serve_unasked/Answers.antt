@@ -1,6 +1,6 @@
 use Rattle.chain.proofs.Budgets.{some_left, piece_pauses, piece_runs_out, piece_runs_into}
 use Rattle.mmio_window.specs.Queue.{entry_of, queue_kind}
-use Rattle.block_device.specs.Device.{block_device}
+use Rattle.block_device.specs.Asking.{unasked_device}
 use Rattle.block_device.specs.Hosting.{at_disk}
 use Rattle.block_device.proofs.Unasked.{unasked_start, unasked_more, unasked_asks}
 use Rattle.block_device.proofs.device.BlockDevice.serve_unasked.Goals as goal
@@ -19,7 +19,7 @@ loop-token-preserved g c =
 
 pub returns-then-is_spent-clause-halts : goal.returns-then-is_spent-clause-halts
 returns-then-is_spent-clause-halts g c disk =
-    piece_pauses queue_kind (block_device c.args.self.now) c.args.budget c.loop-token.left (at_disk c.args.mem.now c.args.queue.now disk)
+    piece_pauses queue_kind (unasked_device c.args.self.now) c.args.budget c.loop-token.left (at_disk c.args.mem.now c.args.queue.now disk)
     c.loop-token.mem c.loop-token.queue c.take.new.self disk c.take.new.chain (entry_of c.in-Ok-Some.token)
     (c.loop-token.invariant.piece disk) (c.is_spent.ensures.0 c.if-is_spent.true)
     (rw c.in-Ok-Some.field-0-is at c.in-Ok-Some.ensures.on_offer) (rw c.in-Ok-Some.field-0-is at c.in-Ok-Some.ensures.offered) c.in-Ok-Some.ensures.same
@@ -34,12 +34,12 @@ returns-in-Asks-clause-halts g c =
 
 pub returns-in-Ok-None-clause-halts : goal.returns-in-Ok-None-clause-halts
 returns-in-Ok-None-clause-halts g c disk =
-    piece_runs_out queue_kind (block_device c.args.self.now) c.args.budget c.loop-token.left (at_disk c.args.mem.now c.args.queue.now disk)
+    piece_runs_out queue_kind (unasked_device c.args.self.now) c.args.budget c.loop-token.left (at_disk c.args.mem.now c.args.queue.now disk)
     c.loop-token.mem c.loop-token.queue c.take.new.self disk (c.loop-token.invariant.piece disk)
     (rw c.in-Ok-None.field-0-is at c.in-Ok-None.ensures.on_offer) c.in-Ok-None.ensures.same
 
 pub returns-in-Err-clause-halts : goal.returns-in-Err-clause-halts
 returns-in-Err-clause-halts g c disk =
-    piece_runs_into queue_kind (block_device c.args.self.now) c.args.budget c.loop-token.left (at_disk c.args.mem.now c.args.queue.now disk)
+    piece_runs_into queue_kind (unasked_device c.args.self.now) c.args.budget c.loop-token.left (at_disk c.args.mem.now c.args.queue.now disk)
     c.loop-token.mem c.loop-token.queue c.take.new.self disk c.in-Err.fault (c.loop-token.invariant.piece disk)
     c.in-Err.ensures.met c.in-Err.ensures.fault c.in-Err.ensures.stopped

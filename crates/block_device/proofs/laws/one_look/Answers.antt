@@ -1,0 +1,5 @@
+use Rattle.block_device.proofs.OneLook.{one_look}
+use Rattle.block_device.proofs.laws.one_look.Goals as goal
+
+pub returns : goal.returns
+returns c = one_look
