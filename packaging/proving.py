@@ -162,7 +162,7 @@ def shown(path):
 def need_rt(what):
     """Ends by a sentence where no rt is on the path."""
     if not shutil.which("rt"):
-        print(f"rt isn't installed: {what} can't be built", file=sys.stderr)
+        print(f"rt isn't installed: {what} can't be built. README.md names the toolchain, and says what can be tried without it.", file=sys.stderr)
         sys.exit(1)
 
 
