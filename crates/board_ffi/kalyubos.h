@@ -25,18 +25,16 @@
  *
  * The library is built for x86-64-v2 (SSE4.2 and POPCNT) and Linux's calling convention.
  *
- * Nothing of the caller's is kept: a call copies what it needs. Each answers a number, and after any but
- * KALYUBOS_DONE its out parameters are as they were, but that `pending` is told after every number that a slot which is
- * there is answered, and `took` after KALYUBOS_MORE as well.
- * The numbers of the answers are fixed for good; a later version only adds some.
+ * The library keeps no pointer of the caller: a call copies what it needs. Each call answers a number. After any but
+ * KALYUBOS_DONE its out parameters are unchanged, with two exceptions: `pending` is told after every answer where the
+ * slot exists, and `took` after KALYUBOS_MORE too. The numbers never change; a later version only adds some.
  *
  * A struct that the host fills begins with its `size`, its sizeof in the header that the host was built with. This
  * version takes its own size alone, and answers KALYUBOS_BAD_SIZE for any other before it looks at another field. A
- * later version that this header fits (kalyubos_version) also takes this version's size: a field that was added later
- * then says what this version does without it. Added fields stand behind all others and make the struct larger. The
- * structs of an array lie `size` bytes apart, so all have one size. struct kalyubos_pending, which the library fills,
- * has no size and never changes: a later version tells more by further calls. Nor do the handle and struct
- * kalyubos_block change.
+ * later version that this header fits (kalyubos_version) also takes this version's size, and then does what this
+ * version does. It adds fields behind all others. The structs of an array lie `size` bytes apart, so all have one size.
+ * The handle, struct kalyubos_pending and struct kalyubos_block have no size and never change: a later version tells
+ * more by further calls.
  *
  * There are two kinds of board. kalyubos_create makes one whose disks are parts of an image in the library's memory.
  * kalyubos_create_hosted makes one whose disks the host serves: the board says what it wants of a disk, the host does it
@@ -220,10 +218,10 @@ struct kalyubos_operation {
 
 /*
  * Makes a board of `slots_len` slots over a copy of the image, with a cache of at most `cache` sectors before it,
- * and puts it into an empty handle. A refusal leaves the handle as it was and keeps no memory. It is BAD_SIZE where a
- * slot's `size` isn't sizeof(struct kalyubos_slot), and nothing behind the first such size is read. Else it is BAD_IMAGE
- * where that holds, else BAD_OUTLET, else the first of the numbers from NO_SLOTS to BAD_CACHE that holds, those of a slot
- * looked for slot by slot. NO_MEMORY may come in the place of the latter.
+ * and puts it into an empty handle. A refusal leaves the handle as it was and keeps no memory. The first of these that
+ * holds is answered: BAD_SIZE, where a slot's `size` isn't sizeof(struct kalyubos_slot), and nothing behind it is read;
+ * BAD_IMAGE; BAD_OUTLET; the numbers from NO_SLOTS to BAD_CACHE, those of a slot looked for slot by slot. NO_MEMORY may
+ * come in the place of one of these numbers.
  *
  * `chains` and `bytes` are the budget of one call, and 0 is no limit: a call serves no more than so many chains, and
  * begins no further chain once those before it had so many bytes in their buffers. So one call moves `bytes` and one
@@ -264,9 +262,8 @@ static inline size_t kalyubos_slot_at_fault(uint32_t answer, const struct kalyub
 /*
  * Makes a board of `slots_len` slots whose disks the host serves, and puts it into an empty handle. Each guest has a disk
  * of its own, of `count` sectors; `start` is not read. There is no image, no cache and no budget: no call moves a
- * disk's bytes, and none pauses. A refusal leaves the handle as it was and keeps no memory. It is BAD_SIZE as
- * kalyubos_create's is; else BAD_OUTLET, else the first of NO_SLOTS, TOO_MANY_SLOTS, BAD_MEMORY_SIZE, BAD_MEMORY_BASE
- * and EXTENT_OUTSIDE that holds, those of a slot looked for slot by slot; NO_MEMORY may come in the place of the latter.
+ * disk's bytes, and none pauses. Refusals are as kalyubos_create's, in the same order; BAD_IMAGE, EXTENTS_OVERLAP and
+ * BAD_CACHE never come.
  *
  * Guests of a hosted board share nothing. With a handle for each guest, a board of one slot, guests need no lock between
  * them: what orders the calls of a guest's CPUs and of its disk is that guest's own.
@@ -315,9 +312,8 @@ uint32_t kalyubos_write(struct kalyubos *board, uint8_t slot, uint8_t window, ui
 uint32_t kalyubos_go_on(struct kalyubos *board, uint8_t slot, struct kalyubos_pending *pending);
 
 /*
- * What the slot's disk is asked for: the operation, and the first of its runs, as many as find room in `runs`. With
- * room for KALYUBOS_RUNS all of them do. It may be asked again and again until kalyubos_completed, and tells the same.
- * IDLE where nothing is in flight.
+ * Tells what the slot's disk is asked for: the operation, and its first runs, as many as find room in `runs`. There is
+ * room for all in KALYUBOS_RUNS. It tells the same until kalyubos_completed. IDLE where nothing is in flight.
  *
  * Each run lies inside the guest's memory, or of a ZEROES inside its disk, and none is empty; `start` and `len` lie inside
  * the disk. They were judged when the operation began, and nothing is read again from guest memory: a guest that
