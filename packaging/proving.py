@@ -118,7 +118,8 @@ class Progress:
         elif self.crate:
             self.display.show(f"[{self.place(self.crate)}/{len(self.order)}] {self.crate}", self.detail)
         else:
-            self.display.show(f"[0/{len(self.order)}] reading the sources")
+            # An rt that names no crate has named no item yet.
+            self.display.show(f"[0/{len(self.order)}] {'proving' if self.detail else 'reading the sources'}", self.detail)
 
 
 def run(words, folder, log, take, idle=lambda: None, **how):
