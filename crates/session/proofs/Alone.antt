@@ -1,5 +1,5 @@
 -- Each guest of a session, as its own calls decide it.
-use Rattle.std.proofs.Common.{◌≡◌, ◌≢◌, ◌⊎◌, inl, inr, ℕ, ◌==◌, eqb, true, false, Option, Some, List, [], ◌∷◌, ◌++◌, take, drop, refl, sym, ◌∙◌, ap, subst}
+use Rattle.std.proofs.Common.{◌≡◌, ◌≢◌, ◌⊎◌, inl, inr, ℕ, ◌==◌, eqb, true, false, Option, Some, None, List, [], ◌∷◌, ◌++◌, take, drop, refl, sym, ◌∙◌, ap, subst}
 use Rattle.std.specs.Prelude.{MatchOption, unwrap_or}
 use Rattle.std.specs.List.{slice_get}
 use Rattle.std.proofs.lemmas.Bool.Decides.{eqb_tells}
@@ -14,9 +14,19 @@ use Rattle.board.specs.Within.{Seat, IsNextWithin}
 use Rattle.board.proofs.Alone.{served, get_set, other_at}
 use Rattle.board.proofs.OneRun.{next_of}
 use Rattle.board.proofs.OneSeat.{seat_once}
-use Rattle.session.specs.Alone.{Answer, Call, Does, Gave, Replied, Takes, IsNextCall, IsSeatCourse, IsSeatedAlone, SeeAlike, own_answers, own_calls, seat_of}
-use Rattle.session.specs.Course.{Deed, Answered, Took, IsCourse, IsTaken}
+use Rattle.board.specs.declared.pause.Pause.{Pause}
+use Rattle.board.specs.declared.pause.Turn.{Turn}
+use Rattle.board.specs.declared.pause.Turn.TheVariants as turn
+use Rattle.session.specs.declared.response.Response.{Response}
+use Rattle.session.specs.declared.response.Response.TheVariants.{Answered, More, Busy, Idle}
+use Rattle.session.specs.Alone.{Answer, Asking, Does, Gave, Goes, Takes, Told, IsNextAsked, IsSeatCourse, IsSeatedAlone, SeeAlike, own_answers, own_askings, seat_of}
+use Rattle.session.specs.Course.{Deed, Called, Took, IsCalled, IsCourse, IsTaken, NeverPauses, paced_world_of}
+use Rattle.session.specs.Line.{IsIdle}
+use Rattle.session.specs.Pacing.{Call, GoOn, Handle, response_to, slot_in}
+use Rattle.session.specs.Pausing.{ComesTo, IsCall}
 use Rattle.session.specs.Session.{IsStep, KeepsOtherOutputs, SessionState, Waiting, none_waiting, limit_of, output_of, world_of}
+use Rattle.session.proofs.PacedAlone.{others_at}
+use Rattle.session.proofs.PacedCourses.{by_pause, step_of}
 
 -- what a guest's own event comes to
 record OwnEvent {A : Type 0} (h : ℕ) (state : SlotState) (what : EventKind A) (reply : Reply A) (old new : SessionState) : Type 0 where
@@ -58,43 +68,81 @@ other_output : (g slot : ℕ) (old new : SessionState) → KeepsOtherOutputs slo
 other_output g slot old new kept other = ap (λ (o : Option Waiting). (unwrap_or o (none_waiting 0)).bytes) (kept g (λ same. other (sym same)))
 
 -- the rest of a course, with what it begins with
-by_limit : {A : Type 0} (before after : ℕ) (old last : Seat) (calls : List (Call A)) (answers : List (Answer A)) → after ≡ before → IsSeatCourse after old calls answers last → IsSeatCourse before old calls answers last
-by_limit before after old last calls answers same course = subst (λ (n : ℕ). IsSeatCourse n old calls answers last) same course
+by_limit : {A : Type 0} (before after : ℕ) (old last : Seat) (askings : List (Asking A)) (answers : List (Answer A)) → after ≡ before → IsSeatCourse after old askings answers last → IsSeatCourse before old askings answers last
+by_limit before after old last askings answers same course = subst (λ (n : ℕ). IsSeatCourse n old askings answers last) same course
 
 abbrev Rests : {A : Type 0} → ℕ → SessionState → List (Deed A) → SessionState → Type 0
-Rests g after deeds new = (state : SlotState) → slice_get (world_of after).slots g ≡ Some state → IsSeatedAlone g state after deeds new
+Rests g after deeds new =
+    (state : SlotState) → slice_get (world_of after).slots g ≡ Some state → IsIdle g (paced_world_of after) → IsSeatedAlone g state after deeds new
 
--- an event of another's is no call of this guest's
-event_of_other : {A : Type 0} (g : ℕ) (old : SessionState) (event : Event A) (reply : Reply A) (after : SessionState) (deeds : List (Deed A)) (new : SessionState) (state : SlotState) → (event.slot == g) ≡ false → event.slot ≢ g →
-    IsStep old event reply after → slice_get (world_of old).slots g ≡ Some state → Rests g after deeds new → IsSeatedAlone g state old (Answered event reply after ∷ deeds) new
-event_of_other g old event reply after deeds new state test other h here rest =
-    let kept = other_at g (world_of old) event h.answers.written (world_of after) (slice_get (world_of old).slots event.slot) other h.answers.step in
-    let alone = rest state (kept ∙ here) in
-    let same = same_seat g state old after (other_output g event.slot old after h.outputs other) in
-    let own = by_limit (limit_of g old) (limit_of g after) (seat_of g state after) (seat_of g alone.last new) (own_calls g deeds) (own_answers g deeds) (h.limits g) alone.own in
+-- a call for another is none of this guest's
+call_of_other : {A : Type 0} (g : ℕ) (old : SessionState) (call : Call A) (response : Response A) (after : SessionState) (deeds : List (Deed A)) (new : SessionState) (state : SlotState)
+    → (slot_in call == g) ≡ false → slot_in call ≢ g → IsCall old call response after
+    → slice_get (world_of old).slots g ≡ Some state → IsIdle g (paced_world_of old) → Rests g after deeds new → IsSeatedAlone g state old (Called call response after ∷ deeds) new
+call_of_other g old call response after deeds new state test other h here idle rest =
+    let s = step_of old call response after h in
+    let kept = others_at g old.budget call (slice_get old.paused (slot_in call)) (paced_world_of old) response s.output s.block s.console (paced_world_of after) other s.comes in
+    let alone = rest state (kept.slot ∙ here) (kept.paused ∙ idle) in
+    let same = same_seat g state old after (other_output g (slot_in call) old after s.outputs other) in
+    let own = by_limit (limit_of g old) (limit_of g after) (seat_of g state after) (seat_of g alone.last new) (own_askings g deeds) (own_answers g deeds) (s.limits g) alone.own in
     record { last = alone.last; own = rw test (rw same at own); state_after = alone.state_after }
 
-event_of_own : {A : Type 0} (g : ℕ) (old : SessionState) (event : Event A) (reply : Reply A) (after : SessionState) (deeds : List (Deed A)) (new : SessionState) (state : SlotState) → (event.slot == g) ≡ true → event.slot ≡ g →
-    IsStep old event reply after → slice_get (world_of old).slots g ≡ Some state → Rests g after deeds new → IsSeatedAlone g state old (Answered event reply after ∷ deeds) new
-event_of_own {A} g old event reply after deeds new state test mine h here rest =
+-- an event of its own is answered
+event_of_own : {A : Type 0} (g : ℕ) (old : SessionState) (event : Event A) (reply : Reply A) (after : SessionState) (deeds : List (Deed A)) (new : SessionState) (state : SlotState)
+    → (event.slot == g) ≡ true → event.slot ≡ g → IsStep old event reply after
+    → slice_get (world_of old).slots g ≡ Some state → IsIdle g (paced_world_of old) → Rests g after deeds new
+    → IsSeatedAlone g state old (Called (Handle event) (Answered reply) after ∷ deeds) new
+event_of_own {A} g old event reply after deeds new state test mine h here idle rest =
     let came : OwnEvent g state event.what reply old after =
     subst (λ (k : ℕ). OwnEvent k state event.what reply old after) mine
     (own_event old after event reply state h (ap (λ (k : ℕ). slice_get (world_of old).slots k) mine ∙ here)) in
-    let alone = rest came.last came.there in
-    let own = by_limit (limit_of g old) (limit_of g after) (seat_of g came.last after) (seat_of g alone.last new) (own_calls g deeds) (own_answers g deeds) (h.limits g) alone.own in
+    let alone = rest came.last came.there (ap (λ (ps : List (Option Pause)). slice_get ps g) h.paused ∙ idle) in
+    let own = by_limit (limit_of g old) (limit_of g after) (seat_of g came.last after) (seat_of g alone.last new) (own_askings g deeds) (own_answers g deeds) (h.limits g) alone.own in
     record { last = alone.last; own = rw test (seat_of g came.last after, came.next, own); state_after = alone.state_after }
 
-event_either : {A : Type 0} (g : ℕ) (old : SessionState) (event : Event A) (reply : Reply A) (after : SessionState) (deeds : List (Deed A)) (new : SessionState) (state : SlotState) → ((eqb event.slot g ≡ true) × (event.slot ≡ g)) ⊎ ((eqb event.slot g ≡ false) × (event.slot ≢ g)) →
-    IsStep old event reply after → slice_get (world_of old).slots g ≡ Some state → Rests g after deeds new → IsSeatedAlone g state old (Answered event reply after ∷ deeds) new
-event_either g old event reply after deeds new state (inl is) h here rest = event_of_own g old event reply after deeds new state is.0 is.1 h here rest
-event_either g old event reply after deeds new state (inr is) h here rest = event_of_other g old event reply after deeds new state is.0 is.1 h here rest
+-- nothing of its own goes on
+goes_of_own : {A : Type 0} (g slot : ℕ) (old : SessionState) (response : Response A) (after : SessionState) (deeds : List (Deed A)) (new : SessionState) (state : SlotState)
+    → (slot == g) ≡ true → (response ≡ Idle) × (after ≡ old)
+    → slice_get (world_of old).slots g ≡ Some state → IsIdle g (paced_world_of old) → Rests g after deeds new
+    → IsSeatedAlone g state old (Called (GoOn slot) response after ∷ deeds) new
+goes_of_own {A} g slot old response after deeds new state test h here idle rest =
+    let alone : IsSeatedAlone g state old deeds new = subst (λ (s : SessionState). Rests g s deeds new) h.1 rest state here idle in
+    record { last = alone.last; own = rw test (seat_of g state old, (h.0, refl), alone.own); state_after = alone.state_after }
+
+not_busy : {A : Type 0} (t : Turn A) → Busy ≡ response_to t → ⊥
+not_busy (turn.Answered reply) told = cc (told)
+not_busy (turn.More pause) told = cc (told)
+
+not_idle : {A : Type 0} (t : Turn A) → Idle ≡ response_to t → ⊥
+not_idle (turn.Answered reply) told = cc (told)
+not_idle (turn.More pause) told = cc (told)
+
+call_of_own : {A : Type 0} (g : ℕ) (old : SessionState) (call : Call A) (response : Response A) (after : SessionState) (deeds : List (Deed A)) (new : SessionState) (state : SlotState)
+    → (slot_in call == g) ≡ true → slot_in call ≡ g → response ≢ More → IsCalled old call response after → ComesTo call (Some None) old response after
+    → slice_get (world_of old).slots g ≡ Some state → IsIdle g (paced_world_of old) → Rests g after deeds new → IsSeatedAlone g state old (Called call response after ∷ deeds) new
+call_of_own g old (Handle event) (Answered reply) after deeds new state test mine never h comes here idle rest = event_of_own g old event reply after deeds new state test mine h.1 here idle rest
+call_of_own g old (Handle event) More after deeds new state test mine never h comes here idle rest = absurd (never refl)
+call_of_own g old (Handle event) Busy after deeds new state test mine never h comes here idle rest = absurd (not_busy comes.turn.turn comes.turn.told)
+call_of_own g old (Handle event) Idle after deeds new state test mine never h comes here idle rest = absurd (not_idle comes.turn.turn comes.turn.told)
+call_of_own g old (GoOn slot) response after deeds new state test mine never h comes here idle rest = goes_of_own g slot old response after deeds new state test comes here idle rest
+
+call_either : {A : Type 0} (g : ℕ) (old : SessionState) (call : Call A) (response : Response A) (after : SessionState) (deeds : List (Deed A)) (new : SessionState) (state : SlotState)
+    → ((eqb (slot_in call) g ≡ true) × (slot_in call ≡ g)) ⊎ ((eqb (slot_in call) g ≡ false) × (slot_in call ≢ g)) → (slot_in call ≡ g → response ≢ More) → IsCalled old call response after
+    → slice_get (world_of old).slots g ≡ Some state → IsIdle g (paced_world_of old) → Rests g after deeds new → IsSeatedAlone g state old (Called call response after ∷ deeds) new
+call_either {A} g old call response after deeds new state (inl is) never h here idle rest =
+    let waits : slice_get old.paused (slot_in call) ≡ Some None = ap (λ (k : ℕ). slice_get old.paused k) is.1 ∙ idle in
+    call_of_own g old call response after deeds new state is.0 is.1 (never is.1) h
+    (subst (λ (p : Option (Option Pause)). ComesTo call p old response after) waits (by_pause old call response after h)) here idle rest
+call_either g old call response after deeds new state (inr is) never h here idle rest =
+    call_of_other g old call response after deeds new state is.0 is.1 (by_pause old call response after h) here idle rest
 
 -- the first bytes that wait are what is taken
-taken_either : {A : Type 0} (g slot room : ℕ) (old : SessionState) (bytes : List ℕ) (after : SessionState) (deeds : List (Deed A)) (new : SessionState) (state : SlotState) → ((eqb slot g ≡ true) × (slot ≡ g)) ⊎ ((eqb slot g ≡ false) × (slot ≢ g)) →
-    IsTaken old slot room bytes after → slice_get (world_of old).slots g ≡ Some state → Rests g after deeds new → IsSeatedAlone g state old (Took slot room bytes after ∷ deeds) new
-taken_either {A} g slot room old bytes after deeds new state (inl is) h here rest =
-    let alone = rest state (ap (λ (w : World). slice_get w.slots g) h.world ∙ here) in
-    let own = by_limit (limit_of g old) (limit_of g after) (seat_of g state after) (seat_of g alone.last new) (own_calls g deeds) (own_answers g deeds) (h.limits g) alone.own in
+taken_either : {A : Type 0} (g slot room : ℕ) (old : SessionState) (bytes : List ℕ) (after : SessionState) (deeds : List (Deed A)) (new : SessionState) (state : SlotState)
+    → ((eqb slot g ≡ true) × (slot ≡ g)) ⊎ ((eqb slot g ≡ false) × (slot ≢ g)) → IsTaken old slot room bytes after
+    → slice_get (world_of old).slots g ≡ Some state → IsIdle g (paced_world_of old) → Rests g after deeds new → IsSeatedAlone g state old (Took slot room bytes after ∷ deeds) new
+taken_either {A} g slot room old bytes after deeds new state (inl is) h here idle rest =
+    let alone = rest state (ap (λ (w : World). slice_get w.slots g) h.world ∙ here) (ap (λ (ps : List (Option Pause)). slice_get ps g) h.paused ∙ idle) in
+    let own = by_limit (limit_of g old) (limit_of g after) (seat_of g state after) (seat_of g alone.last new) (own_askings g deeds) (own_answers g deeds) (h.limits g) alone.own in
     let first : bytes ≡ take room (output_of g old) = h.first ∙ ap (λ (k : ℕ). take room (output_of k old)) is.1 in
     let left : output_of g after ≡ drop room (output_of g old) = subst (λ (k : ℕ). output_of k after ≡ drop room (output_of k old)) is.1 h.left in
     record {
@@ -102,58 +150,69 @@ taken_either {A} g slot room old bytes after deeds new state (inl is) h here res
       own = rw is.0 (seat_of g state after, (first, ap (λ (w : List ℕ). record { state = state; waiting = w }) left), own);
       state_after = alone.state_after;
     }
-taken_either {A} g slot room old bytes after deeds new state (inr is) h here rest =
-    let alone = rest state (ap (λ (w : World). slice_get w.slots g) h.world ∙ here) in
+taken_either {A} g slot room old bytes after deeds new state (inr is) h here idle rest =
+    let alone = rest state (ap (λ (w : World). slice_get w.slots g) h.world ∙ here) (ap (λ (ps : List (Option Pause)). slice_get ps g) h.paused ∙ idle) in
     let same = same_seat g state old after (other_output g slot old after h.others is.1) in
-    let own = by_limit (limit_of g old) (limit_of g after) (seat_of g state after) (seat_of g alone.last new) (own_calls g deeds) (own_answers g deeds) (h.limits g) alone.own in
+    let own = by_limit (limit_of g old) (limit_of g after) (seat_of g state after) (seat_of g alone.last new) (own_askings g deeds) (own_answers g deeds) (h.limits g) alone.own in
     record { last = alone.last; own = rw is.0 (rw same at own); state_after = alone.state_after }
 
-pub seated_alone : {A : Type 0} (g : ℕ) (old : SessionState) (deeds : List (Deed A)) (new : SessionState) (state : SlotState) → IsCourse old deeds new → slice_get (world_of old).slots g ≡ Some state → IsSeatedAlone g state old deeds new
-seated_alone g old [] new state course here = record { last = state; own = rw course refl; state_after = rw course here }
-seated_alone g old (Answered event reply after ∷ deeds) new state course here =
-    event_either g old event reply after deeds new state (eqb_tells event.slot g) course.0 here (λ s. seated_alone g after deeds new s course.1)
-seated_alone g old (Took slot room bytes after ∷ deeds) new state course here =
-    taken_either g slot room old bytes after deeds new state (eqb_tells slot g) course.0 here (λ s. seated_alone g after deeds new s course.1)
+pub seated_alone : {A : Type 0} (g : ℕ) (old : SessionState) (deeds : List (Deed A)) (new : SessionState) (state : SlotState) → IsCourse old deeds new → NeverPauses g deeds
+    → slice_get (world_of old).slots g ≡ Some state → IsIdle g (paced_world_of old) → IsSeatedAlone g state old deeds new
+seated_alone g old [] new state course never here idle = record { last = state; own = rw course refl; state_after = rw course here }
+seated_alone g old (Called call response after ∷ deeds) new state course never here idle =
+    call_either g old call response after deeds new state (eqb_tells (slot_in call) g) never.0 course.0 here idle (λ s at none. seated_alone g after deeds new s course.1 never.1 at none)
+seated_alone g old (Took slot room bytes after ∷ deeds) new state course never here idle =
+    taken_either g slot room old bytes after deeds new state (eqb_tells slot g) course.0 here idle (λ s at none. seated_alone g after deeds new s course.1 never at none)
 
 -- ---- and so its own calls decide all that it sees
 
-call_once : {A : Type 0} (limit : ℕ) (old one other : Seat) (call : Call A) (p q : Answer A) → IsNextCall limit old call p one → IsNextCall limit old call q other → (p ≡ q) × (one ≡ other)
-call_once {A} limit old one other (Does what) (Replied p) (Replied q) x y =
+asked_once : {A : Type 0} (limit : ℕ) (old one other : Seat) (asking : Asking A) (p q : Answer A) → IsNextAsked limit old asking p one → IsNextAsked limit old asking q other → (p ≡ q) × (one ≡ other)
+asked_once {A} limit old one other (Does what) (Told (Answered p)) (Told (Answered q)) x y =
     let same = seat_once limit old one other what p q x y in
-    (ap (λ (r : Reply A). Replied r) same.0, same.1)
-call_once {A} limit old one other (Takes room) (Gave p) (Gave q) x y =
+    (ap (λ (r : Reply A). Told (Answered r)) same.0, same.1)
+asked_once limit old one other (Does what) (Told More) q x y = absurd x
+asked_once limit old one other (Does what) (Told Busy) q x y = absurd x
+asked_once limit old one other (Does what) (Told Idle) q x y = absurd x
+asked_once limit old one other (Does what) (Gave p) q x y = absurd x
+asked_once limit old one other (Does what) (Told (Answered p)) (Told More) x y = absurd y
+asked_once limit old one other (Does what) (Told (Answered p)) (Told Busy) x y = absurd y
+asked_once limit old one other (Does what) (Told (Answered p)) (Told Idle) x y = absurd y
+asked_once limit old one other (Does what) (Told (Answered p)) (Gave q) x y = absurd y
+asked_once {A} limit old one other Goes (Told p) (Told q) x y = (ap (λ (r : Response A). Told r) (x.0 ∙ sym y.0), x.1 ∙ sym y.1)
+asked_once limit old one other Goes (Gave p) q x y = absurd x
+asked_once limit old one other Goes (Told p) (Gave q) x y = absurd y
+asked_once {A} limit old one other (Takes room) (Gave p) (Gave q) x y =
     let gave : List ℕ → Answer A = λ b. Gave b in
     (ap gave (x.0 ∙ sym y.0), x.1 ∙ sym y.1)
-call_once limit old one other (Does what) (Gave p) q x y = absurd x
-call_once limit old one other (Does what) (Replied p) (Gave q) x y = absurd y
-call_once limit old one other (Takes room) (Replied p) q x y = absurd x
-call_once limit old one other (Takes room) (Gave p) (Replied q) x y = absurd y
+asked_once limit old one other (Takes room) (Told p) q x y = absurd x
+asked_once limit old one other (Takes room) (Gave p) (Told q) x y = absurd y
 
-pub seat_course_once : {A : Type 0} (limit : ℕ) (old : Seat) (calls : List (Call A)) (one other : List (Answer A)) (s t : Seat) → IsSeatCourse limit old calls one s → IsSeatCourse limit old calls other t → (one ≡ other) × (s ≡ t)
+pub seat_course_once : {A : Type 0} (limit : ℕ) (old : Seat) (askings : List (Asking A)) (one other : List (Answer A)) (s t : Seat) → IsSeatCourse limit old askings one s → IsSeatCourse limit old askings other t → (one ≡ other) × (s ≡ t)
 seat_course_once limit old [] [] [] s t x y = (refl, x ∙ sym y)
 seat_course_once limit old [] (p ∷ one) other s t x y = absurd x
 seat_course_once limit old [] [] (q ∷ other) s t x y = absurd y
-seat_course_once limit old (call ∷ calls) [] other s t x y = absurd x
-seat_course_once limit old (call ∷ calls) (p ∷ one) [] s t x y = absurd y
-seat_course_once {A} limit old (call ∷ calls) (p ∷ one) (q ∷ other) s t x y =
-    let same = call_once limit old x.0 y.0 call p q x.1 y.1 in
-    let rest = seat_course_once limit x.0 calls one other s t x.2 (subst (λ (n : Seat). IsSeatCourse limit n calls other t) (sym same.1) y.2) in
+seat_course_once limit old (asking ∷ askings) [] other s t x y = absurd x
+seat_course_once limit old (asking ∷ askings) (p ∷ one) [] s t x y = absurd y
+seat_course_once {A} limit old (asking ∷ askings) (p ∷ one) (q ∷ other) s t x y =
+    let same = asked_once limit old x.0 y.0 asking p q x.1 y.1 in
+    let rest = seat_course_once limit x.0 askings one other s t x.2 (subst (λ (n : Seat). IsSeatCourse limit n askings other t) (sym same.1) y.2) in
     (ap (λ (answer : Answer A). answer ∷ one) same.0 ∙ ap (λ (l : List (Answer A)). q ∷ l) rest.0, rest.1)
 
 -- A guest of one session and one of another, as the same slot with the same output: where the same is asked of both,
 -- both see the same.
-pub see_alike : {A : Type 0} (g h : ℕ) (old new other last : SessionState) (deeds more : List (Deed A)) (state : SlotState) → IsCourse old deeds new → IsCourse other more last
-    → slice_get (world_of old).slots g ≡ Some state → slice_get (world_of other).slots h ≡ Some state → output_of h other ≡ output_of g old → limit_of h other ≡ limit_of g old → own_calls h more ≡ own_calls g deeds
+pub see_alike : {A : Type 0} (g h : ℕ) (old new other last : SessionState) (deeds more : List (Deed A)) (state : SlotState) → IsCourse old deeds new → IsCourse other more last → NeverPauses g deeds → NeverPauses h more
+    → IsIdle g (paced_world_of old) → IsIdle h (paced_world_of other)
+    → slice_get (world_of old).slots g ≡ Some state → slice_get (world_of other).slots h ≡ Some state → output_of h other ≡ output_of g old → limit_of h other ≡ limit_of g old → own_askings h more ≡ own_askings g deeds
     → SeeAlike g deeds new h more last
-see_alike {A} g h old new other last deeds more state x y here there out lim calls =
-    let a = seated_alone g old deeds new state x here in
-    let b = seated_alone h other more last state y there in
-    let two : IsSeatCourse (limit_of h other) (record { state = state; waiting = output_of h other }) (own_calls h more) (own_answers h more) (seat_of h b.last last) = b.own in
-    let three : IsSeatCourse (limit_of g old) (seat_of g state old) (own_calls g deeds) (own_answers h more) (seat_of h b.last last) =
-    subst (λ (c : List (Call A)). IsSeatCourse (limit_of g old) (seat_of g state old) c (own_answers h more) (seat_of h b.last last)) calls
-    (subst (λ (w : List ℕ). IsSeatCourse (limit_of g old) (record { state = state; waiting = w }) (own_calls h more) (own_answers h more) (seat_of h b.last last)) out
-    (subst (λ (n : ℕ). IsSeatCourse n (record { state = state; waiting = output_of h other }) (own_calls h more) (own_answers h more) (seat_of h b.last last)) lim two)) in
-    let same = seat_course_once (limit_of g old) (seat_of g state old) (own_calls g deeds) (own_answers g deeds) (own_answers h more) (seat_of g a.last new) (seat_of h b.last last) a.own three in
+see_alike {A} g h old new other last deeds more state x y never never' idle idle' here there out lim askings =
+    let a = seated_alone g old deeds new state x never here idle in
+    let b = seated_alone h other more last state y never' there idle' in
+    let two : IsSeatCourse (limit_of h other) (record { state = state; waiting = output_of h other }) (own_askings h more) (own_answers h more) (seat_of h b.last last) = b.own in
+    let three : IsSeatCourse (limit_of g old) (seat_of g state old) (own_askings g deeds) (own_answers h more) (seat_of h b.last last) =
+    subst (λ (c : List (Asking A)). IsSeatCourse (limit_of g old) (seat_of g state old) c (own_answers h more) (seat_of h b.last last)) askings
+    (subst (λ (w : List ℕ). IsSeatCourse (limit_of g old) (record { state = state; waiting = w }) (own_askings h more) (own_answers h more) (seat_of h b.last last)) out
+    (subst (λ (n : ℕ). IsSeatCourse n (record { state = state; waiting = output_of h other }) (own_askings h more) (own_answers h more) (seat_of h b.last last)) lim two)) in
+    let same = seat_course_once (limit_of g old) (seat_of g state old) (own_askings g deeds) (own_answers g deeds) (own_answers h more) (seat_of g a.last new) (seat_of h b.last last) a.own three in
     record {
       answers = same.0;
       waiting = ap (λ (s : Seat). s.waiting) same.1;

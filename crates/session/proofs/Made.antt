@@ -1,20 +1,24 @@
 -- A guest of a new session is as it is in one of its own.
-use Rattle.std.proofs.Common.{◌≡◌, ℕ, zero, suc, ◌+◌, ◌*◌, ◌/◌, ◌<◌, ◌≤◌, List, [], ◌∷◌, Option, Some, length, map, take, drop, sym, ap, subst, arith}
+use Rattle.std.proofs.Common.{◌≡◌, ℕ, zero, suc, ◌+◌, ◌*◌, ◌/◌, ◌<◌, ◌≤◌, List, [], ◌∷◌, Option, Some, None, length, replicate, map, take, drop, sym, ap, subst, ◌∙◌, arith}
 use Rattle.std.specs.Prelude.{◌-◌, ◌^◌, min, unwrap_or}
 use Rattle.std.specs.List.{slice_get}
-use Rattle.std.proofs.lemmas.List.{length-take, length-drop, take_all}
+use Rattle.std.proofs.lemmas.List.{length-take, length-drop, length-replicate, get_or-replicate, take_all}
 use Rattle.std.proofs.lemmas.Option.{get_or_from_slice_get, slice_get_within, same_Some}
+use Rattle.circular_buffer.proofs.Places.{slice_get-some}
 use Rattle.chain.specs.declared.budget.Budget.{Budget}
+use Rattle.board.specs.declared.pause.Pause.{Pause}
 use Rattle.sector_cache.specs.Sector.{extent_of}
 use Rattle.board.specs.declared.spec.SlotSpec.{SlotSpec}
 use Rattle.board.specs.Fault.{IsAccepted, IsGoodSlot}
+use Rattle.board.specs.Pausing.{HasLimit}
 use Rattle.board.specs.Slot.{SlotState, opened, state_of}
 use Rattle.session.specs.declared.guest.GuestSpec.{GuestSpec}
-use Rattle.session.specs.Alone.{SeeAlike, at_front, new_session_alone, own_calls, part_of_image}
-use Rattle.session.specs.Course.{Deed, IsCourse}
+use Rattle.session.specs.Alone.{SeeAlike, at_front, new_session_alone, own_askings, part_of_image}
+use Rattle.session.specs.Course.{Deed, IsCourse, NeverPauses}
 use Rattle.session.specs.Refusing.{AreOutlets}
 use Rattle.session.specs.Session.{SessionState, Waiting, none_waiting, new_session, slots_of, world_of}
 use Rattle.session.proofs.Alone.{see_alike}
+use Rattle.session.proofs.PacedCourses.{never_pauses}
 
 -- a guest's part of an image is all of the image that is its own
 front_of_part : (image : List ℕ) (start count : ℕ) → extent_of (extent_of image start count) 0 count ≡ extent_of image start count
@@ -36,15 +40,31 @@ waits_at [] g guest here = absurd (cc)
 waits_at (one ∷ guests) zero guest here = ap (λ (s : GuestSpec). Some (none_waiting s.outlet)) (same_Some one guest here)
 waits_at (one ∷ guests) (suc g) guest here = waits_at guests g guest here
 
+-- nothing of it is paused
+idle_in : (n g : ℕ) → g < n → slice_get (replicate {A = Option Pause} n None) g ≡ Some None
+idle_in n g few =
+    let paused = replicate {A = Option Pause} n None in
+    let found = slice_get-some paused g (rw (length-replicate {A = Option Pause} n None) few) in
+    found.1 ∙ ap (λ (p : Option Pause). Some p) (sym (get_or_from_slice_get paused g found.0 None found.1) ∙ get_or-replicate n g None None few)
+
 -- so it sees what it would see alone
 pub made_alone : {A : Type 0} (g : ℕ) (guests : List GuestSpec) (guest : GuestSpec) (image : List ℕ) (budget budget' : Budget) (deeds more : List (Deed A)) (new last : SessionState) → slice_get guests g ≡ Some guest →
-    IsCourse (new_session guests image budget) deeds new → IsCourse (new_session_alone guest image budget') more last → own_calls 0 more ≡ own_calls g deeds → SeeAlike g deeds new 0 more last
-made_alone g guests guest image budget budget' deeds more new last here x y calls =
+    IsCourse (new_session guests image budget) deeds new → IsCourse (new_session_alone guest image budget') more last → NeverPauses g deeds → NeverPauses 0 more → own_askings 0 more ≡ own_askings g deeds → SeeAlike g deeds new 0 more last
+made_alone g guests guest image budget budget' deeds more new last here x y never never' askings =
     let waits = waits_at guests g guest here in
-    see_alike g 0 (new_session guests image budget) new (new_session_alone guest image budget') last deeds more (state_of image (opened guest.slot)) x y
+    see_alike g 0 (new_session guests image budget) new (new_session_alone guest image budget') last deeds more (state_of image (opened guest.slot)) x y never never'
+    (idle_in (length guests) g (slice_get_within guests g guest here)) (idle_in 1 0 (omega arith))
     (there_in guests g guest image budget here) (ap (λ (s : SlotState). Some s) (same_state guest image))
     (sym (ap (λ (o : Option Waiting). (unwrap_or o (none_waiting 0)).bytes) waits))
-    (sym (ap (λ (o : Option Waiting). (unwrap_or o (none_waiting 0)).limit) waits)) calls
+    (sym (ap (λ (o : Option Waiting). (unwrap_or o (none_waiting 0)).limit) waits)) askings
+
+-- and without a budget none of its services pauses
+pub made_alone_unlimited : {A : Type 0} (g : ℕ) (guests : List GuestSpec) (guest : GuestSpec) (image : List ℕ) (budget budget' : Budget) (deeds more : List (Deed A)) (new last : SessionState) → slice_get guests g ≡ Some guest →
+    IsCourse (new_session guests image budget) deeds new → IsCourse (new_session_alone guest image budget') more last → (HasLimit budget → ⊥) → (HasLimit budget' → ⊥) → own_askings 0 more ≡ own_askings g deeds → SeeAlike g deeds new 0 more last
+made_alone_unlimited g guests guest image budget budget' deeds more new last here x y unlimited unlimited' askings =
+    made_alone g guests guest image budget budget' deeds more new last here x y
+    (never_pauses g (new_session guests image budget) new deeds x unlimited (idle_in (length guests) g (slice_get_within guests g guest here)))
+    (never_pauses 0 (new_session_alone guest image budget') last more y unlimited' (idle_in 1 0 (omega arith))) askings
 
 -- ---- and there is such a session
 

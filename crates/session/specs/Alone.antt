@@ -4,35 +4,43 @@ use Rattle.std.specs.List.{slice_get}
 use Rattle.chain.specs.declared.budget.Budget.{Budget}
 use Rattle.sector_cache.specs.Sector.{extent_of}
 use Rattle.board.specs.declared.event.EventKind.{EventKind}
-use Rattle.board.specs.declared.reply.Reply.{Reply}
 use Rattle.board.specs.Slot.{SlotState}
 use Rattle.board.specs.Within.{Seat, IsNextWithin}
 use Rattle.session.specs.declared.guest.GuestSpec.{GuestSpec}
-use Rattle.session.specs.Course.{Deed, Answered, Took}
+use Rattle.session.specs.declared.response.Response.{Response}
+use Rattle.session.specs.declared.response.Response.TheVariants.{Answered, Idle}
+use Rattle.session.specs.Course.{Deed, Called, Took}
+use Rattle.session.specs.Pacing.{Call, Handle, GoOn, slot_in}
 use Rattle.session.specs.Session.{SessionState, limit_of, new_session, output_of, world_of}
 
--- What is asked for one guest: an event, or the bytes that its console put out, as many as find so much room.
-pub data Call (A : Type 0) : Type 0 where
-  Does : EventKind A → Call A
-  Takes : ℕ → Call A
+-- What is asked for one guest: an event, that its paused service goes on, or the bytes that its console put out, as many as
+-- find so much room.
+pub data Asking (A : Type 0) : Type 0 where
+  Does : EventKind A → Asking A
+  Goes : Asking A
+  Takes : ℕ → Asking A
 
 -- and what is answered
 pub data Answer (A : Type 0) : Type 0 where
-  Replied : Reply A → Answer A
+  Told : Response A → Answer A
   Gave : List ℕ → Answer A
 
+abbrev pub asking_of : {A : Type 0} → Call A → Asking A
+asking_of (Handle event) = Does event.what
+asking_of (GoOn slot) = Goes
+
 -- what was asked for guest g, in order, and what was answered
-abbrev pub own_calls : {A : Type 0} → ℕ → List (Deed A) → List (Call A)
-own_calls g [] = []
-own_calls g (Answered event reply after ∷ deeds) =
-    if event.slot == g then Does event.what ∷ own_calls g deeds else own_calls g deeds
-own_calls g (Took slot room bytes after ∷ deeds) =
-    if slot == g then Takes room ∷ own_calls g deeds else own_calls g deeds
+abbrev pub own_askings : {A : Type 0} → ℕ → List (Deed A) → List (Asking A)
+own_askings g [] = []
+own_askings g (Called call response after ∷ deeds) =
+    if slot_in call == g then asking_of call ∷ own_askings g deeds else own_askings g deeds
+own_askings g (Took slot room bytes after ∷ deeds) =
+    if slot == g then Takes room ∷ own_askings g deeds else own_askings g deeds
 
 abbrev pub own_answers : {A : Type 0} → ℕ → List (Deed A) → List (Answer A)
 own_answers g [] = []
-own_answers g (Answered event reply after ∷ deeds) =
-    if event.slot == g then Replied reply ∷ own_answers g deeds else own_answers g deeds
+own_answers g (Called call response after ∷ deeds) =
+    if slot_in call == g then Told response ∷ own_answers g deeds else own_answers g deeds
 own_answers g (Took slot room bytes after ∷ deeds) =
     if slot == g then Gave bytes ∷ own_answers g deeds else own_answers g deeds
 
@@ -42,26 +50,27 @@ own_answers g (Took slot room bytes after ∷ deeds) =
 abbrev pub seat_of : ℕ → SlotState → SessionState → Seat
 seat_of g state session = record { state = state; waiting = output_of g session }
 
--- one call of a guest that is alone with an outlet of this limit
-abbrev pub IsNextCall : {A : Type 0} → ℕ → Seat → Call A → Answer A → Seat → Type 0
-IsNextCall limit old (Does what) (Replied reply) new = IsNextWithin limit old what reply new
-IsNextCall limit old (Takes room) (Gave bytes) new =
+-- What comes of what is asked for a guest that is alone with an outlet of this limit, and never paused.
+abbrev pub IsNextAsked : {A : Type 0} → ℕ → Seat → Asking A → Answer A → Seat → Type 0
+IsNextAsked limit old (Does what) (Told (Answered reply)) new = IsNextWithin limit old what reply new
+IsNextAsked limit old Goes (Told response) new = (response ≡ Idle) × (new ≡ old)
+IsNextAsked limit old (Takes room) (Gave bytes) new =
     (bytes ≡ take room old.waiting) × (new ≡ record old { waiting = drop room old.waiting })
-IsNextCall limit old call answer new = ⊥
+IsNextAsked limit old asking answer new = ⊥
 
--- one call after another
-abbrev pub IsSeatCourse : {A : Type 0} → ℕ → Seat → List (Call A) → List (Answer A) → Seat → Type 0
+-- one after another
+abbrev pub IsSeatCourse : {A : Type 0} → ℕ → Seat → List (Asking A) → List (Answer A) → Seat → Type 0
 IsSeatCourse limit old [] [] last = last ≡ old
-IsSeatCourse limit old (call ∷ calls) (answer ∷ answers) last =
-    (next : Seat) × IsNextCall limit old call answer next × IsSeatCourse limit next calls answers last
-IsSeatCourse limit old calls answers last = ⊥
+IsSeatCourse limit old (asking ∷ askings) (answer ∷ answers) last =
+    (next : Seat) × IsNextAsked limit old asking answer next × IsSeatCourse limit next askings answers last
+IsSeatCourse limit old askings answers last = ⊥
 
 -- Guest g, which was in this state, is answered, gives out its output and is left as it would alone.
 pub record IsSeatedAlone {A : Type 0} (g : ℕ) (state : SlotState) (old : SessionState) (deeds : List (Deed A))
     (new : SessionState) : Type 0 where
   pub last : SlotState
   pub own :
-      IsSeatCourse (limit_of g old) (seat_of g state old) (own_calls g deeds) (own_answers g deeds)
+      IsSeatCourse (limit_of g old) (seat_of g state old) (own_askings g deeds) (own_answers g deeds)
       (seat_of g last new)
   pub state_after : slice_get (world_of new).slots g ≡ Some last
 

@@ -4,7 +4,6 @@ pub mod Restoring
 pub mod Line
 pub mod Session
 pub mod Pausing
-pub mod PacedCourse
 pub mod Answering
 pub mod Refusing
 pub mod Course

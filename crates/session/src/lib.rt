@@ -25,7 +25,8 @@ mod typed;
 pub use block_device::{Operation, OperationKind, Verdict};
 pub use board::{
     Board, BoardFault, Budget, CacheFault, DeviceKind, Event, EventKind, Extent, GuestMemory,
-    MemoryFault, Outlet, Pause, Reply, RestoreFault, RestoreRefusal, SaveRefusal, Service, SlotSpec,
+    MemoryFault, Outlet, Pause, Reply, RestoreFault, RestoreRefusal, SaveRefusal, Service,
+    SlotSpec,
 };
 pub use chain::{Progress, Segment};
 pub use fault::SessionFault;
@@ -35,8 +36,8 @@ pub use hosted::{
     a_hosted_write_in_place_is_an_event, each_hosted_guest_is_alone, what_waits_changes_nothing,
 };
 pub use laws::{
-    a_guest_with_room_runs_alone, a_guest_with_room_runs_alone_where_services_pause,
-    a_write_in_place_is_an_event, each_guest_is_alone, the_outlet_decides,
+    a_guest_with_room_runs_alone, a_write_in_place_is_an_event, each_guest_is_alone,
+    the_outlet_decides,
 };
 pub use paced::{Paced, PacedFault, each_paced_guest_is_alone, refusals_are_noted};
 pub use refusal::Refusal;
