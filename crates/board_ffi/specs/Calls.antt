@@ -9,8 +9,8 @@ use Rattle.board.specs.declared.reply.Reply.{Reply}
 use Rattle.board.specs.declared.reply.Reply.TheVariants as reply
 use Rattle.board.specs.HostedLine.{words_of}
 use Rattle.board.specs.Slot.{interrupt_words}
-use Rattle.embed.specs.Hosted.{HostedSessionState}
-use Rattle.embed.specs.Session.{SessionState, output_of, waiting_at}
+use Rattle.session.specs.Hosted.{HostedSessionState}
+use Rattle.session.specs.Session.{SessionState, output_of, waiting_at}
 use Rattle.board_ffi.specs.declared.any_session.AnySession.{AnySession}
 use Rattle.board_ffi.specs.declared.any_session.AnySession.TheVariants.{Hosted, OfImage}
 use Rattle.board_ffi.specs.declared.operation.Operation.{Operation}

@@ -8,8 +8,8 @@ use Rattle.sector_cache.specs.declared.fault.CacheFault.TheVariants.{BadCapacity
 use Rattle.sector_cache.specs.declared.fault.CacheFault.TheVariants as cache
 use Rattle.board.specs.declared.reply.Reply.{Reply}
 use Rattle.board.specs.declared.reply.Reply.TheVariants as reply
-use Rattle.paced.specs.declared.response.Response.{Response}
-use Rattle.paced.specs.declared.response.Response.TheVariants as response
+use Rattle.session.specs.declared.response.Response.{Response}
+use Rattle.session.specs.declared.response.Response.TheVariants as response
 use Rattle.board.specs.declared.fault.BoardFault.{BoardFault}
 use Rattle.board.specs.declared.fault.BoardFault.TheVariants as board
 use Rattle.board.specs.declared.saved.RestoreFault.{RestoreFault}
@@ -18,12 +18,12 @@ use Rattle.board.specs.declared.saved.RestoreRefusal.{RestoreRefusal}
 use Rattle.board.specs.declared.saved.RestoreRefusal.TheVariants as restore
 use Rattle.board.specs.declared.saved.SaveRefusal.{SaveRefusal}
 use Rattle.board.specs.declared.saved.SaveRefusal.TheVariants as save
-use Rattle.embed.specs.declared.refusal.Refusal.{Refusal}
-use Rattle.embed.specs.declared.refusal.Refusal.TheVariants.{BadSlot, BadRange, NoRoom, Busy, Idle}
-use Rattle.embed.specs.declared.hosted.progress.HostedProgress.{HostedProgress}
-use Rattle.embed.specs.declared.hosted.progress.HostedProgress.TheVariants as now
-use Rattle.embed.specs.declared.fault.SessionFault.{SessionFault}
-use Rattle.embed.specs.declared.fault.SessionFault.TheVariants as session
+use Rattle.session.specs.declared.refusal.Refusal.{Refusal}
+use Rattle.session.specs.declared.refusal.Refusal.TheVariants.{BadSlot, BadRange, NoRoom, Busy, Idle}
+use Rattle.session.specs.declared.hosted.progress.HostedProgress.{HostedProgress}
+use Rattle.session.specs.declared.hosted.progress.HostedProgress.TheVariants as now
+use Rattle.session.specs.declared.fault.SessionFault.{SessionFault}
+use Rattle.session.specs.declared.fault.SessionFault.TheVariants as session
 
 -- a call that was refused
 abbrev pub refusal_code : Refusal → ℕ

@@ -2,11 +2,11 @@
 use Rattle.std.specs.Prelude.{◌≡◌, ℕ, ◌/◌, ◌==◌, if◌then◌else◌, List, Option, Some, None, length, All}
 use Rattle.chain.specs.declared.budget.Budget.{Budget}
 use Rattle.board.specs.Fault.{AreGoodHosted, IsAccepted}
-use Rattle.embed.specs.declared.fault.SessionFault.{SessionFault}
-use Rattle.embed.specs.declared.guest.GuestSpec.{GuestSpec}
-use Rattle.embed.specs.Hosted.{IsHostedRefusedFor, new_hosted_session}
-use Rattle.embed.specs.Session.{new_session, slots_of}
-use Rattle.embed.specs.Refusing.{AreOutlets, IsRefusedFor}
+use Rattle.session.specs.declared.fault.SessionFault.{SessionFault}
+use Rattle.session.specs.declared.guest.GuestSpec.{GuestSpec}
+use Rattle.session.specs.Hosted.{IsHostedRefusedFor, new_hosted_session}
+use Rattle.session.specs.Session.{new_session, slots_of}
+use Rattle.session.specs.Refusing.{AreOutlets, IsRefusedFor}
 use Rattle.board_ffi.specs.declared.any_session.AnySession.TheVariants.{Hosted, OfImage}
 use Rattle.board_ffi.specs.declared.create.Slot.{Slot}
 use Rattle.board_ffi.specs.Codes.{fault_code}

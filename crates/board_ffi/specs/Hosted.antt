@@ -22,9 +22,9 @@ use Rattle.board.specs.Image.{sectors_of}
 use Rattle.board.specs.Restoring.{hosted_restore_reply, slot_in}
 use Rattle.board.specs.Saved.{IsAs, IsCauseOf, IsLike, IsSavedTo, IsSnapshotOf, snapshot_of}
 use Rattle.board.specs.Slot.{BoardSlot}
-use Rattle.embed.specs.Hosted.{HostedSessionState, IsHostedCall, operation_at, progress_by}
-use Rattle.embed.specs.HostedCourse.{IsHostedTaken}
-use Rattle.embed.specs.Session.{waiting_at}
+use Rattle.session.specs.Hosted.{HostedSessionState, IsHostedCall, operation_at, progress_by}
+use Rattle.session.specs.HostedCourse.{IsHostedTaken}
+use Rattle.session.specs.Session.{waiting_at}
 use Rattle.board_ffi.specs.declared.operation.Operation.{Operation}
 use Rattle.board_ffi.specs.declared.operation.Run.{Run}
 use Rattle.board_ffi.specs.Codes.{asking_code, code_at, hosted_reply_of, is_hosted, is_saving, restore_code}

@@ -11,12 +11,12 @@ use Rattle.board.specs.declared.saved.RestoreRefusal.{RestoreRefusal}
 use Rattle.board.specs.declared.saved.RestoreRefusal.TheVariants.{Fault}
 use Rattle.board.specs.Saved.{IsAs, IsCauseOf, IsLike, IsSavedTo, IsSnapshotOf, snapshot_of}
 use Rattle.board.specs.Slot.{BoardSlot, interrupt_words}
-use Rattle.embed.specs.Course.{IsTaken}
-use Rattle.embed.specs.declared.refusal.Refusal.{Refusal}
-use Rattle.embed.specs.Pausing.{IsCall, IsWhole, WentOn, taken_at}
-use Rattle.embed.specs.Session.{IsIdle, SessionState, output_of}
-use Rattle.paced.specs.Pacing.{Handle}
-use Rattle.paced.specs.Restoring.{restore_response}
+use Rattle.session.specs.Course.{IsTaken}
+use Rattle.session.specs.declared.refusal.Refusal.{Refusal}
+use Rattle.session.specs.Pausing.{IsCall, IsWhole, WentOn, taken_at}
+use Rattle.session.specs.Session.{IsIdle, SessionState, output_of}
+use Rattle.session.specs.Pacing.{Handle}
+use Rattle.session.specs.Restoring.{restore_response}
 use Rattle.board_ffi.specs.Codes.{code_at, is_response, is_saving, response_of, restore_code, went_on_code}
 
 -- The board takes a call for this event of a slot, and its response is the one that the number stands for: where the

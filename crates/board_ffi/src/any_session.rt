@@ -13,7 +13,7 @@ mod registers;
 mod saved;
 
 use crate::codes::BAD_SLOT;
-use embed::{HostedSession, Session};
+use session::{HostedSession, Session};
 
 /// A board of either kind.
 #[derive(Drop)]

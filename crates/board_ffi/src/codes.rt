@@ -5,7 +5,7 @@ ghost use Rattle.board.specs.declared.saved.RestoreRefusal.{RestoreRefusal};
 ghost use Rattle.board.specs.declared.saved.SaveRefusal.{SaveRefusal};
 ghost use Rattle.board_ffi.specs.Codes.{asking_code, board_code, code_by, fault_code, hosted_code, is_saving, progress_code, refusal_code, restore_code, restore_fault_code, save_code, went_on_code};
 
-use embed::{
+use session::{
     BoardFault, CacheFault, HostedProgress, MemoryFault, Progress, Refusal, RestoreFault,
     RestoreRefusal, SaveRefusal, SessionFault,
 };

@@ -4,9 +4,9 @@ ghost use Rattle.std.specs.Prelude.{◌≡◌, ◌≢◌, ◌⊎◌, ◌↔◌, 
 ghost use Rattle.chain.specs.Budget.{IsSpent};
 ghost use Rattle.board.specs.declared.fault.BoardFault.{BoardFault};
 ghost use Rattle.board.specs.Fault.{IsAccepted};
-ghost use Rattle.embed.specs.declared.fault.SessionFault.{SessionFault};
-ghost use Rattle.embed.specs.Refusing.{AreOutlets, IsBoardFault, IsRefusedFor};
-ghost use Rattle.embed.specs.Session.{new_session, slots_of};
+ghost use Rattle.session.specs.declared.fault.SessionFault.{SessionFault};
+ghost use Rattle.session.specs.Refusing.{AreOutlets, IsBoardFault, IsRefusedFor};
+ghost use Rattle.session.specs.Session.{new_session, slots_of};
 ghost use Rattle.board_ffi.specs.declared.any_session.AnySession.{AnySession};
 ghost use Rattle.board_ffi.specs.Codes.{board_code};
 ghost use Rattle.board_ffi.specs.Create.{AreSized, IsMade, IsNotMade, budget_of, guest_of};
@@ -14,7 +14,7 @@ ghost use Rattle.board_ffi.specs.Create.{AreSized, IsMade, IsNotMade, budget_of,
 use crate::any_session::AnySession;
 use crate::codes::{BAD_SIZE, DONE, HAS_BOARD, NO_BOARD, NO_MEMORY, of_fault};
 use crate::handle::Handle;
-use embed::{Budget, Extent, GuestSpec, Session, SessionFault, SlotSpec};
+use session::{Budget, Extent, GuestSpec, Session, SessionFault, SlotSpec};
 use sector_cache::are_whole_sectors;
 use std::alloc::{AllocError, Global};
 

@@ -3,10 +3,10 @@
 ghost use Rattle.std.specs.Prelude.{◌≡◌, ◌≢◌, ◌⊎◌, ◌↔◌, None, IfOk, IfErr, OnOk, IfSome, IsErrAnd, IsErrOf, Some, map};
 ghost use Rattle.board.specs.declared.fault.BoardFault.{BoardFault};
 ghost use Rattle.board.specs.Fault.{AreGoodHosted};
-ghost use Rattle.embed.specs.declared.fault.SessionFault.{SessionFault};
-ghost use Rattle.embed.specs.Hosted.{IsHostedBoardFault, IsHostedRefusedFor, new_hosted_session};
-ghost use Rattle.embed.specs.Refusing.{AreOutlets};
-ghost use Rattle.embed.specs.Session.{slots_of};
+ghost use Rattle.session.specs.declared.fault.SessionFault.{SessionFault};
+ghost use Rattle.session.specs.Hosted.{IsHostedBoardFault, IsHostedRefusedFor, new_hosted_session};
+ghost use Rattle.session.specs.Refusing.{AreOutlets};
+ghost use Rattle.session.specs.Session.{slots_of};
 ghost use Rattle.board_ffi.specs.declared.any_session.AnySession.{AnySession};
 ghost use Rattle.board_ffi.specs.Codes.{board_code};
 ghost use Rattle.board_ffi.specs.Create.{AreSized, IsHostedMade, IsHostedNotMade, guest_of};
@@ -15,7 +15,7 @@ use crate::any_session::AnySession;
 use crate::codes::{BAD_SIZE, DONE, HAS_BOARD, of_fault};
 use crate::create::{Slot, are_outlets, are_sized, guests};
 use crate::handle::Handle;
-use embed::{HostedSession, SessionFault};
+use session::{HostedSession, SessionFault};
 use std::alloc::Global;
 
 /// Makes a board of these slots whose disks the host serves, and puts it into an empty handle. Of an extent the count

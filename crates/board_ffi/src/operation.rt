@@ -3,7 +3,7 @@
 ghost use Rattle.std.specs.Prelude.{◌≡◌, ◌≤◌, length};
 ghost use Rattle.board_ffi.specs.Hosted.{kind_code, told_operation, told_run, told_runs};
 
-use embed::{OperationKind, Segment};
+use session::{OperationKind, Segment};
 
 /// One operation on a guest's disk.
 #[derive(Clone, Copy, Debug, PartialEq, Eq)]
@@ -31,7 +31,7 @@ pub struct Run {
 
 impl Operation {
     /// An operation with its runs, of which there are 256 at most.
-    pub(crate) fn of(operation: embed::Operation, runs: &[Segment]) -> Operation
+    pub(crate) fn of(operation: session::Operation, runs: &[Segment]) -> Operation
         requires { length runs.now ≤ 256 }
         ensures { result ≡ told_operation operation runs.now }
     {

@@ -8,7 +8,7 @@ ghost use Rattle.board_ffi.specs.Calls.{Calls, GoesOn, HasWords, IsMissing, IsUn
 use crate::codes::{BAD_WINDOW, NO_BOARD};
 use crate::handle::Handle;
 use crate::pending::Pending;
-use embed::DeviceKind;
+use session::DeviceKind;
 use std::alloc::Global;
 
 /// A guest's read of a register: what it gets.

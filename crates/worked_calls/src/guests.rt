@@ -9,7 +9,7 @@ use crate::answer::{put_number, put_word};
 use crate::subject::{Stuck, Subject};
 use crate::words::Words;
 use board::{Board, Event, Extent, SlotSpec};
-use embed::{Budget, GuestSpec, Session};
+use session::{Budget, GuestSpec, Session};
 use linked_list_allocator::LocalHeap;
 use refusing::RefusingHeap;
 use sector_cache::ScriptedImage;

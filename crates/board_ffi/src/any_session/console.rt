@@ -7,7 +7,7 @@ ghost use Rattle.board_ffi.specs.Calls.{IsMissing, MovesOutput, PausesBehind, Ta
 
 use crate::any_session::AnySession;
 use crate::codes::{BAD_SLOT, DONE, of_done, of_progress, of_refusal};
-use embed::Typed;
+use session::Typed;
 
 impl AnySession {
     /// Types bytes to a guest's console, and tells how many were taken, the first ones.

@@ -7,7 +7,7 @@ ghost use Rattle.board_ffi.specs.Hosted.{verdict_of};
 use crate::any_session::{AnySession, answer_at};
 use crate::codes::{DONE, IDLE, of_hosted_progress};
 use crate::operation::{Operation, Run, tell_runs};
-use embed::Verdict;
+use session::Verdict;
 
 impl AnySession {
     /// Tells what is in flight of a slot: the operation, and the first of its runs, as many as find room.

@@ -7,7 +7,7 @@ ghost use Rattle.board_ffi.specs.Calls.{HasMemory, IsBusy, IsMissing, Takes};
 
 use crate::any_session::AnySession;
 use crate::codes::{DONE, of_done, of_refusal};
-use embed::GuestMemory;
+use session::GuestMemory;
 use std::ptr::NonNull;
 
 impl AnySession {

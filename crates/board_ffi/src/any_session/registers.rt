@@ -7,7 +7,7 @@ ghost use Rattle.board_ffi.specs.Calls.{GoesOn, HasWords, IsMissing, IsUndisturb
 
 use crate::any_session::{AnySession, answer_at};
 use crate::codes::{BAD_SLOT, DONE, of_hosted_progress, of_served, told};
-use embed::DeviceKind;
+use session::DeviceKind;
 
 impl AnySession {
     /// A guest's read of a register: what it gets.

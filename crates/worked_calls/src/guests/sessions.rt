@@ -5,7 +5,7 @@ use crate::answer::{put_bytes, put_number, put_result, put_word, written};
 use crate::subject::Stuck;
 use crate::words::Words;
 use board::{Event, EventKind};
-use embed::{Budget, GuestSpec, Progress, Refusal, Session, SessionFault, Typed};
+use session::{Budget, GuestSpec, Progress, Refusal, Session, SessionFault, Typed};
 use refusing::RefusingHeap;
 use std::alloc::{Allocator, Global};
 

@@ -1,8 +1,0 @@
-use Rattle.embed.proofs.Alone.{seated_alone, seat_course_once}
-use Rattle.embed.proofs.laws.the_outlet_decides.Goals as goal
-
-pub returns-clause-runs : goal.returns-clause-runs
-returns-clause-runs g c = λ guest old new deeds state course here. seated_alone guest old deeds new state course here
-
-pub returns-clause-once : goal.returns-clause-once
-returns-clause-once g c = λ limit old one other calls answers answers2 x y. seat_course_once limit old calls answers answers2 one other x y

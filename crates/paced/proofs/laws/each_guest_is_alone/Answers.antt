@@ -1,5 +1,0 @@
-use Rattle.paced.proofs.Alone.{alone}
-use Rattle.paced.proofs.laws.each_guest_is_alone.Goals as goal
-
-pub returns : goal.returns
-returns g c = alone

@@ -1,0 +1,17 @@
+pub mod Midway
+pub mod PacedAlone
+pub mod Turns
+pub mod Access
+pub mod Noted
+pub mod Steps
+pub mod Restoring
+pub mod Courses
+pub mod PacedCourses
+pub mod Alone
+pub mod Made
+pub mod InPlace
+pub mod Outputs
+pub mod HostedSteps
+pub mod HostedAlone
+pub mod HostedLaws
+pub mod HostedExact

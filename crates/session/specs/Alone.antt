@@ -1,0 +1,99 @@
+-- Each guest of a session, as its own calls decide it and nothing else does.
+use Rattle.std.specs.Prelude.{◌≡◌, ℕ, ◌==◌, if◌then◌else◌, List, [], ◌∷◌, take, drop, Some}
+use Rattle.std.specs.List.{slice_get}
+use Rattle.chain.specs.declared.budget.Budget.{Budget}
+use Rattle.sector_cache.specs.Sector.{extent_of}
+use Rattle.board.specs.declared.event.EventKind.{EventKind}
+use Rattle.board.specs.Slot.{SlotState}
+use Rattle.board.specs.Within.{Seat, IsNextWithin}
+use Rattle.session.specs.declared.guest.GuestSpec.{GuestSpec}
+use Rattle.session.specs.declared.response.Response.{Response}
+use Rattle.session.specs.declared.response.Response.TheVariants.{Answered, Idle}
+use Rattle.session.specs.Course.{Deed, Called, Took}
+use Rattle.session.specs.Pacing.{Call, Handle, GoOn, slot_in}
+use Rattle.session.specs.Session.{SessionState, limit_of, new_session, output_of, world_of}
+
+-- What is asked for one guest: an event, that its paused service goes on, or the bytes that its console put out, as many as
+-- find so much room.
+pub data Asking (A : Type 0) : Type 0 where
+  Does : EventKind A → Asking A
+  Goes : Asking A
+  Takes : ℕ → Asking A
+
+-- and what is answered
+pub data Answer (A : Type 0) : Type 0 where
+  Told : Response A → Answer A
+  Gave : List ℕ → Answer A
+
+abbrev pub asking_of : {A : Type 0} → Call A → Asking A
+asking_of (Handle event) = Does event.what
+asking_of (GoOn slot) = Goes
+
+-- what was asked for guest g, in order, and what was answered
+abbrev pub own_askings : {A : Type 0} → ℕ → List (Deed A) → List (Asking A)
+own_askings g [] = []
+own_askings g (Called call response after ∷ deeds) =
+    if slot_in call == g then asking_of call ∷ own_askings g deeds else own_askings g deeds
+own_askings g (Took slot room bytes after ∷ deeds) =
+    if slot == g then Takes room ∷ own_askings g deeds else own_askings g deeds
+
+abbrev pub own_answers : {A : Type 0} → ℕ → List (Deed A) → List (Answer A)
+own_answers g [] = []
+own_answers g (Called call response after ∷ deeds) =
+    if slot_in call == g then Told response ∷ own_answers g deeds else own_answers g deeds
+own_answers g (Took slot room bytes after ∷ deeds) =
+    if slot == g then Gave bytes ∷ own_answers g deeds else own_answers g deeds
+
+-- ---- the one-slot machine with its outlet
+
+-- guest g in a session: what it sees, and what waits of its output
+abbrev pub seat_of : ℕ → SlotState → SessionState → Seat
+seat_of g state session = record { state = state; waiting = output_of g session }
+
+-- What comes of what is asked for a guest that is alone with an outlet of this limit, and never paused.
+abbrev pub IsNextAsked : {A : Type 0} → ℕ → Seat → Asking A → Answer A → Seat → Type 0
+IsNextAsked limit old (Does what) (Told (Answered reply)) new = IsNextWithin limit old what reply new
+IsNextAsked limit old Goes (Told response) new = (response ≡ Idle) × (new ≡ old)
+IsNextAsked limit old (Takes room) (Gave bytes) new =
+    (bytes ≡ take room old.waiting) × (new ≡ record old { waiting = drop room old.waiting })
+IsNextAsked limit old asking answer new = ⊥
+
+-- one after another
+abbrev pub IsSeatCourse : {A : Type 0} → ℕ → Seat → List (Asking A) → List (Answer A) → Seat → Type 0
+IsSeatCourse limit old [] [] last = last ≡ old
+IsSeatCourse limit old (asking ∷ askings) (answer ∷ answers) last =
+    (next : Seat) × IsNextAsked limit old asking answer next × IsSeatCourse limit next askings answers last
+IsSeatCourse limit old askings answers last = ⊥
+
+-- Guest g, which was in this state, is answered, gives out its output and is left as it would alone.
+pub record IsSeatedAlone {A : Type 0} (g : ℕ) (state : SlotState) (old : SessionState) (deeds : List (Deed A))
+    (new : SessionState) : Type 0 where
+  pub last : SlotState
+  pub own :
+      IsSeatCourse (limit_of g old) (seat_of g state old) (own_askings g deeds) (own_answers g deeds)
+      (seat_of g last new)
+  pub state_after : slice_get (world_of new).slots g ≡ Some last
+
+-- ---- two sessions
+
+-- Guest g of one session and guest h of another have seen the same: they were answered the same, the same bytes of
+-- their output were taken, the same wait, and both are in the same state.
+pub record SeeAlike {A : Type 0} (g : ℕ) (deeds : List (Deed A)) (new : SessionState) (h : ℕ) (more : List (Deed A))
+    (last : SessionState) : Type 0 where
+  pub answers : own_answers g deeds ≡ own_answers h more
+  pub waiting : output_of g new ≡ output_of h last
+  pub state : slice_get (world_of new).slots g ≡ slice_get (world_of last).slots h
+
+-- the guest's part of an image: the bytes of its extent
+abbrev pub part_of_image : GuestSpec → List ℕ → List ℕ
+part_of_image guest image = extent_of image guest.slot.extent.start guest.slot.extent.count
+
+-- the guest with its disk at the image's front
+abbrev pub at_front : GuestSpec → GuestSpec
+at_front guest = record guest {
+  slot = record guest.slot { extent = record guest.slot.extent { start = 0 } };
+}
+
+-- a new session with that guest alone, over its part of the image
+abbrev pub new_session_alone : GuestSpec → List ℕ → Budget → SessionState
+new_session_alone guest image budget = new_session (at_front guest ∷ []) (part_of_image guest image) budget

@@ -1,0 +1,104 @@
+-- What happens to a session, one thing after another, and what one guest has of it: its own events, as if it were alone and
+-- none paused.
+use Rattle.std.specs.Prelude.{◌≡◌, ◌≢◌, ℕ, ◌==◌, ⊤, if◌then◌else◌, List, [], ◌∷◌, ◌++◌, map, take, drop, Some}
+use Rattle.std.specs.List.{slice_get}
+use Rattle.board.specs.declared.event.EventKind.{EventKind}
+use Rattle.board.specs.declared.reply.Reply.{Reply}
+use Rattle.board.specs.declared.reply.Reply.TheVariants.{NoMemory}
+use Rattle.board.specs.declared.reply.Record.{Record}
+use Rattle.board.specs.Machine.{RunsOnItsOwn}
+use Rattle.board.specs.Slot.{SlotState}
+use Rattle.session.specs.declared.response.Response.{Response}
+use Rattle.session.specs.declared.response.Response.TheVariants.{Answered, More, Busy, Idle}
+use Rattle.session.specs.Line.{begun_by}
+use Rattle.session.specs.Pacing.{Call, Handle, GoOn, PacedWorld, slot_in}
+use Rattle.session.specs.Pausing.{IsCall, IsWhole}
+use Rattle.session.specs.Session.{KeepsOtherOutputs, SessionState, limit_of, output_of, world_of}
+
+-- A call is answered so: by what is paused of its slot, and an event that is answered at once as a whole one.
+abbrev pub IsCalled : {A : Type 0} → SessionState → Call A → Response A → SessionState → Type 0
+IsCalled old (Handle event) response new = IsCall old (Handle event) response new × IsWhole old event response new
+IsCalled old (GoOn slot) response new = IsCall old (GoOn slot) response new
+
+-- Something that happened, and the session after it: a call was answered so, or these bytes of what a slot's console put
+-- out were taken, where there was room for so many.
+pub data Deed (A : Type 0) : Type 0 where
+  Called : Call A → Response A → SessionState → Deed A
+  Took : ℕ → ℕ → List ℕ → SessionState → Deed A
+
+-- The first bytes of what a slot's console put out were taken, as many as found room, and nothing else changed.
+pub record IsTaken (old : SessionState) (slot room : ℕ) (bytes : List ℕ) (new : SessionState) : Type 0 where
+  pub first : bytes ≡ take room (output_of slot old)
+  pub left : output_of slot new ≡ drop room (output_of slot old)
+  pub others : KeepsOtherOutputs slot old.outputs new.outputs
+  pub limits : (slot : ℕ) → limit_of slot new ≡ limit_of slot old
+  pub world : world_of new ≡ world_of old
+  pub paused : new.paused ≡ old.paused
+  pub budget : new.budget ≡ old.budget
+
+-- these things lead from one session to another
+abbrev pub IsCourse : {A : Type 0} → SessionState → List (Deed A) → SessionState → Type 0
+IsCourse old [] new = new ≡ old
+IsCourse old (Called call response after ∷ deeds) new = IsCalled old call response after × IsCourse after deeds new
+IsCourse old (Took slot room bytes after ∷ deeds) new = IsTaken old slot room bytes after × IsCourse after deeds new
+
+-- what can be seen of the board and its pauses
+abbrev pub paced_world_of : SessionState → PacedWorld
+paced_world_of session = record { world = world_of session; paused = session.paused }
+
+-- ---- what one guest has of a course
+
+-- What guest g does, in order: an event counts where it begins.
+abbrev pub events_begun : {A : Type 0} → ℕ → List (Deed A) → List (EventKind A)
+events_begun g [] = []
+events_begun g (Called call response after ∷ deeds) = begun_by g call response (events_begun g deeds)
+events_begun g (Took slot room bytes after ∷ deeds) = events_begun g deeds
+
+-- What guest g is answered, in order: a reply stands where its event ends.
+abbrev pub ended_by : {A : Type 0} → Response A → List (Reply A) → List (Reply A)
+ended_by (Answered reply) rest = reply ∷ rest
+ended_by More rest = rest
+ended_by Busy rest = rest
+ended_by Idle rest = rest
+
+abbrev pub replies_ended : {A : Type 0} → ℕ → List (Deed A) → List (Reply A)
+replies_ended g [] = []
+replies_ended g (Called call response after ∷ deeds) =
+    if slot_in call == g then ended_by response (replies_ended g deeds) else replies_ended g deeds
+replies_ended g (Took slot room bytes after ∷ deeds) = replies_ended g deeds
+
+-- what was taken of guest g's output, one piece behind the other
+abbrev pub output_taken : {A : Type 0} → ℕ → List (Deed A) → List ℕ
+output_taken g [] = []
+output_taken g (Called call response after ∷ deeds) = output_taken g deeds
+output_taken g (Took slot room bytes after ∷ deeds) =
+    if slot == g then bytes ++ output_taken g deeds else output_taken g deeds
+
+-- what these records put out, one behind the other
+abbrev pub put_out : {A : Type 0} → List (Record A) → List ℕ
+put_out [] = []
+put_out (written ∷ records) = written.output ++ put_out records
+
+-- no call for guest g was answered that room was wanting
+abbrev pub HadRoom : {A : Type 0} → ℕ → List (Deed A) → Type 0
+HadRoom g [] = ⊤
+HadRoom g (Called call response after ∷ deeds) =
+    (slot_in call ≡ g → response ≢ Answered NoMemory) × HadRoom g deeds
+HadRoom g (Took slot room bytes after ∷ deeds) = HadRoom g deeds
+
+-- no service of guest g's was paused
+abbrev pub NeverPauses : {A : Type 0} → ℕ → List (Deed A) → Type 0
+NeverPauses g [] = ⊤
+NeverPauses g (Called call response after ∷ deeds) = (slot_in call ≡ g → response ≢ More) × NeverPauses g deeds
+NeverPauses g (Took slot room bytes after ∷ deeds) = NeverPauses g deeds
+
+-- Guest g, which was in this state, is answered what it would be answered alone where nothing pauses, its console puts
+-- out what it would put out then, and its state afterwards is what it would be.
+pub record RunsAlone {A : Type 0} (g : ℕ) (state : SlotState) (old : SessionState) (deeds : List (Deed A))
+    (new : SessionState) : Type 0 where
+  pub records : List (Record A)
+  pub last : SlotState
+  pub own : RunsOnItsOwn g state (events_begun g deeds) records last
+  pub replies : replies_ended g deeds ≡ map (λ written. written.reply) records
+  pub output : output_of g old ++ put_out records ≡ output_taken g deeds ++ output_of g new
+  pub state_after : slice_get (world_of new).slots g ≡ Some last

@@ -1,0 +1,13 @@
+pub use Rattle.board.specs.World
+pub mod Pacing
+pub mod Restoring
+pub mod Line
+pub mod Session
+pub mod Pausing
+pub mod Answering
+pub mod Refusing
+pub mod Course
+pub mod Alone
+pub mod Hosted
+pub mod HostedAnswering
+pub mod HostedCourse

@@ -1,0 +1,37 @@
+-- Why there is no session.
+use Rattle.std.specs.Prelude.{◌≡◌, ◌≢◌, ℕ, ◌^◌, ◌≤◌, ◌/◌, ◌%◌, List, All, length}
+use Rattle.chain.specs.declared.budget.Budget.{Budget}
+use Rattle.chain.specs.Budget.{IsSpent}
+use Rattle.board.specs.declared.fault.BoardFault.{BoardFault}
+use Rattle.board.specs.Fault.{Refuses}
+use Rattle.session.specs.declared.fault.SessionFault.{SessionFault}
+use Rattle.session.specs.declared.fault.SessionFault.TheVariants.{BadImage, BadOutlet, SpentBudget, Board, NoMemory}
+use Rattle.session.specs.declared.guest.GuestSpec.{GuestSpec}
+use Rattle.session.specs.Session.{slots_of}
+
+-- no more output of a guest may wait than 2^24 bytes
+abbrev pub AreOutlets : List GuestSpec → Type 0
+AreOutlets guests = All (λ guest. guest.outlet ≤ 2 ^ 24) guests
+
+-- the board would be refused for this, over an image of whole sectors
+pub record IsBoardFault (guests : List GuestSpec) (image : List ℕ) (cache : ℕ) (budget : Budget) (fault : BoardFault)
+    : Type 0 where
+  pub whole : length image % 512 ≡ 0
+  pub outlets : AreOutlets guests
+  pub lasts : ¬ IsSpent budget
+  pub refused : Refuses (length image / 512) (slots_of guests) cache fault
+  pub other : fault ≢ BoardFault.NoMemory
+
+-- Why a session is refused: the image's size, then an outlet, then the budget, then what a board is refused for. Want
+-- of memory may come before the latter, and comes only where none of the others holds.
+abbrev pub IsRefusedFor : List GuestSpec → List ℕ → ℕ → Budget → SessionFault → Type 0
+IsRefusedFor guests image cache budget BadImage = length image % 512 ≢ 0
+IsRefusedFor guests image cache budget BadOutlet = (length image % 512 ≡ 0) × ¬ AreOutlets guests
+IsRefusedFor guests image cache budget SpentBudget = (length image % 512 ≡ 0) × AreOutlets guests × IsSpent budget
+IsRefusedFor guests image cache budget (Board fault) = IsBoardFault guests image cache budget fault
+IsRefusedFor guests image cache budget NoMemory = (length image % 512 ≡ 0) × AreOutlets guests × ¬ IsSpent budget
+
+-- why there is no session where there is no board
+abbrev pub session_fault : BoardFault → SessionFault
+session_fault BoardFault.NoMemory = NoMemory
+session_fault fault = Board fault

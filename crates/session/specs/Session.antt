@@ -1,0 +1,132 @@
+-- A session, as its embedder sees it, and what one event does to it.
+use Rattle.std.specs.Prelude.{⊤, ◌≡◌, ◌≢◌, ◌↔◌, ℕ, ◌≤◌, Bool, false, List, [], length, map, Option, Some, None, replicate, slice_set, unwrap_or, IsSomeAnd}
+use Rattle.std.specs.List.{slice_get}
+use Rattle.chain.specs.declared.budget.Budget.{Budget}
+use Rattle.guest_memory.specs.Memory.{Memory}
+use Rattle.sector_cache.specs.Disk.{Disk, new_disk}
+use Rattle.board.specs.declared.event.Event.{Event}
+use Rattle.board.specs.declared.event.EventKind.{EventKind}
+use Rattle.board.specs.declared.event.EventKind.TheVariants.{MemRead}
+use Rattle.board.specs.declared.pause.Pause.{Pause}
+use Rattle.board.specs.declared.reply.Reply.{Reply}
+use Rattle.board.specs.declared.reply.Reply.TheVariants.{BadSlot, BadRange, NoMemory}
+use Rattle.board.specs.declared.spec.SlotSpec.{SlotSpec}
+use Rattle.board.specs.Lending.{put_back}
+use Rattle.board.specs.Slot.{BoardSlot, SlotState, opened, state_of}
+use Rattle.board.specs.World.{World, Answers, KeepsOthers, MayLackMemory, extents_of, seen}
+use Rattle.board.specs.Within.{MayPutOut, TakesWithin}
+use Rattle.session.specs.Pacing.{paused_at}
+use Rattle.session.specs.declared.guest.GuestSpec.{GuestSpec}
+
+-- What a slot's console put out and nobody has taken yet, and how many bytes of it may wait.
+pub record Waiting : Type 0 where
+  pub bytes : List ℕ
+  pub limit : ℕ
+
+-- nothing waits, of so many bytes that may
+abbrev pub none_waiting : ℕ → Waiting
+none_waiting limit = record { bytes = []; limit = limit }
+
+-- A session: the slots of its board, the image's bytes and whether a write waits for a flush, for each slot what its
+-- console put out and nobody has taken yet and the service that is paused, if any, and how much one call may serve.
+pub record SessionState : Type 0 where
+  pub slots : List BoardSlot
+  pub image : List ℕ
+  pub mark : Bool
+  pub outputs : List Waiting
+  pub paused : List (Option Pause)
+  pub budget : Budget
+
+-- the image: it tells its bytes, and none of its calls fails
+abbrev pub disk_of : SessionState → Disk
+disk_of session = record (new_disk session.image) { mark = session.mark }
+
+-- what can be seen of the board
+abbrev pub world_of : SessionState → World
+world_of session = seen session.slots (disk_of session)
+
+-- what waits of a slot's output, or nothing where there is no such slot
+abbrev pub waiting_at : ℕ → List Waiting → Waiting
+waiting_at slot outputs = unwrap_or (slice_get outputs slot) (none_waiting 0)
+
+-- what the slot's console put out and nobody has taken yet
+abbrev pub output_of : ℕ → SessionState → List ℕ
+output_of slot session = (waiting_at slot session.outputs).bytes
+
+-- and how many bytes of it may wait
+abbrev pub limit_of : ℕ → SessionState → ℕ
+limit_of slot session = (waiting_at slot session.outputs).limit
+
+-- no service of the slot is paused
+abbrev pub IsIdle : ℕ → SessionState → Type 0
+IsIdle slot session = paused_at session.paused slot ≡ None
+
+-- every slot's output but that one's is kept as it was
+abbrev pub KeepsOtherOutputs : ℕ → List Waiting → List Waiting → Type 0
+KeepsOtherOutputs slot old new = (other : ℕ) → other ≢ slot → slice_get new other ≡ slice_get old other
+
+-- An event of a slot is handled, and this is the reply: a step of the board, whose output stands behind what
+-- the slot's console put out before. Nothing else of the session changes.
+pub record IsStep {A : Type 0} (old : SessionState) (event : Event A) (reply : Reply A)
+    (new : SessionState) : Type 0 where
+  pub answers :
+      Answers (world_of old) event reply (output_of event.slot old) (output_of event.slot new)
+      (world_of new)
+  -- no other slot changes, and none's output; each slot keeps its extent, and the image its size
+  pub others : KeepsOthers event.slot old.slots new.slots
+  pub outputs : KeepsOtherOutputs event.slot old.outputs new.outputs
+  pub extents : extents_of new.slots ≡ extents_of old.slots
+  pub size : length new.image ≡ length old.image
+  -- what waits of the slot's output, and how much may, decide what is put out; nothing else is refused for want
+  -- of room, and each limit stays
+  pub within :
+      (found after : SlotState) → slice_get (world_of old).slots event.slot ≡ Some found →
+      slice_get (world_of new).slots event.slot ≡ Some after →
+      TakesWithin (limit_of event.slot old) found event.what after (output_of event.slot old)
+      (output_of event.slot new) reply
+  pub refused :
+      reply ≡ NoMemory → (found : SlotState) → slice_get (world_of old).slots event.slot ≡ Some found →
+      MayPutOut found event.what
+  pub limits : (slot : ℕ) → limit_of slot new ≡ limit_of slot old
+  -- nothing is paused by it, or goes on
+  pub paused : new.paused ≡ old.paused
+  pub budget : new.budget ≡ old.budget
+  -- which events are refused, and what a refusal keeps
+  pub bad_slot : (reply ≡ BadSlot) ↔ (length old.slots ≤ event.slot)
+  pub bad_slot_keeps : reply ≡ BadSlot → new ≡ old
+  pub bad_range_keeps : reply ≡ BadRange → new ≡ old
+  pub no_memory :
+      reply ≡ NoMemory →
+      IsSomeAnd (slice_get old.slots event.slot) (λ slot. MayLackMemory (state_of old.image slot) event.what)
+
+-- the guests' slots of the board
+abbrev pub slots_of : List GuestSpec → List SlotSpec
+slots_of guests = map (λ guest. guest.slot) guests
+
+-- a new session: the slots of a new board, the image as it was handed over, nothing put out yet, and nothing paused
+abbrev pub new_session : List GuestSpec → List ℕ → Budget → SessionState
+new_session guests image budget = record {
+  slots = map opened (slots_of guests);
+  image = image;
+  mark = false;
+  outputs = map (λ guest. none_waiting guest.outlet) guests;
+  paused = replicate (length guests) None;
+  budget = budget;
+}
+
+-- a session in which a slot, which was this one, has another memory, and nothing else is other
+abbrev pub with_memory : ℕ → BoardSlot → Memory → SessionState → SessionState
+with_memory slot found memory session = record session {
+  slots = slice_set session.slots slot (record found { memory = memory });
+}
+
+-- a session with these bytes in the memory of a slot, from its first byte on
+abbrev pub with_slot_bytes : ℕ → SessionState → List ℕ → SessionState
+with_slot_bytes slot session bytes = record session {
+  slots = put_back slot (slice_get session.slots slot) bytes session.slots;
+}
+
+-- an event that is no read of memory
+abbrev pub HasNoRead : {A : Type 0} → EventKind A → Type 0
+HasNoRead (MemRead addr len) = ⊥
+HasNoRead what = ⊤

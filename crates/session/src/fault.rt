@@ -1,0 +1,37 @@
+//! Why there is no session.
+
+ghost use Rattle.std.specs.Prelude.{◌≡◌};
+ghost use Rattle.session.specs.Refusing.{session_fault};
+
+use board::BoardFault;
+use thiserror::Error;
+
+/// A session that was refused.
+#[derive(Clone, Copy, Debug, Error, PartialEq, Eq)]
+pub enum SessionFault {
+    /// The image isn't whole sectors of 512 bytes.
+    #[error("the image isn't whole sectors of 512 bytes")]
+    BadImage,
+    /// More output of a guest may wait than 2^24 bytes.
+    #[error("an outlet keeps 16777216 bytes at most")]
+    BadOutlet,
+    /// The budget has no chain or no byte, so a service that pauses would never go on.
+    #[error("a budget needs one chain and one byte at least")]
+    SpentBudget,
+    /// The board was refused, for another reason than want of memory.
+    #[error("{0}")]
+    Board(BoardFault),
+    /// There was no memory for the session.
+    #[error("no memory for the session")]
+    NoMemory,
+}
+
+/// Why there is no session where there is no board.
+pub(crate) fn why_not(why: BoardFault) -> SessionFault
+    ensures { result ≡ session_fault why }
+{
+    match why {
+        BoardFault::NoMemory => SessionFault::NoMemory,
+        _ => SessionFault::Board(why),
+    }
+}

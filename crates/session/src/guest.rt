@@ -1,0 +1,54 @@
+//! What a session is made of.
+
+ghost use Rattle.std.specs.Prelude.{◌≡◌, ◌↔◌, map, IsTrue, IfOk};
+ghost use Rattle.session.specs.Refusing.{AreOutlets};
+ghost use Rattle.session.specs.Session.{none_waiting, slots_of};
+
+use crate::output_queue::OutputQueue;
+use board::SlotSpec;
+use std::alloc::{AllocError, Allocator};
+
+/// How many bytes of one guest's output may wait at most.
+const MOST_WAITING: u32 = 0x100_0000;
+
+/// What a guest is to have.
+#[derive(Clone, Copy, Debug, PartialEq, Eq)]
+pub struct GuestSpec {
+    /// Its slot of the board.
+    pub slot: SlotSpec,
+    /// How many bytes of its console's output may wait to be taken, 2^24 at most. A longer chain is never put
+    /// out.
+    pub outlet: u32,
+}
+
+/// Whether no guest's output is to have more room than it may.
+pub(crate) fn are_outlets(guests: &[GuestSpec]) -> bool
+    ensures { IsTrue result ↔ AreOutlets guests.now }
+{
+    guests.iter().all(|guest| guest.outlet <= MOST_WAITING)
+}
+
+/// The guests' slots of the board.
+pub(crate) fn slots<A: Allocator + Copy>(
+    alloc: A,
+    guests: &[GuestSpec],
+) -> Result<Vec<SlotSpec, A>, AllocError>
+    ensures { IfOk result (λ slots. slots.items ≡ slots_of guests.now) }
+{
+    guests.iter().map(|guest| guest.slot).collect(alloc)
+}
+
+/// Room for each guest's output, in which nothing waits.
+pub(crate) fn outputs<A: Allocator + Copy>(
+    alloc: A,
+    guests: &[GuestSpec],
+) -> Result<Vec<OutputQueue<A>, A>, AllocError>
+    ensures { IfOk result (λ outputs.
+        outputs.items ≡ map (λ guest. none_waiting guest.outlet) guests.now) }
+{
+    let mut outputs = Vec::with_capacity(alloc, guests.len())?;
+    for guest in guests {
+        outputs.push(OutputQueue::new(alloc, guest.outlet)?)?;
+    }
+    Ok(outputs)
+}

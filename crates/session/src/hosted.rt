@@ -1,0 +1,123 @@
+//! A session whose guests' disks the host serves: a board of them, by calls rather than events, with what each guest's
+//! console put out until it is taken.
+//!
+//! A module for each kind of call: `registers`, `disk`, `memory`, `console` and `saved`. `progress` is what a write or a
+//! completion came to, and `laws` has what holds of all calls, whatever their order.
+
+ghost use Rattle.std.specs.Prelude.{◌≡◌, ◌⊎◌, ◌↔◌, map, IfOk, OnOk, IfErr, IsErrAnd, IsErrOf};
+ghost use Rattle.board.specs.declared.event.EventKind.{EventKind};
+ghost use Rattle.board.specs.declared.fault.BoardFault.{BoardFault};
+ghost use Rattle.board.specs.Fault.{AreGoodHosted};
+ghost use Rattle.board.specs.Hosting.{IsOwn, hosted_opened};
+ghost use Rattle.session.specs.declared.fault.SessionFault.{SessionFault};
+ghost use Rattle.session.specs.Hosted.{IsHostedBoardFault, IsHostedCall, IsHostedRefusedFor, new_hosted_session};
+ghost use Rattle.session.specs.HostedAnswering.{SuitsCompletion, SuitsHosted};
+ghost use Rattle.session.specs.Refusing.{AreOutlets};
+ghost use Rattle.session.specs.Session.{slots_of};
+
+mod console;
+mod disk;
+mod laws;
+mod memory;
+mod progress;
+mod registers;
+mod saved;
+
+use crate::fault::{SessionFault, why_not};
+use crate::guest::{GuestSpec, are_outlets, outputs, slots};
+pub use crate::hosted::laws::{
+    a_flight_outlasts_own_events, a_hosted_write_in_place_is_an_event, each_hosted_guest_is_alone,
+    what_waits_changes_nothing,
+};
+pub use crate::hosted::progress::HostedProgress;
+use crate::output_queue::OutputQueue;
+use block_device::Verdict;
+use board::{EventKind, HostedBoard, Reply};
+use std::alloc::{AllocError, Allocator, Global};
+use std::marker::Model;
+
+/// Up to sixty-four guests whose disks the host serves. `new` makes all room: no other call takes memory.
+#[derive(Drop)]
+pub struct HostedSession<A: Allocator = Global> {
+    board: HostedBoard<A>,
+    outputs: Vec<OutputQueue<A>, A>,
+}
+
+impl<A: Allocator> Model for HostedSession<A> {
+    ghost use Rattle.std.specs.Prelude.{◌≡◌, length};
+    ghost use Rattle.session.specs.Hosted.{HostedSessionState};
+
+    ghost Value = { HostedSessionState };
+
+    ghost view = { λ s. record { slots = s.board; outputs = s.outputs.items } };
+
+    ghost invariant = { λ s. length s.outputs.items ≡ length s.board };
+}
+
+impl<A: Allocator + Copy> HostedSession<A> {
+    /// A session with these guests. Of an extent the count alone is read: each guest has a disk of its own, of so many
+    /// sectors from the first on.
+    pub fn new(alloc: A, guests: &[GuestSpec]) -> Result<HostedSession<A>, SessionFault>
+        ensures made { IfOk result (λ session. session ≡ new_hosted_session guests.now) }
+        ensures accepted { OnOk result (AreGoodHosted (slots_of guests.now)) }
+        ensures outlets { OnOk result (AreOutlets guests.now) }
+        ensures fault { IfErr result (IsHostedRefusedFor guests.now) }
+
+        // exactly that fault, but that want of memory may come before the board's
+        ensures bad_outlet { IsErrOf result SessionFault.BadOutlet ↔ ¬ AreOutlets guests.now }
+        ensures bad_board { (fault : BoardFault) → IsHostedBoardFault guests.now fault →
+            IsErrAnd result (λ why. (why ≡ SessionFault.Board fault) ⊎ (why ≡ SessionFault.NoMemory)) }
+    {
+        if !are_outlets(guests) {
+            return Err(SessionFault::BadOutlet);
+        }
+        let board = board_of(alloc, guests)?;
+        match outputs(alloc, guests) {
+            Ok(outputs) => Ok(HostedSession { board, outputs }),
+            Err(AllocError) => Err(SessionFault::NoMemory),
+        }
+    }
+
+    // Handles an event of a slot's guest.
+    fn step(&mut self, slot: u8, what: &EventKind<A>) -> Reply<A>
+        requires own { IsOwn what.now }
+        ensures call { IsHostedCall self.old slot what.now result self.new }
+        ensures suits { SuitsHosted what.now result }
+    {
+        let Some(output) = self.outputs.get_mut(slot as usize) else {
+            return Reply::BadSlot;
+        };
+        output.step_hosted(&mut self.board, slot, what).reply
+    }
+}
+
+impl<A: Allocator> HostedSession<A> {
+    // Completes what is in flight of a slot.
+    fn land(&mut self, slot: u8, verdict: Verdict) -> Reply<A>
+        ensures call { IsHostedCall self.old slot (EventKind.Complete verdict) result self.new }
+        ensures suits { SuitsCompletion result }
+    {
+        self.board.complete(slot, verdict).reply
+    }
+}
+
+// The board of the guests' slots.
+fn board_of<A: Allocator + Copy>(
+    alloc: A,
+    guests: &[GuestSpec],
+) -> Result<HostedBoard<A>, SessionFault>
+    requires outlets { AreOutlets guests.now }
+    ensures made { IfOk result (λ board. board ≡ map hosted_opened (slots_of guests.now)) }
+    ensures accepted { OnOk result (AreGoodHosted (slots_of guests.now)) }
+    ensures fault { IfErr result (IsHostedRefusedFor guests.now) }
+    ensures bad_board { (fault : BoardFault) → IsHostedBoardFault guests.now fault →
+        IsErrAnd result (λ why. (why ≡ SessionFault.Board fault) ⊎ (why ≡ SessionFault.NoMemory)) }
+{
+    let Ok(slots) = slots(alloc, guests) else {
+        return Err(SessionFault::NoMemory);
+    };
+    match HostedBoard::new(alloc, &slots) {
+        Ok(board) => Ok(board),
+        Err(why) => Err(why_not(why)),
+    }
+}

@@ -1,0 +1,108 @@
+//! What holds of every session, by itself. The bodies are empty: each contract is a theorem.
+
+ghost use Rattle.std.specs.Prelude.{◌≡◌, ◌/◌, ℕ, List, [], ◌∷◌, length, Some};
+ghost use Rattle.std.specs.List.{slice_get};
+ghost use Rattle.chain.specs.declared.budget.Budget.{Budget};
+ghost use Rattle.guest_memory.specs.Memory.{Inside, put};
+ghost use Rattle.board.specs.declared.event.EventKind.{EventKind};
+ghost use Rattle.board.specs.declared.reply.Reply.{Reply};
+ghost use Rattle.board.specs.Fault.{IsAccepted};
+ghost use Rattle.board.specs.Pausing.{HasLimit};
+ghost use Rattle.board.specs.Slot.{BoardSlot, SlotState};
+ghost use Rattle.board.specs.Within.{Seat};
+ghost use Rattle.session.specs.Line.{IsIdle};
+ghost use Rattle.session.specs.Pacing.{Handle};
+ghost use Rattle.session.specs.declared.response.Response.{Response};
+ghost use Rattle.session.specs.declared.guest.GuestSpec.{GuestSpec};
+ghost use Rattle.session.specs.Alone.{Answer, Asking, IsSeatCourse, IsSeatedAlone, SeeAlike, at_front, new_session_alone, own_askings, part_of_image};
+ghost use Rattle.session.specs.Course.{Deed, HadRoom, IsCourse, NeverPauses, RunsAlone, paced_world_of};
+ghost use Rattle.session.specs.Pausing.{IsCall};
+ghost use Rattle.session.specs.Refusing.{AreOutlets};
+ghost use Rattle.session.specs.Session.{IsStep, SessionState, limit_of, new_session, output_of, slots_of, with_memory, with_slot_bytes, world_of};
+
+use std::alloc::Allocator;
+
+/// Whatever is called of a session, in which order, and however the services of other guests pause: each guest whose own
+/// services never pause sees what it would see in a session of its own over its part of the image, where the same is asked
+/// for it. No premise says that nothing was refused.
+pub fn each_guest_is_alone<A: Allocator>()
+    ensures alone { (g : ℕ) (guests : List GuestSpec) (guest : GuestSpec) (image : List ℕ)
+        (budget budget' : Budget) (deeds more : List (Deed A)) (new last : SessionState) → slice_get guests g ≡ Some guest →
+        IsCourse (new_session guests image budget) deeds new →
+        IsCourse (new_session_alone guest image budget') more last → NeverPauses g deeds → NeverPauses 0 more →
+        own_askings 0 more ≡ own_askings g deeds → SeeAlike g deeds new 0 more last }
+
+    // so without a budget every guest
+    ensures without { (g : ℕ) (guests : List GuestSpec) (guest : GuestSpec) (image : List ℕ)
+        (budget budget' : Budget) (deeds more : List (Deed A)) (new last : SessionState) → slice_get guests g ≡ Some guest →
+        IsCourse (new_session guests image budget) deeds new →
+        IsCourse (new_session_alone guest image budget') more last → ¬ HasLimit budget → ¬ HasLimit budget' →
+        own_askings 0 more ≡ own_askings g deeds → SeeAlike g deeds new 0 more last }
+
+    // there is such a session: it is never refused, but for want of memory
+    ensures there { (g cache : ℕ) (guests : List GuestSpec) (guest : GuestSpec) (image : List ℕ) →
+        slice_get guests g ≡ Some guest → AreOutlets guests →
+        IsAccepted (length image / 512) (slots_of guests) cache →
+        AreOutlets (at_front guest ∷ []) ×
+        IsAccepted (length (part_of_image guest image) / 512) (slots_of (at_front guest ∷ [])) cache }
+
+    // and from whatever state on: a guest of one session and one of another, as the same slot with the same output
+    ensures alike { (g h : ℕ) (old new other last : SessionState) (deeds more : List (Deed A)) (state : SlotState) →
+        IsCourse old deeds new → IsCourse other more last → NeverPauses g deeds → NeverPauses h more →
+        IsIdle g (paced_world_of old) → IsIdle h (paced_world_of other) →
+        slice_get (world_of old).slots g ≡ Some state → slice_get (world_of other).slots h ≡ Some state →
+        output_of h other ≡ output_of g old → limit_of h other ≡ limit_of g old →
+        own_askings h more ≡ own_askings g deeds → SeeAlike g deeds new h more last }
+{}
+
+/// What a guest sees whose services never pause is what the one-slot machine with its outlet gives, which has one answer to
+/// each call.
+pub fn the_outlet_decides<A: Allocator>()
+    ensures runs { (g : ℕ) (old new : SessionState) (deeds : List (Deed A)) (state : SlotState) →
+        IsCourse old deeds new → NeverPauses g deeds → IsIdle g (paced_world_of old) →
+        slice_get (world_of old).slots g ≡ Some state → IsSeatedAlone g state old deeds new }
+    ensures once { (limit : ℕ) (old one other : Seat) (askings : List (Asking A)) (answers answers' : List (Answer A)) →
+        IsSeatCourse limit old askings answers one → IsSeatCourse limit old askings answers' other →
+        (answers ≡ answers') × (one ≡ other) }
+{}
+
+/// A guest that was never refused for want of room is answered what the one-slot machine gives, and what its console
+/// puts out, taken in whatever pieces or waiting still, is what that machine puts out, whatever is called for others between
+/// the pieces of its services: an event counts where it begins, and its reply where it ends.
+pub fn a_guest_with_room_runs_alone<A: Allocator>()
+    ensures within { (g : ℕ) (old new : SessionState) (deeds : List (Deed A)) (state : SlotState) →
+        IsCourse old deeds new → HadRoom g deeds →
+        IsIdle g (paced_world_of old) → IsIdle g (paced_world_of new) →
+        slice_get (world_of old).slots g ≡ Some state → RunsAlone g state old deeds new }
+
+    // so without a budget, where nothing is paused at the end
+    ensures without { (g : ℕ) (old new : SessionState) (deeds : List (Deed A)) (state : SlotState) →
+        IsCourse old deeds new → HadRoom g deeds → ¬ HasLimit old.budget → IsIdle g (paced_world_of old) →
+        slice_get (world_of old).slots g ≡ Some state → RunsAlone g state old deeds new }
+{}
+
+/// Bytes that were put into a guest's memory in place, between two calls, are the event of their write: so what
+/// holds of each guest over courses of events holds of a guest whose CPUs store into memory that is lent to them.
+pub fn a_write_in_place_is_an_event<A: Allocator>()
+    ensures range { (old : SessionState) (slot addr : ℕ) (found : BoardSlot) (bytes : List ℕ) →
+        slice_get old.slots slot ≡ Some found → Inside found.memory addr (length bytes) →
+        IsStep {A = A} old (record { slot = slot; what = EventKind.MemWrite addr bytes }) Reply.Done
+        (with_memory slot found (put found.memory addr bytes) old) }
+
+    // and whatever became of all of them, as of a memory that was lent, is one write
+    ensures lent { (old : SessionState) (slot : ℕ) (found : BoardSlot) (bytes : List ℕ) →
+        slice_get old.slots slot ≡ Some found → length bytes ≡ length found.memory.bytes →
+        IsStep {A = A} old (record { slot = slot; what = EventKind.MemWrite found.memory.base bytes }) Reply.Done
+        (with_slot_bytes slot old bytes) }
+    ensures whole { (old : SessionState) (slot : ℕ) (found : BoardSlot) (bytes : List ℕ) →
+        slice_get old.slots slot ≡ Some found → length bytes ≡ length found.memory.bytes →
+        IsStep {A = A} old (record { slot = slot; what = EventKind.MemWrite found.memory.base bytes }) Reply.Done
+        (with_memory slot found (record found.memory { bytes = bytes }) old) }
+
+    // also as a call, where no service of the slot is paused
+    ensures call { (old : SessionState) (slot : ℕ) (found : BoardSlot) (bytes : List ℕ) →
+        slice_get old.slots slot ≡ Some found → length bytes ≡ length found.memory.bytes →
+        IsIdle slot (paced_world_of old) →
+        IsCall {A = A} old (Handle (record { slot = slot; what = EventKind.MemWrite found.memory.base bytes }))
+        (Response.Answered Reply.Done) (with_slot_bytes slot old bytes) }
+{}

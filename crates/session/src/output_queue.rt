@@ -1,0 +1,205 @@
+//! What a console put out, until it is taken.
+
+ghost use Rattle.std.specs.Prelude.{◌≡◌, ◌≢◌, ◌++◌, ◌+◌, ◌-◌, ◌≤◌, ◌↔◌, ℕ, List, Some, length, vec_capacity, min, take, drop, IfOk, IsSomeAnd};
+ghost use Rattle.std.specs.List.{slice_get};
+ghost use Rattle.sector_cache.specs.MemoryImage.{disk_of};
+ghost use Rattle.board.specs.declared.pause.Pause.{Pause};
+ghost use Rattle.board.specs.declared.pause.Turn.{Turn};
+ghost use Rattle.board.specs.declared.reply.Reply.{Reply};
+ghost use Rattle.board.specs.HostedLine.{KeepsOtherGuests, TakesCall};
+ghost use Rattle.board.specs.Image.{bytes_of};
+ghost use Rattle.board.specs.Pausing.{HasLimit};
+ghost use Rattle.board.specs.Slot.{BoardSlot, state_of};
+ghost use Rattle.board.specs.Within.{BeginsWithin, GoesOnWithin};
+ghost use Rattle.board.specs.World.{KeepsOthers, MayLackMemory, extents_of};
+ghost use Rattle.session.specs.Pacing.{Handle, GoOn, Responds, paced_world, response_to};
+ghost use Rattle.session.specs.Session.{none_waiting};
+
+use crate::paced::Paced;
+use crate::response::Response;
+use board::{Event, EventKind, HostedBoard, HostedTaken, MemoryImage};
+use console_device::{NoMemory, Outlet};
+use std::alloc::{AllocError, Allocator, Global};
+use std::marker::Model;
+use std::mem;
+
+/// Bytes that wait to be taken, the first ones first: those of `first` from `start` on, and then those of `later`.
+/// Bytes are put behind `later`; once all of `first` are taken the two change places. Both have room for as many as
+/// may wait, which is made once.
+#[derive(Drop)]
+pub(crate) struct OutputQueue<A: Allocator = Global> {
+    first: Vec<u8, A>,
+    start: usize,
+    later: Vec<u8, A>,
+    limit: usize,
+}
+
+impl<A: Allocator> Model for OutputQueue<A> {
+    ghost use Rattle.std.specs.Prelude.{◌++◌, ◌≤◌, length, drop, vec_capacity};
+    ghost use Rattle.session.specs.Session.{Waiting};
+
+    ghost Value = { Waiting };
+
+    ghost view = { λ o. record { bytes = drop o.start o.first.items ++ o.later.items; limit = o.limit } };
+
+    ghost invariant = { λ o. (o.start ≤ length o.first.items) ×
+        ((length (drop o.start o.first.items ++ o.later.items) ≤ o.limit) ×
+        ((o.limit ≤ vec_capacity o.first) × (o.limit ≤ vec_capacity o.later))) };
+}
+
+impl<A: Allocator> OutputQueue<A> {
+    /// No bytes, and room for so many.
+    pub(crate) fn new(alloc: A, limit: u32) -> Result<OutputQueue<A>, AllocError>
+    where
+        A: Copy,
+        ensures { IfOk result (λ made. made ≡ none_waiting limit) }
+    {
+        let limit = limit as usize;
+        Ok(OutputQueue {
+            first: Vec::with_capacity(alloc, limit)?,
+            start: 0,
+            later: Vec::with_capacity(alloc, limit)?,
+            limit,
+        })
+    }
+
+    /// The bytes that wait, in two parts.
+    pub(crate) fn waiting(&self) -> (&[u8], &[u8])
+        ensures { result.0.now ++ result.1.now ≡ self.now.bytes }
+    {
+        (&self.first[self.start..], self.later.as_slice())
+    }
+
+    /// How many bytes wait.
+    pub(crate) fn len(&self) -> usize
+        ensures { result ≡ length self.now.bytes }
+    {
+        self.first.len() - self.start + self.later.len()
+    }
+
+    /// Moves the first bytes out, as many as find room, and answers how many they are.
+    pub(crate) fn take(&mut self, into: &mut [u8]) -> usize
+        ensures count { result ≡ min (length self.old.bytes) (length into.old) }
+        ensures moved { into.new ≡ take result self.old.bytes ++ drop result into.old }
+        ensures left { self.new ≡ record self.old { bytes = drop result self.old.bytes } }
+    {
+        let (first, later) = self.waiting();
+        let of_first = first.len().min(into.len());
+        let of_later = later.len().min(into.len() - of_first);
+        let count = of_first + of_later;
+        into[..of_first].copy_from_slice(&first[..of_first]);
+        into[of_first..count].copy_from_slice(&later[..of_later]);
+        self.skip(count);
+        count
+    }
+
+    // Takes the first bytes away.
+    fn skip(&mut self, count: usize)
+        requires { count ≤ length self.old.bytes }
+        ensures { self.new ≡ record self.old { bytes = drop count self.old.bytes } }
+    {
+        let of_first = self.first.len() - self.start;
+        if count < of_first {
+            self.start += count;
+        } else {
+            self.first.clear();
+            mem::swap(&mut self.first, &mut self.later);
+            self.start = count - of_first;
+        }
+    }
+}
+
+impl<A: Allocator> Outlet for OutputQueue<A> {
+    ghost bytes = { λ out. out.bytes };
+
+    ghost limit = { λ out. Some out.limit };
+
+    ghost room = { λ out. out.limit - length out.bytes };
+
+    fn make_room(&mut self, count: u64) -> Result<(), NoMemory> {
+        if count <= (self.limit - self.len()) as u64 {
+            Ok(())
+        } else {
+            Err(NoMemory)
+        }
+    }
+
+    fn append(&mut self, part: &[u8]) {
+        let Ok(()) = self.later.extend_from_slice(part) else {
+            unreachable!()
+        };
+        if self.start == self.first.len() {
+            self.skip(0);
+        }
+    }
+}
+
+impl<A: Allocator + Copy> OutputQueue<A> {
+    /// Handles an event of the board, and keeps what is put out behind what waits.
+    pub(crate) fn step(
+        &mut self,
+        paced: &mut Paced<MemoryImage<A>, A>,
+        event: &Event<A>,
+    ) -> Response<A>
+        ensures responds { Responds paced.old.budget (paced_world disk_of paced.old) (Handle event.now) result
+            self.old.bytes self.new.bytes (paced_world disk_of paced.new) }
+        ensures within { (found after : BoardSlot) →
+            slice_get paced.old.board.slots event.now.slot ≡ Some found →
+            slice_get paced.new.board.slots event.now.slot ≡ Some after →
+            (turn : Turn A) → result ≡ response_to turn →
+            BeginsWithin self.old.limit event.now.what paced.old.budget
+            (state_of (bytes_of (disk_of paced.old.board.image)) found)
+            (state_of (bytes_of (disk_of paced.new.board.image)) after) self.old.bytes self.new.bytes turn }
+        ensures limit { self.new.limit ≡ self.old.limit }
+        ensures budget { paced.new.budget ≡ paced.old.budget }
+        ensures busy { result ≡ Response.Busy → paced.new ≡ paced.old }
+        ensures not_idle { result ≡ Response.Idle → ⊥ }
+        ensures extents { extents_of paced.new.board.slots ≡ extents_of paced.old.board.slots }
+        ensures others { KeepsOthers event.now.slot paced.old.board.slots paced.new.board.slots }
+        ensures limited { result ≡ Response.More → HasLimit paced.old.budget }
+        ensures bad_slot { (result ≡ Response.Answered Reply.BadSlot) ↔ (length paced.old.board.slots ≤ event.now.slot) }
+        ensures bad_range_keeps { result ≡ Response.Answered Reply.BadRange → paced.new.board ≡ paced.old.board }
+        ensures no_memory { result ≡ Response.Answered Reply.NoMemory →
+            IsSomeAnd (slice_get paced.old.board.slots event.now.slot)
+            (λ slot. (image : List ℕ) → MayLackMemory (state_of image slot) event.now.what) }
+    {
+        paced.step(event, self)
+    }
+
+    /// Handles an event of a board whose disks the host serves, and keeps what is put out behind what waits.
+    pub(crate) fn step_hosted(
+        &mut self,
+        board: &mut HostedBoard<A>,
+        slot: u8,
+        what: &EventKind<A>,
+    ) -> HostedTaken<A>
+        ensures takes { TakesCall board.old slot what.now (Some self.old.limit) result.reply
+            result.block_irq result.console_irq self.old.bytes self.new.bytes board.new }
+        ensures others { KeepsOtherGuests slot board.old board.new }
+        ensures limit { self.new.limit ≡ self.old.limit }
+    {
+        board.step(slot, what, self)
+    }
+
+    /// Goes on with the service of a slot of the board, and keeps what is put out behind what waits.
+    pub(crate) fn go_on(&mut self, paced: &mut Paced<MemoryImage<A>, A>, slot: u8) -> Response<A>
+        ensures responds { Responds paced.old.budget (paced_world disk_of paced.old) (GoOn slot) result
+            self.old.bytes self.new.bytes (paced_world disk_of paced.new) }
+        ensures within { (found after : BoardSlot) →
+            slice_get paced.old.board.slots slot ≡ Some found →
+            slice_get paced.new.board.slots slot ≡ Some after →
+            (pause : Pause) → slice_get paced.old.paused slot ≡ Some (Some pause) →
+            (turn : Turn A) → result ≡ response_to turn →
+            GoesOnWithin self.old.limit pause paced.old.budget
+            (state_of (bytes_of (disk_of paced.old.board.image)) found)
+            (state_of (bytes_of (disk_of paced.new.board.image)) after) self.old.bytes self.new.bytes turn }
+        ensures limit { self.new.limit ≡ self.old.limit }
+        ensures budget { paced.new.budget ≡ paced.old.budget }
+        ensures idle { result ≡ Response.Idle → paced.new ≡ paced.old }
+        ensures not_busy { result ≡ Response.Busy → ⊥ }
+        ensures extents { extents_of paced.new.board.slots ≡ extents_of paced.old.board.slots }
+        ensures others { KeepsOthers slot paced.old.board.slots paced.new.board.slots }
+    {
+        paced.go_on(slot, self)
+    }
+}

@@ -1,0 +1,179 @@
+//! Calls for a slot without an event, for a caller that has the bytes in a slice. A slot whose service is paused stays as
+//! it is.
+
+ghost use Rattle.std.specs.Prelude.{◌≡◌, ◌≢◌, ◌↔◌, ◌<◌, ◌≤◌, length, [], None, Some, IfOk, IsErrOf, IsOk, IsSomeAnd, OnErr};
+ghost use Rattle.std.specs.Borrow.{sem, u8, Array, Lends};
+ghost use Rattle.std.specs.List.{slice_get};
+ghost use Rattle.board.specs.declared.event.EventKind.{EventKind};
+ghost use Rattle.board.specs.declared.reply.Reply.{Reply};
+ghost use Rattle.board.specs.Image.{Tells};
+ghost use Rattle.board.specs.declared.saved.RestoreFault.{RestoreFault};
+ghost use Rattle.board.specs.Pausing.{HasLimit};
+ghost use Rattle.board.specs.Saved.{IsAs, IsCauseOf, IsLike, IsSavedTo, IsSnapshotOf, snapshot_of};
+ghost use Rattle.board.specs.Slot.{BoardSlot};
+ghost use Rattle.board.specs.World.{KeepsOthers, disturbed_of, extents_of};
+ghost use Rattle.session.specs.Pacing.{Handle, Responds, paced_world, paused_at, with_slot_bytes};
+ghost use Rattle.session.specs.Restoring.{restore_response, told_of};
+ghost use Rattle.session.specs.contracts.paced.Paced.{the_row};
+ghost use Rattle.board.specs.declared.saved.RestoreRefusal.{RestoreRefusal};
+ghost use Rattle.board.specs.declared.saved.SaveRefusal.{SaveRefusal};
+
+use crate::paced::Paced;
+use crate::response::Response;
+use board::{Image, Reply, RestoreFault, RestoreRefusal, SaveRefusal, ShortBuffer};
+use std::alloc::Allocator;
+
+impl<I: Image, A: Allocator + Copy> Paced<I, A> {
+    /// Types bytes to the slot's console: `step` for that input. No memory is taken.
+    pub fn input(&mut self, slot: u8, bytes: &[u8]) -> Response<A>
+        ensures responds { Tells (I.disk self.old.board.image) →
+            Responds self.old.budget (paced_world I.disk self.old)
+            (Handle (record { slot = slot; what = EventKind.Input bytes.now })) result [] []
+            (paced_world I.disk self.new) }
+        ensures image { self.new.board.image ≡ self.old.board.image }
+        ensures budget { self.new.budget ≡ self.old.budget }
+        ensures busy { result ≡ Response.Busy → self.new ≡ self.old }
+        ensures not_idle { result ≡ Response.Idle → ⊥ }
+        ensures extents { extents_of self.new.board.slots ≡ extents_of self.old.board.slots }
+        ensures others { KeepsOthers slot self.old.board.slots self.new.board.slots }
+        ensures disturbed { disturbed_of self.new.board.slots ≡ disturbed_of self.old.board.slots }
+        ensures limited { result ≡ Response.More → HasLimit self.old.budget }
+        ensures bad_slot { (result ≡ Response.Answered Reply.BadSlot) ↔ (length self.old.board.slots ≤ slot) }
+        ensures bad_slot_keeps { result ≡ Response.Answered Reply.BadSlot → self.new ≡ self.old }
+    {
+        match self.waiting(slot) {
+            None => Response::Answered(Reply::BadSlot),
+            Some(Some(_)) => Response::Busy,
+            Some(None) => {
+                let taken = self.board.begin_input(slot, bytes, self.budget);
+                self.note(slot, taken.turn)
+            }
+        }
+    }
+}
+
+impl<I: Image, A: Allocator> Paced<I, A> {
+    /// Copies bytes into the slot's memory, from address `addr` on: `step` for that write.
+    pub fn write_memory(&mut self, slot: u8, addr: u64, from: &[u8]) -> Response<A>
+        ensures responds { Tells (I.disk self.old.board.image) →
+            Responds self.old.budget (paced_world I.disk self.old)
+            (Handle (record { slot = slot; what = EventKind.MemWrite addr from.now })) result [] []
+            (paced_world I.disk self.new) }
+        ensures image { self.new.board.image ≡ self.old.board.image }
+        ensures paused { self.new.paused ≡ self.old.paused }
+        ensures budget { self.new.budget ≡ self.old.budget }
+        ensures busy { result ≡ Response.Busy → self.new ≡ self.old }
+        ensures not_idle { result ≡ Response.Idle → ⊥ }
+        ensures not_more { result ≡ Response.More → ⊥ }
+        ensures extents { extents_of self.new.board.slots ≡ extents_of self.old.board.slots }
+        ensures others { KeepsOthers slot self.old.board.slots self.new.board.slots }
+        ensures bad_slot { (result ≡ Response.Answered Reply.BadSlot) ↔ (length self.old.board.slots ≤ slot) }
+        ensures bad_slot_keeps { result ≡ Response.Answered Reply.BadSlot → self.new ≡ self.old }
+        ensures bad_range_keeps { result ≡ Response.Answered Reply.BadRange → self.new ≡ self.old }
+    {
+        match self.waiting(slot) {
+            None => Response::Answered(Reply::BadSlot),
+            Some(Some(_)) => Response::Busy,
+            Some(None) => {
+                if self.board.write_memory(slot, addr, from) {
+                    Response::Answered(Reply::Done)
+                } else {
+                    Response::Answered(Reply::BadRange)
+                }
+            }
+        }
+    }
+
+    /// How many bytes the slot's snapshot has, which is none while a service of the slot is paused.
+    pub fn saved_len(&self, slot: u8) -> Result<usize, SaveRefusal>
+        ensures value { IfOk result (λ len. IsSomeAnd (slice_get self.now.board.slots slot)
+            (λ found. len ≡ length (snapshot_of found))) }
+        ensures missing { IsErrOf result SaveRefusal.BadSlot ↔ (length self.now.board.slots ≤ slot) }
+        ensures busy { IsErrOf result SaveRefusal.Busy ↔ ¬ (paused_at self.now.paused slot ≡ None) }
+        ensures not_short { ¬ IsErrOf result SaveRefusal.ShortBuffer }
+    {
+        match self.waiting(slot) {
+            None => Err(SaveRefusal::BadSlot),
+            Some(Some(_)) => Err(SaveRefusal::Busy),
+            Some(None) => match self.board.saved_len(slot) {
+                Some(len) => Ok(len),
+                None => Err(SaveRefusal::BadSlot),
+            },
+        }
+    }
+
+    /// Writes the slot's snapshot to the front of a buffer, and answers how many bytes it has; the others stay. What is
+    /// refused writes nothing.
+    pub fn save(&self, slot: u8, into: &mut [u8]) -> Result<usize, SaveRefusal>
+        ensures saved { IfOk result (λ len. IsSomeAnd (slice_get self.now.board.slots slot)
+            (λ found. IsSavedTo found into.old into.new len)) }
+        ensures missing { IsErrOf result SaveRefusal.BadSlot ↔ (length self.now.board.slots ≤ slot) }
+        ensures busy { IsErrOf result SaveRefusal.Busy ↔ ¬ (paused_at self.now.paused slot ≡ None) }
+        ensures short { IsErrOf result SaveRefusal.ShortBuffer → IsSomeAnd (slice_get self.now.board.slots slot)
+            (λ found. length into.old < length (snapshot_of found)) }
+        ensures kept { OnErr result (into.new ≡ into.old) }
+    {
+        match self.waiting(slot) {
+            None => Err(SaveRefusal::BadSlot),
+            Some(Some(_)) => Err(SaveRefusal::Busy),
+            Some(None) => match self.board.save_into(slot, into) {
+                None => Err(SaveRefusal::BadSlot),
+                Some(Ok(len)) => Ok(len),
+                Some(Err(ShortBuffer)) => Err(SaveRefusal::ShortBuffer),
+            },
+        }
+    }
+
+    /// The slot takes up a snapshot of one of the same description: `step` for that restore. What is refused changes
+    /// nothing.
+    pub fn restore(&mut self, slot: u8, from: &[u8]) -> Result<(), RestoreRefusal>
+        ensures responds { Tells (I.disk self.old.board.image) →
+            Responds {A = A} self.old.budget (paced_world I.disk self.old)
+            (Handle (record { slot = slot; what = EventKind.Restore from.now })) (restore_response result) [] []
+            (paced_world I.disk self.new) }
+
+        // what was saved of a slot is taken by every idle slot of its description, and brings it to its state
+        ensures taken { (saved old new : BoardSlot) → IsSnapshotOf from.now saved →
+            slice_get self.old.board.slots slot ≡ Some old → slice_get self.new.board.slots slot ≡ Some new →
+            IsLike saved old → paused_at self.old.paused slot ≡ None → IsOk result × IsAs saved old new }
+        ensures kept { OnErr result (self.new ≡ self.old) }
+        ensures missing { IsErrOf result RestoreRefusal.BadSlot ↔ (length self.old.board.slots ≤ slot) }
+        ensures busy { IsErrOf result RestoreRefusal.Busy → ¬ (paused_at self.old.paused slot ≡ None) }
+        ensures fault { (why : RestoreFault) → IsErrOf result (RestoreRefusal.Fault why) →
+            IsSomeAnd (slice_get self.old.board.slots slot) (λ old. IsCauseOf old from.now why) }
+        ensures image { self.new.board.image ≡ self.old.board.image }
+        ensures paused { self.new.paused ≡ self.old.paused }
+        ensures budget { self.new.budget ≡ self.old.budget }
+        ensures extents { extents_of self.new.board.slots ≡ extents_of self.old.board.slots }
+        ensures others { KeepsOthers slot self.old.board.slots self.new.board.slots }
+    {
+        match self.waiting(slot) {
+            None => Err(RestoreRefusal::BadSlot),
+            Some(Some(_)) => Err(RestoreRefusal::Busy),
+            Some(None) => told(self.board.restore(slot, from)),
+        }
+    }
+
+    /// The bytes of the slot's memory, to be read and written while no service of the slot is paused.
+    pub fn memory_mut(&mut self, slot: u8) -> &mut [u8]
+        requires there { slot < length self.old.board.slots }
+        requires idle { paused_at self.old.paused slot ≡ None }
+        ensures* writes_back { sem 𝓛 (Lends (the_row I.row A.row I.Image A.Allocator) (Array u8 0) self.entry
+            result (with_slot_bytes slot self.old)) }
+        ensures value { IsSomeAnd (slice_get self.old.board.slots slot)
+            (λ found. result.now ≡ found.memory.bytes) }
+    {
+        self.board.memory_mut(slot)
+    }
+}
+
+// What is told of a restore by the board.
+fn told(restored: Option<Result<(), RestoreFault>>) -> Result<(), RestoreRefusal>
+    ensures { result ≡ told_of restored }
+{
+    match restored {
+        None => Err(RestoreRefusal::BadSlot),
+        Some(Ok(())) => Ok(()),
+        Some(Err(why)) => Err(RestoreRefusal::Fault(why)),
+    }
+}

@@ -1,0 +1,59 @@
+//! Why a call was refused.
+
+ghost use Rattle.std.specs.Prelude.{◌≡◌};
+ghost use Rattle.session.specs.Answering.{IsRefusing, refusing_response};
+ghost use Rattle.session.specs.HostedAnswering.{IsHostedRefusing, hosted_refusing};
+
+use crate::response::Response;
+use board::Reply;
+use std::alloc::Allocator;
+use thiserror::Error;
+
+/// A call that was refused.
+#[derive(Clone, Copy, Debug, Error, PartialEq, Eq)]
+pub enum Refusal {
+    /// The board has no such slot. Nothing has changed.
+    #[error("the board has no such slot")]
+    BadSlot,
+    /// Not all of the range lies inside the slot's memory. Nothing has changed.
+    #[error("not all of the range lies inside the guest's memory")]
+    BadRange,
+    /// What the guest's console puts out next doesn't fit behind what waits. What came before it was put out.
+    #[error("the guest's output has no room until some of it is taken")]
+    NoRoom,
+    /// A service of the slot is paused, or the write waits for what the host does for the slot. Nothing has changed.
+    #[error("a service of the guest is paused, or its disk is at work")]
+    Busy,
+    /// Nothing of the slot is in flight. Nothing has changed.
+    #[error("nothing that the host does for the guest is in flight")]
+    Idle,
+}
+
+impl Refusal {
+    /// The refusal that a response of the board says.
+    pub(crate) fn of<A: Allocator>(response: &Response<A>) -> Refusal
+        requires { IsRefusing response.now }
+        ensures { response.now ≡ refusing_response result }
+    {
+        match response {
+            Response::Answered(Reply::NoMemory) => Refusal::NoRoom,
+            Response::Answered(Reply::BadRange) => Refusal::BadRange,
+            Response::Busy => Refusal::Busy,
+            _ => Refusal::BadSlot,
+        }
+    }
+
+    /// The refusal that a reply of a board says whose disks the host serves.
+    pub(crate) fn of_hosted<A: Allocator>(reply: &Reply<A>) -> Refusal
+        requires { IsHostedRefusing reply.now }
+        ensures { reply.now ≡ hosted_refusing result }
+    {
+        match reply {
+            Reply::NoMemory => Refusal::NoRoom,
+            Reply::BadRange => Refusal::BadRange,
+            Reply::Busy => Refusal::Busy,
+            Reply::Idle => Refusal::Idle,
+            _ => Refusal::BadSlot,
+        }
+    }
+}

@@ -1,0 +1,193 @@
+//! The session: a board over an image in memory, and what its consoles put out.
+
+ghost use Rattle.std.specs.Prelude.{◌≡◌, ◌≢◌, ◌⊎◌, ◌↔◌, ◌%◌, ◌/◌, map, length, IsFalse, IfOk, OnOk, IfErr, IsErrAnd, IsErrOf};
+ghost use Rattle.chain.specs.Budget.{IsSpent};
+ghost use Rattle.board.specs.declared.fault.BoardFault.{BoardFault};
+ghost use Rattle.sector_cache.specs.Disk.{new_disk};
+ghost use Rattle.sector_cache.specs.MemoryImage.{disk_of};
+ghost use Rattle.board.specs.Fault.{IsAccepted, Refuses};
+ghost use Rattle.board.specs.Slot.{opened};
+ghost use Rattle.session.specs.declared.fault.SessionFault.{SessionFault};
+ghost use Rattle.board.specs.declared.event.EventKind.{EventKind};
+ghost use Rattle.session.specs.Pacing.{GoOn, Handle};
+ghost use Rattle.session.specs.Answering.{SuitsCall};
+ghost use Rattle.session.specs.Pausing.{IsCall, IsWhole};
+ghost use Rattle.session.specs.Session.{HasNoRead, IsIdle, new_session, slots_of};
+ghost use Rattle.session.specs.Refusing.{AreOutlets, IsBoardFault, IsRefusedFor};
+
+mod console;
+mod image;
+mod memory;
+mod registers;
+mod saved;
+
+use crate::fault::{SessionFault, why_not};
+use crate::guest::{GuestSpec, are_outlets, outputs, slots};
+use crate::output_queue::OutputQueue;
+use crate::paced::Paced;
+use crate::response::Response;
+use board::{Board, Budget, Event, MemoryImage, Refused, Reply};
+use sector_cache::are_whole_sectors;
+use std::alloc::{AllocError, Allocator, Global};
+use std::marker::Model;
+
+/// Up to sixty-four guests over one image in memory. `new` makes all room: no other call takes memory.
+#[derive(Drop)]
+pub struct Session<A: Allocator = Global> {
+    paced: Paced<MemoryImage<A>, A>,
+    outputs: Vec<OutputQueue<A>, A>,
+}
+
+impl<A: Allocator> Model for Session<A> {
+    ghost use Rattle.std.specs.Prelude.{◌≡◌, length};
+    ghost use Rattle.sector_cache.specs.MemoryImage.{disk_of as memory_disk_of};
+    ghost use Rattle.board.specs.Image.{bytes_of};
+    ghost use Rattle.session.specs.Session.{SessionState};
+
+    ghost Value = { SessionState };
+
+    ghost view = { λ s. record {
+      slots = s.paced.board.slots;
+      image = bytes_of (memory_disk_of s.paced.board.image);
+      mark = (memory_disk_of s.paced.board.image).mark;
+      outputs = s.outputs.items;
+      paused = s.paced.paused;
+      budget = s.paced.budget;
+    } };
+
+    ghost invariant = { λ s. (length s.outputs.items ≡ length s.paced.board.slots)
+        × (length s.paced.paused ≡ length s.paced.board.slots) };
+}
+
+impl<A: Allocator + Copy> Session<A> {
+    /// A session over a copy of these bytes, with these guests and a cache of at most `cache` sectors before
+    /// the image. Each call serves within the budget.
+    pub fn new(
+        alloc: A,
+        guests: &[GuestSpec],
+        image: &[u8],
+        cache: u32,
+        budget: Budget,
+    ) -> Result<Session<A>, SessionFault>
+        ensures made { IfOk result (λ session. session ≡ new_session guests.now image.now budget) }
+        ensures accepted { OnOk result (IsAccepted (length image.now / 512) (slots_of guests.now) cache) }
+        ensures outlets { OnOk result (AreOutlets guests.now) }
+        ensures lasts { OnOk result (¬ IsSpent budget) }
+        ensures fault { IfErr result (IsRefusedFor guests.now image.now cache budget) }
+
+        // exactly that fault, but that want of memory may come before the board's
+        ensures bad_image { IsErrOf result SessionFault.BadImage ↔ (length image.now % 512 ≢ 0) }
+        ensures bad_outlet { IsErrOf result SessionFault.BadOutlet ↔
+            ((length image.now % 512 ≡ 0) × ¬ AreOutlets guests.now) }
+        ensures spent { IsErrOf result SessionFault.SpentBudget ↔
+            ((length image.now % 512 ≡ 0) × AreOutlets guests.now × IsSpent budget) }
+        ensures bad_board { (fault : BoardFault) → IsBoardFault guests.now image.now cache budget fault →
+            IsErrAnd result (λ why. (why ≡ SessionFault.Board fault) ⊎ (why ≡ SessionFault.NoMemory)) }
+    {
+        if !are_whole_sectors(image.len() as u64) {
+            return Err(SessionFault::BadImage);
+        }
+        if !are_outlets(guests) {
+            return Err(SessionFault::BadOutlet);
+        }
+        if budget.is_spent() {
+            return Err(SessionFault::SpentBudget);
+        }
+        let board = board_of(alloc, guests, image, cache, budget)?;
+        let Ok(paced) = Paced::new(alloc, board, budget) else {
+            return Err(SessionFault::NoMemory);
+        };
+        match outputs(alloc, guests) {
+            Ok(outputs) => Ok(Session { paced, outputs }),
+            Err(AllocError) => Err(SessionFault::NoMemory),
+        }
+    }
+
+    // Handles an event, to its end or up to a pause.
+    fn step(&mut self, event: &Event<A>) -> Response<A>
+        requires { HasNoRead event.now.what }
+        ensures call { IsCall self.old (Handle event.now) result self.new }
+        ensures whole { IsWhole self.old event.now result self.new }
+        ensures suits { SuitsCall event.now.what result }
+    {
+        let Some(output) = self.outputs.get_mut(event.slot as usize) else {
+            return Response::Answered(Reply::BadSlot);
+        };
+        output.step(&mut self.paced, event)
+    }
+
+    // Types to a slot's console.
+    fn put_in(&mut self, slot: u8, bytes: &[u8]) -> Response<A>
+        ensures call { IsCall self.old (Handle (record { slot = slot; what = EventKind.Input bytes.now })) result self.new }
+        ensures whole { IsWhole self.old (record { slot = slot; what = EventKind.Input bytes.now }) result self.new }
+        ensures suits { SuitsCall (EventKind.Input bytes.now) result }
+    {
+        self.paced.input(slot, bytes)
+    }
+
+    // Goes on with a slot's service.
+    fn serve_on(&mut self, slot: u8) -> Response<A>
+        ensures call { IsCall self.old (GoOn slot) result self.new }
+    {
+        let Some(output) = self.outputs.get_mut(slot as usize) else {
+            return Response::Answered(Reply::BadSlot);
+        };
+        output.go_on(&mut self.paced, slot)
+    }
+}
+
+impl<A: Allocator> Session<A> {
+    // Stores bytes into a slot's memory.
+    fn store(&mut self, slot: u8, addr: u64, from: &[u8]) -> Response<A>
+        ensures call { IsCall self.old (Handle (record { slot = slot; what = EventKind.MemWrite addr from.now })) result
+            self.new }
+        ensures whole { IsWhole self.old (record { slot = slot; what = EventKind.MemWrite addr from.now }) result self.new }
+        ensures suits { SuitsCall (EventKind.MemWrite addr from.now) result }
+    {
+        self.paced.write_memory(slot, addr, from)
+    }
+
+    /// Whether a service of the slot is paused: then each call for the slot is busy, but `go_on`, and those that tell
+    /// its interrupts and take its output.
+    pub fn is_paused(&self, slot: u8) -> bool
+        ensures { IsFalse result ↔ IsIdle slot self.now }
+    {
+        self.paced.paused(slot).is_some()
+    }
+}
+
+// The board of the guests' slots, over a copy of these bytes.
+fn board_of<A: Allocator + Copy>(
+    alloc: A,
+    guests: &[GuestSpec],
+    image: &[u8],
+    cache: u32,
+    budget: Budget,
+) -> Result<Board<MemoryImage<A>, A>, SessionFault>
+    requires whole { length image.now % 512 ≡ 0 }
+    requires outlets { AreOutlets guests.now }
+    requires lasts { ¬ IsSpent budget }
+    ensures slots { IfOk result (λ board. board.slots ≡ map opened (slots_of guests.now)) }
+    ensures image { IfOk result (λ board. disk_of board.image ≡ new_disk image.now) }
+    ensures accepted { OnOk result (IsAccepted (length image.now / 512) (slots_of guests.now) cache) }
+    ensures fault { IfErr result (λ why. IsRefusedFor guests.now image.now cache budget why) }
+    ensures other { IfErr result (λ why. (why ≢ SessionFault.BadImage) × (why ≢ SessionFault.BadOutlet)
+        × (why ≢ SessionFault.SpentBudget)) }
+    ensures bad_board { (fault : BoardFault) → fault ≢ BoardFault.NoMemory →
+        Refuses (length image.now / 512) (slots_of guests.now) cache fault →
+        IsErrAnd result (λ why. (why ≡ SessionFault.Board fault) ⊎ (why ≡ SessionFault.NoMemory)) }
+{
+    let Ok(slots) = slots(alloc, guests) else {
+        return Err(SessionFault::NoMemory);
+    };
+    let Ok(bytes) = Vec::from_slice(alloc, image) else {
+        return Err(SessionFault::NoMemory);
+    };
+    let Ok(image) = MemoryImage::new(bytes) else {
+        unreachable!()
+    };
+    match Board::new(alloc, &slots, image, cache) {
+        Ok(board) => Ok(board),
+        Err(Refused { image: _, why }) => Err(why_not(why)),
+    }
+}

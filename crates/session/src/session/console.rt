@@ -1,0 +1,113 @@
+//! A guest's console, from the outside: what is typed, its size, and what it puts out.
+
+ghost use Rattle.std.specs.Prelude.{◌≡◌, ◌⊎◌, ◌<◌, ◌↔◌, length, min, take, drop, ◌++◌, Some, IsSome, IfSome, IfNone, IfOk, IfErr};
+ghost use Rattle.chain.specs.declared.budget.Progress.{Progress};
+ghost use Rattle.board.specs.declared.event.EventKind.{EventKind};
+ghost use Rattle.session.specs.Pacing.{Handle};
+ghost use Rattle.session.specs.declared.refusal.Refusal.{Refusal};
+ghost use Rattle.session.specs.Answering.{done_response, typed_response};
+ghost use Rattle.session.specs.Course.{IsTaken};
+ghost use Rattle.session.specs.Pausing.{IsCall, IsWhole, taken_at};
+ghost use Rattle.session.specs.Session.{output_of};
+
+use crate::refusal::Refusal;
+use crate::response::Response;
+use crate::session::Session;
+use crate::typed::Typed;
+use board::{Event, EventKind, Pause, Reply};
+use chain::Progress;
+use std::alloc::Allocator;
+
+impl<A: Allocator + Copy> Session<A> {
+    /// Types bytes to the guest's console, and answers how many were taken: the first ones. A console keeps
+    /// 4096 until its guest reads them. Where more is to come, `go_on` goes on with the service of its receive queue. It
+    /// is refused for a bad slot, and while a service of the slot is paused.
+    pub fn input(&mut self, slot: u8, bytes: &[u8]) -> Result<Typed, Refusal>
+        ensures call { IsCall {A = A} self.old
+            (Handle (record { slot = slot; what = EventKind.Input bytes.now }))
+            (typed_response result) self.new }
+        ensures whole { IsWhole {A = A} self.old
+            (record { slot = slot; what = EventKind.Input bytes.now })
+            (typed_response result) self.new }
+        ensures taken { IfOk result (λ typed. typed.progress ≡ Progress.More →
+            taken_at slot self.new ≡ Some typed.taken) }
+        ensures refused { IfErr result (λ why. (why ≡ Refusal.BadSlot) ⊎ (why ≡ Refusal.Busy)) }
+    {
+        match self.put_in(slot, bytes) {
+            Response::Answered(Reply::Took(taken)) => Ok(Typed {
+                taken,
+                progress: Progress::Done,
+            }),
+            Response::More => {
+                let Some(
+                    Pause {
+                        service: _,
+                        taken: Some(taken),
+                    },
+                ) = self.paced.paused(slot)
+                else {
+                    unreachable!()
+                };
+                Ok(Typed {
+                    taken,
+                    progress: Progress::More,
+                })
+            }
+            response => Err(Refusal::of(&response)),
+        }
+    }
+
+    /// Gives the guest's console another size, of which its driver is told. It is refused for a bad slot, and while a
+    /// service of the slot is paused.
+    pub fn resize(&mut self, slot: u8, cols: u16, rows: u16) -> Result<(), Refusal>
+        ensures call { IsCall {A = A} self.old
+            (Handle (record { slot = slot; what = EventKind.Resize cols rows }))
+            (done_response result) self.new }
+        ensures whole { IsWhole {A = A} self.old
+            (record { slot = slot; what = EventKind.Resize cols rows })
+            (done_response result) self.new }
+    {
+        let what = EventKind::Resize { cols, rows };
+        match self.step(&Event { slot, what }) {
+            Response::Answered(Reply::Done) => Ok(()),
+            response => Err(Refusal::of(&response)),
+        }
+    }
+}
+
+impl<A: Allocator> Session<A> {
+    /// What the slot's console put out and nobody has taken yet, in two parts.
+    pub fn output(&self, slot: u8) -> Option<(&[u8], &[u8])>
+        ensures there { IsSome result ↔ (slot < length self.now.slots) }
+        ensures value { IfSome result (λ parts. parts.0.now ++ parts.1.now ≡ output_of slot self.now) }
+    {
+        let output = self.outputs.get(slot as usize)?;
+        Some(output.waiting())
+    }
+
+    /// How many bytes of what the slot's console put out wait to be taken.
+    pub fn output_len(&self, slot: u8) -> Option<usize>
+        ensures there { IsSome result ↔ (slot < length self.now.slots) }
+        ensures value { IfSome result (λ count. count ≡ length (output_of slot self.now)) }
+    {
+        let output = self.outputs.get(slot as usize)?;
+        Some(output.len())
+    }
+
+    /// Moves the first bytes of what the slot's console put out into `into`, as many as find room, and
+    /// answers how many they are. The others stay.
+    pub fn take_output(&mut self, slot: u8, into: &mut [u8]) -> Option<usize>
+        ensures there { IsSome result ↔ (slot < length self.old.slots) }
+        ensures count { IfSome result (λ count.
+            count ≡ min (length (output_of slot self.old)) (length into.old)) }
+        ensures moved { IfSome result (λ count.
+            into.new ≡ take count (output_of slot self.old) ++ drop count into.old) }
+        ensures taken { IfSome result (λ count.
+            IsTaken self.old slot (length into.old) (take count (output_of slot self.old)) self.new) }
+        ensures missing { IfNone result (self.new ≡ self.old) }
+        ensures missing_into { IfNone result (into.new ≡ into.old) }
+    {
+        let output = self.outputs.get_mut(slot as usize)?;
+        Some(output.take(into))
+    }
+}

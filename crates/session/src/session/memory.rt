@@ -1,0 +1,97 @@
+//! A guest's memory between its accesses. Nothing here takes memory.
+
+ghost use Rattle.std.specs.Prelude.{◌≡◌, ◌⊎◌, ◌<◌, ◌↔◌, ◌≤◌, length, nat_lt, if◌then◌else◌, OnErr, IfOk, IfErr, IsErrOf, IsSomeAnd};
+ghost use Rattle.std.specs.Borrow.{sem, u8, Array, Lends};
+ghost use Rattle.std.specs.List.{slice_get};
+ghost use Rattle.board.specs.declared.event.EventKind.{EventKind};
+ghost use Rattle.session.specs.declared.refusal.Refusal.{Refusal};
+ghost use Rattle.session.specs.Pacing.{Handle};
+ghost use Rattle.session.specs.Answering.{bytes_response, done_response};
+ghost use Rattle.session.specs.Pausing.{IsCall, IsWhole};
+ghost use Rattle.session.specs.Session.{IsIdle, with_slot_bytes};
+ghost use Rattle.session.specs.contracts.session.Session.{the_row};
+
+use crate::refusal::Refusal;
+use crate::response::Response;
+use crate::session::Session;
+use board::{GuestMemory, Reply};
+use std::alloc::Allocator;
+
+impl<A: Allocator> Session<A> {
+    /// Copies bytes out of the slot's memory, from address `addr` on: the step of that read. After a
+    /// refusal `into` is as it was.
+    pub fn read_memory(&self, slot: u8, addr: u64, into: &mut [u8]) -> Result<(), Refusal>
+        ensures call { IsCall {A = A} self.now
+            (Handle (record { slot = slot; what = EventKind.MemRead addr (length into.old) }))
+            (bytes_response result into.new) self.now }
+        ensures whole { IsWhole {A = A} self.now
+            (record { slot = slot; what = EventKind.MemRead addr (length into.old) })
+            (bytes_response result into.new) self.now }
+        ensures kept { OnErr result (into.new ≡ into.old) }
+    {
+        if self.is_paused(slot) {
+            return Err(Refusal::Busy);
+        }
+        if self.paced.board().read_memory(slot, addr, into) {
+            return Ok(());
+        }
+        Err(self.out_of_range(slot))
+    }
+
+    /// Copies bytes into the slot's memory, from address `addr` on: the step of that write.
+    pub fn write_memory(&mut self, slot: u8, addr: u64, from: &[u8]) -> Result<(), Refusal>
+        ensures call { IsCall {A = A} self.old
+            (Handle (record { slot = slot; what = EventKind.MemWrite addr from.now }))
+            (done_response result) self.new }
+        ensures whole { IsWhole {A = A} self.old
+            (record { slot = slot; what = EventKind.MemWrite addr from.now })
+            (done_response result) self.new }
+    {
+        match self.store(slot, addr, from) {
+            Response::Answered(Reply::Done) => Ok(()),
+            response => Err(Refusal::of(&response)),
+        }
+    }
+
+    /// The slot's memory, as it stands. It is refused for a bad slot, and while a service of the slot is paused.
+    pub fn memory(&self, slot: u8) -> Result<&GuestMemory<A>, Refusal>
+        ensures value { IfOk result (λ memory.
+            IsSomeAnd (slice_get self.now.slots slot) (λ found. memory.now ≡ found.memory)) }
+        ensures idle { IfOk result (λ memory. IsIdle slot self.now) }
+        ensures refused { IfErr result (λ why. (why ≡ Refusal.BadSlot) ⊎ (why ≡ Refusal.Busy)) }
+        ensures missing { IsErrOf result Refusal.BadSlot ↔ (length self.now.slots ≤ slot) }
+        ensures busy { IsErrOf result Refusal.Busy → ¬ IsIdle slot self.now }
+    {
+        let Some(memory) = self.paced.board().memory(slot) else {
+            return Err(Refusal::BadSlot);
+        };
+        if self.is_paused(slot) {
+            return Err(Refusal::Busy);
+        }
+        Ok(memory)
+    }
+
+    /// The bytes of the slot's memory, to be read and written in place: as a whole the step of that write
+    /// (`a_write_in_place_is_an_event`). `slots` tells which slots there are, and `is_paused` which are busy.
+    pub fn memory_mut(&mut self, slot: u8) -> &mut [u8]
+        requires there { slot < length self.old.slots }
+        requires idle { IsIdle slot self.old }
+        ensures* writes_back { sem 𝓛 (Lends (the_row A.row A.Allocator) (Array u8 0) self.entry result
+            (with_slot_bytes slot self.old)) }
+        ensures value { IsSomeAnd (slice_get self.old.slots slot) (λ found. result.now ≡ found.memory.bytes) }
+    {
+        self.paced.memory_mut(slot)
+    }
+
+    // Why a range isn't inside the slot's memory.
+    fn out_of_range(&self, slot: u8) -> Refusal
+        ensures { result ≡ (if nat_lt slot (length self.now.slots) then Refusal.BadRange
+            else Refusal.BadSlot) }
+    {
+        if usize::from(slot) < self.paced.board().slots() {
+            Refusal::BadRange
+        } else {
+            Refusal::BadSlot
+        }
+    }
+}

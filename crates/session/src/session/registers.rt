@@ -1,0 +1,115 @@
+//! What a guest does to its devices' registers, and the words that stand for its interrupt lines.
+
+ghost use Rattle.std.specs.Prelude.{◌≡◌, length, false};
+ghost use Rattle.std.specs.List.{slice_get};
+ghost use Rattle.std.specs.Option.{option_map};
+ghost use Rattle.board.specs.declared.event.EventKind.{EventKind};
+ghost use Rattle.board.specs.Slot.{interrupt_words};
+ghost use Rattle.session.specs.Pacing.{Handle};
+ghost use Rattle.session.specs.Answering.{served_response, value_response};
+ghost use Rattle.session.specs.Pausing.{IsCall, IsWhole, WentOn};
+
+use crate::refusal::Refusal;
+use crate::response::Response;
+use crate::session::Session;
+use board::{DeviceKind, Event, EventKind, Reply};
+use chain::Progress;
+use std::alloc::Allocator;
+
+impl<A: Allocator + Copy> Session<A> {
+    /// A guest's read of `width` bytes, 1, 2 or 4, at an offset of a window: what its register gets,
+    /// extended by zeros. It is refused for a bad slot, and while a service of the slot is paused.
+    pub fn read(
+        &mut self,
+        slot: u8,
+        window: DeviceKind,
+        offset: u16,
+        width: u8,
+    ) -> Result<u32, Refusal>
+        ensures call { IsCall {A = A} self.old
+            (Handle (record { slot = slot; what = EventKind.Read window offset width }))
+            (value_response result) self.new }
+        ensures whole { IsWhole {A = A} self.old
+            (record { slot = slot; what = EventKind.Read window offset width })
+            (value_response result) self.new }
+    {
+        let what = EventKind::Read {
+            window,
+            offset,
+            width,
+        };
+        match self.step(&Event { slot, what }) {
+            Response::Answered(Reply::Value(value)) => Ok(value),
+            response => Err(Refusal::of(&response)),
+        }
+    }
+
+    /// A guest's write. What it notifies is served to its end, or until the budget is spent: then more is to come, and
+    /// `go_on` goes on with it. Where what its console puts out doesn't fit behind what waits it is refused: the chain
+    /// stays on offer, those before it are served, and the same write goes on with it once there is room.
+    pub fn write(
+        &mut self,
+        slot: u8,
+        window: DeviceKind,
+        offset: u16,
+        width: u8,
+        value: u32,
+    ) -> Result<Progress, Refusal>
+        ensures call { IsCall {A = A} self.old
+            (Handle (record { slot = slot; what = EventKind.Write window offset width value }))
+            (served_response result) self.new }
+        ensures whole { IsWhole {A = A} self.old
+            (record { slot = slot; what = EventKind.Write window offset width value })
+            (served_response result) self.new }
+    {
+        let what = EventKind::Write {
+            window,
+            offset,
+            width,
+            value,
+        };
+        match self.step(&Event { slot, what }) {
+            Response::Answered(Reply::Done) => Ok(Progress::Done),
+            Response::More => Ok(Progress::More),
+            response => Err(Refusal::of(&response)),
+        }
+    }
+
+    /// Goes on with the service of a slot that is paused, within the budget of one call, and answers as the write did
+    /// that it serves. Where none is paused there is nothing left to do.
+    pub fn go_on(&mut self, slot: u8) -> Result<Progress, Refusal>
+        ensures call { WentOn A self.old slot result self.new }
+    {
+        match self.serve_on(slot) {
+            Response::Answered(Reply::BadSlot) => Err(Refusal::BadSlot),
+            Response::Answered(Reply::NoMemory) => Err(Refusal::NoRoom),
+            Response::Answered(_) | Response::Idle => Ok(Progress::Done),
+            Response::More => Ok(Progress::More),
+            Response::Busy => Err(Refusal::Busy),
+        }
+    }
+}
+
+impl<A: Allocator> Session<A> {
+    /// InterruptStatus of the slot's block window and of its console window, in this order (4.2.2).
+    /// A window's interrupt line is raised while its word isn't 0.
+    pub fn interrupts(&self, slot: u8) -> Option<(u8, u8)>
+        ensures { result ≡ option_map interrupt_words (slice_get self.now.slots slot) }
+    {
+        self.paced.board().interrupts(slot)
+    }
+
+    /// Whether a call of the image failed in an event of the slot. None of an image in memory does.
+    pub fn disturbed(&self, slot: u8) -> Option<bool>
+        ensures { result ≡ option_map (λ found. false) (slice_get self.now.slots slot) }
+    {
+        self.paced.board().memory(slot).map(|_| false)
+    }
+
+    /// How many slots there are, from 1 to 64. They are numbered from 0.
+    pub fn slots(&self) -> usize
+        ensures { result ≡ length self.now.slots }
+    {
+        self.paced.board().slots()
+    }
+}
