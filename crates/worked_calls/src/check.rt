@@ -31,26 +31,27 @@ pub(crate) fn check_file<R: Files + AllocGlobal + Clone + Drop, W: Write>(
         writeln!(out, "{file} can't be read")?;
         return Ok(false);
     };
-    let Some((first, rows)) = text.split_once('\n') else {
-        writeln!(out, "{file} names no subject")?;
-        return Ok(false);
-    };
+    let (subject, rows) = text.split_once('\n').unwrap_or(("", ""));
+    check_subject(rt, file, subject, rows, out)
+}
+
+// Checks these rows of the subject that the file names.
+fn check_subject<R: AllocGlobal, W: Write>(
+    rt: &R,
+    file: &str,
+    subject: &str,
+    rows: &str,
+    out: &mut W,
+) -> io::Result<bool> {
     let alloc = rt.alloc();
-    match first {
-        "traces" => check_rows(rt, file, rows, &mut Traces::new(alloc), out),
+    match subject {
         "chains" => check_made(rt, file, rows, Chains::new(alloc), out),
-        "consoles" => {
-            let heap = RefusingHeap::new(alloc);
-            check_made(rt, file, rows, Consoles::new(alloc, &heap), out)
-        }
-        "guests" => {
-            let local = LocalHeap::new(alloc, HEAP)?;
-            let heap = RefusingHeap::new(&local);
-            check_rows(rt, file, rows, &mut Guests::new(alloc, &local, &heap), out)
-        }
+        "consoles" => check_consoles(rt, file, rows, out),
+        "guests" => check_guests(rt, file, rows, out),
         "memory" => check_made(rt, file, rows, Memory::new(alloc), out),
         "requests" => check_made(rt, file, rows, Requests::new(alloc), out),
         "rings" => check_made(rt, file, rows, Rings::new(alloc), out),
+        "traces" => check_made(rt, file, rows, Ok(Traces::new(alloc)), out),
         "wants" => check_made(rt, file, rows, Wants::new(alloc), out),
         "windows" => check_made(rt, file, rows, Windows::new(alloc), out),
         _ => {
@@ -58,6 +59,27 @@ pub(crate) fn check_file<R: Files + AllocGlobal + Clone + Drop, W: Write>(
             Ok(false)
         }
     }
+}
+
+fn check_consoles<R: AllocGlobal, W: Write>(
+    rt: &R,
+    file: &str,
+    rows: &str,
+    out: &mut W,
+) -> io::Result<bool> {
+    let heap = RefusingHeap::new(rt.alloc());
+    check_made(rt, file, rows, Consoles::new(rt.alloc(), &heap), out)
+}
+
+fn check_guests<R: AllocGlobal, W: Write>(
+    rt: &R,
+    file: &str,
+    rows: &str,
+    out: &mut W,
+) -> io::Result<bool> {
+    let local = LocalHeap::new(rt.alloc(), HEAP)?;
+    let heap = RefusingHeap::new(&local);
+    check_rows(rt, file, rows, &mut Guests::new(rt.alloc(), &local, &heap), out)
 }
 
 // Checks these rows of a subject, if that could be made.
@@ -113,25 +135,28 @@ fn check_row<R: AllocGlobal, S: Subject, W: Write>(
     out: &mut W,
 ) -> io::Result<bool> {
     let mut answer = String::new(rt.alloc());
-    let Row {
-        call,
-        answer: expected,
-    } = row;
-    let mut words = Words::new(call);
+    let mut words = Words::new(row.call);
     let made = subject.call(&mut words, &mut answer);
-    let found = answer.as_str();
-    match words.judge(made) {
-        Ok(()) if found == expected => Ok(true),
-        Ok(()) => {
-            writeln!(
-                out,
-                "{file} line {number}: {call}: expected {expected}, found {found}"
-            )?;
-            Ok(false)
-        }
-        Err(stuck) => {
-            writeln!(out, "{file} line {number}: {call}: {stuck}")?;
-            Ok(false)
-        }
+    tell(file, number, row, words.judge(made), answer.as_str(), out)
+}
+
+// Is the answer of a row's call the one that it must give? Writes where it isn't.
+fn tell<W: Write>(
+    file: &str,
+    number: usize,
+    row: Row<'_>,
+    made: Result<(), Stuck>,
+    found: &str,
+    out: &mut W,
+) -> io::Result<bool> {
+    let Row { call, answer } = row;
+    match made {
+        Ok(()) if found == answer => return Ok(true),
+        Ok(()) => writeln!(
+            out,
+            "{file} line {number}: {call}: expected {answer}, found {found}"
+        )?,
+        Err(stuck) => writeln!(out, "{file} line {number}: {call}: {stuck}")?,
     }
+    Ok(false)
 }
