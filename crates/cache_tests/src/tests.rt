@@ -43,7 +43,7 @@ fn same<R: Debug, T: PartialEq + Debug>(rt: &impl Abort, row: &R, found: &T, wan
 /// A length, and why there is no image of so many bytes.
 type Length = (usize, Option<ImageFault>);
 
-const LENGTHS: [Length; 3] = [(0, None), (511, Some(ImageFault::BadSize)), (512, None)];
+static LENGTHS: [Length; 3] = [(0, None), (511, Some(ImageFault::BadSize)), (512, None)];
 
 fn check_length(rt: &impl Abort, alloc: Global, row: &Length) -> Result<(), Fail> {
     let (length, fault) = *row;
@@ -64,7 +64,7 @@ fn images_have_whole_sectors(rt: HostRuntime) -> Result<(), Fail> {
 /// A capacity, and why there is no cache of so many sectors.
 type Capacity = (u32, Option<CacheFault>);
 
-const CAPACITIES: [Capacity; 4] = [
+static CAPACITIES: [Capacity; 4] = [
     (0, Some(CacheFault::BadCapacity)),
     (1, None),
     (65536, None),
@@ -125,7 +125,7 @@ pub(crate) fn four_calls<I: Image>(image: &mut I) -> Option<Answers> {
 /// The call that fails, or 4 for none; what the calls give; the halves that are left in sector 1.
 type Listed = (u64, Answers, [u8; 2]);
 
-const LISTED: [Listed; 5] = [
+static LISTED: [Listed; 5] = [
     (4, (ZERO, [true, true], NEW), [0x55, 0x55]),
     (0, (None, [true, true], NEW), [0x55, 0x55]),
     (1, (ZERO, [false, true], TORN), [0x55, 0x11]),

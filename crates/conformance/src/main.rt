@@ -1,42 +1,44 @@
-//! `conformance`: replays worked scenarios, and tells of each whether it gives what its files say.
+//! `conformance`: replays worked scenarios and makes worked calls, and tells of each whether it gives what its files say.
 //!
-//! `conformance FOLDER ..` takes the scenarios of each FOLDER. A scenario is a pair of files, a trace and the records
-//! that it must give; the folder's `README.md` lists them all, and `data/scenarios` says what may lie beside a pair.
-//! `page` takes the names from that list, `scenario` reads the files of one, `replayed` replays it over memory,
-//! `versions` has the same trace in version 2, which must give the same, `difference` compares, `strays` finds files that belong to no scenario, and `check` puts these in their order.
-//! `finding` has why a scenario can't be compared. A new scenario is files and a line of the list, and no code.
+//! `conformance WORD ..` makes the calls of each WORD that ends in `.calls` (`calls`), and takes every other as a folder of
+//! scenarios (`scenarios`). A new scenario or call is lines of files, and no code.
 #![tactic(auto)]
 
-mod check;
-mod difference;
-mod finding;
-mod page;
-mod replayed;
-mod scenario;
-mod strays;
-mod versions;
+mod calls;
+mod scenarios;
 
-use check::check_folder;
+use calls::check_file;
+use scenarios::check_folder;
 use std::process::ExitCode;
 use std::rt::{Env, Files};
 use std::{env, io};
 
 fn main(rt: HostRuntime) -> ExitCode {
-    match check_folders(&rt) {
+    match check_all(&rt) {
         Ok(true) => ExitCode::SUCCESS,
         _ => ExitCode::FAILURE,
     }
 }
 
-/// Checks each folder that a word names. The answer is whether there is one, and all is well.
-fn check_folders(rt: &(impl Env + Files + Print + AllocGlobal + Clone + Drop)) -> io::Result<bool> {
+/// Checks what each word names. The answer is whether there is one, and all is well.
+fn check_all(rt: &(impl Env + Files + Print + AllocGlobal + Clone + Drop)) -> io::Result<bool> {
     let mut any = false;
     let mut all_well = true;
-    for folder in env::args(rt)?.skip(1) {
+    for word in env::args(rt)?.skip(1) {
         any = true;
-        if !check_folder(rt, folder.as_str(), &mut io::writer(rt))? {
+        if !check(rt, word.as_str())? {
             all_well = false;
         }
     }
     Ok(any && all_well)
+}
+
+// Checks a file of calls, or a folder of scenarios.
+fn check(rt: &(impl Files + Print + AllocGlobal + Clone + Drop), word: &str) -> io::Result<bool> {
+    let mut out = io::writer(rt);
+    if word.ends_with(".calls") {
+        check_file(rt, word, &mut out)
+    } else {
+        check_folder(rt, word, &mut out)
+    }
 }

@@ -28,7 +28,7 @@ fn image_of(
 /// The length of a file, what happens to its first call, and how many sectors its image has or why there is none.
 type Length = (usize, Option<(u32, Trouble)>, Result<u64, FileImageFault>);
 
-const LENGTHS: [Length; 6] = [
+static LENGTHS: [Length; 6] = [
     (0, None, Ok(0)),
     (511, None, Err(FileImageFault::BadSize)),
     (512, None, Ok(1)),
@@ -71,7 +71,7 @@ const UNREAD_AGAIN: Course = ((ZERO, [true, true], None), 1, [0x55, 0x55], true)
 /// What happens to one of the file's calls, numbered with that for its length, and what comes of it.
 type Row = (Option<(u32, Trouble)>, Course);
 
-const ROWS: [Row; 13] = [
+static ROWS: [Row; 13] = [
     (None, DONE),
     (Some((1, Trouble::Fails)), UNREAD),
     (Some((1, Trouble::Short(511))), DONE),
@@ -130,7 +130,7 @@ type Lost = (
 );
 
 /// After a sync that failed none is tried, and each flush fails.
-const LOST: [Lost; 3] = [
+static LOST: [Lost; 3] = [
     (None, [true, true, true, true], 0, None, 7),
     (
         Some((2, Trouble::Fails)),
@@ -186,7 +186,7 @@ fn real_file<R: Files>(rt: &R, path: &str, writes: bool) -> io::Result<R::File> 
 /// more of the shorter file.
 type Real = (bool, Answers, [u64; 2]);
 
-const REAL: [Real; 2] = [
+static REAL: [Real; 2] = [
     (true, (ZERO, [true, true], NEW), [0, 2]),
     (false, (ZERO, [false, true], OLD), [1, 3]),
 ];

@@ -37,7 +37,7 @@ fn check_step(rt: &impl Abort, name: &str, cache: &mut SectorCache<ScriptedImage
 /// A capacity, and how often the image was called after each of five reads.
 type Kept<'a> = (&'a str, u32, [u64; 5]);
 
-const KEPT: [Kept; 3] = [
+static KEPT: [Kept; 3] = [
     ("one is kept", 1, [1, 2, 3, 4, 5]),
     ("two are kept", 2, [1, 2, 2, 3, 4]),
     ("three are kept", 3, [1, 2, 2, 3, 3]),
@@ -76,7 +76,7 @@ struct Case<'a> {
     steps: &'a [Step],
 }
 
-const CASES: [Case; 6] = [
+static CASES: [Case; 6] = [
     Case {
         name: "a sector that was written is kept",
         capacity: 2,
@@ -175,7 +175,7 @@ fn largest(alloc: Global) -> Result<SectorCache<ScriptedImage>, Fail> {
 }
 
 /// Once 1, 65536 and 2 were read again, 3 gives way to 0.
-const AGAIN: [Step; 5] = [
+static AGAIN: [Step; 5] = [
     (Call::Read(1), Some([0x7f, 0x7f]), 65537),
     (Call::Read(65536), Some([0x7f, 0x7f]), 65537),
     (Call::Read(2), Some([0x7f, 0x7f]), 65537),

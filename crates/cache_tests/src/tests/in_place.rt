@@ -36,7 +36,7 @@ fn an_image_in_memory_lends(rt: HostRuntime) -> Result<(), Fail> {
 }
 
 /// Calls of a cache of two sectors, and what each gives.
-const STEPS: [(Call, Given); 7] = [
+static STEPS: [(Call, Given); 7] = [
     (Call::Read(3), Some([0x13, 0x13])),
     (Call::Write(3, 0x66), Some([0x66, 0x66])),
     (Call::Read(3), Some([0x66, 0x66])),

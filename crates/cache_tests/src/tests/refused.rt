@@ -53,7 +53,7 @@ pub fn requests_of<I: Image + Drop>(
 }
 
 /// Calls of a cache of two sectors, and what each gives.
-const CALLS: [(Call, Given); 7] = [
+static CALLS: [(Call, Given); 7] = [
     (Call::Read(0), Some([0x10, 0x10])),
     (Call::Write(1, 0x55), Some([0x55, 0x55])),
     (Call::Read(1), Some([0x55, 0x55])),

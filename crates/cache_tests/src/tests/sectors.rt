@@ -11,7 +11,7 @@ pub fn filled(byte: u8) -> [u8; 512] {
 }
 
 /// The halves of eight sectors, of which each byte is 10 (hexadecimal) and the sector's number.
-const EIGHT: [u8; 16] = [
+static EIGHT: [u8; 16] = [
     0x10, 0x10, 0x11, 0x11, 0x12, 0x12, 0x13, 0x13, 0x14, 0x14, 0x15, 0x15, 0x16, 0x16, 0x17, 0x17,
 ];
 

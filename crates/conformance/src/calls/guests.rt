@@ -1,0 +1,180 @@
+//! `guests`: guests on a board, over an image whose listed calls fail, or in a session; and a heap that may refuse.
+
+mod boards;
+mod runs;
+mod sessions;
+mod snapshots;
+
+use crate::calls::answer::{put_number, put_word};
+use crate::calls::subject::{Stuck, Subject};
+use crate::calls::words::Words;
+use board::{Board, Event, Extent, SlotSpec};
+use session::{Budget, GuestSpec, Session};
+use linked_list_allocator::LocalHeap;
+use refusing::RefusingHeap;
+use sector_cache::ScriptedImage;
+use std::alloc::{AllocError, Allocator, Global};
+use trace::event_of_line;
+
+/// A board or a session, and what the next one is asked for.
+#[derive(Drop)]
+pub(crate) struct Guests<'h, B: Allocator> {
+    alloc: Global,
+    local: &'h LocalHeap,
+    heap: &'h RefusingHeap<B>,
+    image: Vec<u8>,
+    failing: Vec<u64>,
+    guests: Vec<GuestSpec>,
+    budget: Budget,
+    events: Vec<Event<&'h RefusingHeap<B>>, &'h RefusingHeap<B>>,
+    refused: u64,
+    board: Option<Board<ScriptedImage, &'h RefusingHeap<B>>>,
+    session: Option<Session<&'h RefusingHeap<B>>>,
+    left: Vec<u8, &'h RefusingHeap<B>>,
+}
+
+impl<'h, B: Allocator> Guests<'h, B> {
+    pub(crate) fn new(
+        alloc: Global,
+        local: &'h LocalHeap,
+        heap: &'h RefusingHeap<B>,
+    ) -> Guests<'h, B> {
+        Guests {
+            alloc,
+            local,
+            heap,
+            image: Vec::new(alloc),
+            failing: Vec::new(alloc),
+            guests: Vec::new(alloc),
+            budget: Budget::UNLIMITED,
+            events: Vec::new(heap),
+            refused: 0,
+            board: None,
+            session: None,
+            left: Vec::new(heap),
+        }
+    }
+
+    // Begins anew, over an image of so many bytes whose calls of these numbers fail. Each byte of sector k is 10 + k.
+    fn begin(&mut self, words: &mut Words<'_>, answer: &mut String) -> Result<(), Stuck> {
+        let image = image_of(self.alloc, words.u32())?;
+        let failing = numbers_of(self.alloc, &words.bytes(self.alloc)?)?;
+        *self = Guests::new(self.alloc, self.local, self.heap);
+        self.image = image;
+        self.failing = failing;
+        put_word(answer, "ok")
+    }
+
+    // Asks for so many guests more, each with so much room for its output.
+    fn ask(&mut self, words: &mut Words<'_>, answer: &mut String) -> Result<(), Stuck> {
+        let times = words.u8();
+        let outlet = words.u32();
+        let slot = slot_of(words);
+        for _ in 0..times {
+            self.guests.push(GuestSpec { slot, outlet })?;
+        }
+        put_word(answer, "ok")
+    }
+
+    // Puts an event behind the list.
+    fn plan(&mut self, words: &mut Words<'_>, answer: &mut String) -> Result<(), Stuck> {
+        self.events.push(event_of(self.heap, words.rest())?)?;
+        put_word(answer, "ok")
+    }
+
+    // A driver brings a device of a slot up with one queue, of so many entries.
+    fn bring_up(&mut self, words: &mut Words<'_>, answer: &mut String) -> Result<(), Stuck> {
+        let (slot, window) = (words.word(), words.word());
+        for (offset, value) in &bring_up(words.u32(), words.u32()) {
+            let line = format!(in self.alloc; "w {slot} {window} {offset:03x} 4 {value:08x}")?;
+            self.event(line.as_str(), &mut String::new(self.alloc))?;
+        }
+        put_word(answer, "ok")
+    }
+
+    /// The call of an event, of the session or the board.
+    pub(super) fn event(&mut self, line: &str, answer: &mut String) -> Result<(), Stuck> {
+        if self.session.is_some() {
+            let event = event_of(self.alloc, line)?;
+            self.call_event(&event, answer)
+        } else {
+            self.handle(event_of(self.heap, line)?, answer)
+        }
+    }
+}
+
+impl<B: Allocator> Subject for Guests<'_, B> {
+    fn call(&mut self, words: &mut Words<'_>, answer: &mut String) -> Result<(), Stuck> {
+        match words.word() {
+            "image" => self.begin(words, answer),
+            "guests" => self.ask(words, answer),
+            "up" => self.bring_up(words, answer),
+            "event" => self.plan(words, answer),
+            "used" => put_number(answer, self.local.used() as u64),
+            "board" => self.make_board(words, answer),
+            "session" => self.make_session(words, answer),
+            word => self.call_board(word, words, answer),
+        }
+    }
+}
+
+// An image of so many bytes, of which each of sector k is 10 + k.
+fn image_of(alloc: Global, len: u32) -> Result<Vec<u8>, AllocError> {
+    let mut image = Vec::new(alloc);
+    for at in 0..len {
+        image.push(0x10 + (at / 512 % 0xf0) as u8)?;
+    }
+    Ok(image)
+}
+
+// Bytes as numbers.
+fn numbers_of(alloc: Global, bytes: &[u8]) -> Result<Vec<u64>, AllocError> {
+    let mut numbers = Vec::new(alloc);
+    for byte in bytes {
+        numbers.push(u64::from(*byte))?;
+    }
+    Ok(numbers)
+}
+
+// What a driver writes that accepts VERSION_1 alone and makes a queue ready (3.1.1, 4.2.3.2): offsets and values.
+fn bring_up(queue: u32, size: u32) -> [(u16, u32); 12] {
+    [
+        (0x070, 0x1),
+        (0x070, 0x3),
+        (0x024, 1),
+        (0x020, 1),
+        (0x070, 0xb),
+        (0x030, queue),
+        (0x038, size),
+        (0x080, 0x8000_1000),
+        (0x090, 0x8000_2000),
+        (0x0a0, 0x8000_3000),
+        (0x044, 1),
+        (0x070, 0xf),
+    ]
+}
+
+// A slot by four words: where its memory begins and how long it is, its first sector, and how many it has.
+fn slot_of(words: &mut Words<'_>) -> SlotSpec {
+    SlotSpec {
+        base: words.u64(),
+        len: words.u64(),
+        extent: Extent {
+            start: words.u64(),
+            count: words.u64(),
+        },
+        read_only: false,
+        cols: 80,
+        rows: 25,
+        identity: *b"disk-of-the-tests-01",
+    }
+}
+
+// The event that a line of a trace says.
+fn event_of<A: Allocator + Copy>(alloc: A, line: &str) -> Result<Event<A>, Stuck> {
+    match event_of_line(alloc, line.as_bytes()) {
+        Ok(Some(event)) => Ok(event),
+        Ok(None) => Err(Stuck::Words),
+        Err(_) => Err(Stuck::NoMemory),
+    }
+}

@@ -1,0 +1,186 @@
+//! A board: made, refused, and what its events are answered.
+
+ghost use Rattle.std.specs.Prelude.{All};
+ghost use Rattle.board.specs.Line.{HasInterruptWords};
+
+use super::Guests;
+use crate::calls::answer::{put_flag, put_number, put_word, written};
+use crate::calls::subject::Stuck;
+use crate::calls::words::Words;
+use board::{Board, BoardFault, Event, Image, Record, Refused, SlotSpec};
+use refusing::RefusingHeap;
+use sector_cache::ScriptedImage;
+use std::alloc::Allocator;
+use std::str;
+use trace::print_records;
+
+/// The board of guests, or why it is refused and whether the image comes back as it was.
+pub(super) type Made<'h, B> = Result<Board<ScriptedImage, &'h RefusingHeap<B>>, (BoardFault, bool)>;
+
+impl<'h, B: Allocator> Guests<'h, B> {
+    /// Makes a call of a board, or another one.
+    pub(super) fn call_board(
+        &mut self,
+        word: &str,
+        words: &mut Words<'_>,
+        answer: &mut String,
+    ) -> Result<(), Stuck> {
+        match word {
+            "boards" => self.boards(words, answer),
+            "disturbed" => self.disturbed(words, answer),
+            "refuse_from" => self.refuse_from(words, answer),
+            "runs_alone" => self.runs(words, true, answer),
+            "runs_on" => self.runs(words, false, answer),
+            "record" => put_number(answer, size_of::<Record>() as u64),
+            _ => self.call_snapshots(word, words, answer),
+        }
+    }
+
+    // From now on the nth request for memory of each event is refused, and those behind it.
+    fn refuse_from(&mut self, words: &mut Words<'_>, answer: &mut String) -> Result<(), Stuck> {
+        self.refused = words.u64();
+        put_word(answer, "ok")
+    }
+
+    /// The board that was asked for.
+    pub(super) fn made(&self, cache: u32) -> Result<Made<'h, B>, Stuck> {
+        let mut slots = Vec::with_capacity(self.alloc, self.guests.len())?;
+        for guest in &self.guests {
+            slots.push(guest.slot)?;
+        }
+        let failing = self.failing.to_vec(self.alloc)?;
+        let Ok(image) = ScriptedImage::new(self.image.to_vec(self.alloc)?, failing) else {
+            return Err(Stuck::Conditions);
+        };
+        Ok(match board_of(self.heap, &slots, image, cache) {
+            Ok(board) => Ok(board),
+            Err(refused) => Err((refused.why, refused.image.bytes() == self.image.as_slice())),
+        })
+    }
+
+    /// Makes it, while a request for memory is refused.
+    pub(super) fn make_board(
+        &mut self,
+        words: &mut Words<'_>,
+        answer: &mut String,
+    ) -> Result<(), Stuck> {
+        self.board = None;
+        match self.made(words.u32())? {
+            Ok(board) => {
+                self.board = Some(board);
+                put_word(answer, "ok")
+            }
+            Err((why, same)) => {
+                let end = if same { "" } else { " and another image" };
+                written(write!(answer, "{why:?}{end}"))
+            }
+        }
+    }
+
+    /// Handles an event, with room for its record and the nth request for other memory refused: the record.
+    pub(super) fn handle(
+        &mut self,
+        event: Event<&'h RefusingHeap<B>>,
+        answer: &mut String,
+    ) -> Result<(), Stuck> {
+        let mut records = Vec::with_capacity(self.heap, 1)?;
+        if !self.run_one(event, &mut records)? {
+            return Err(Stuck::NoMemory);
+        }
+        put_records(self.heap, &records, answer)
+    }
+
+    // Handles it, and appends its record: whether there was room for that.
+    fn run_one(
+        &mut self,
+        event: Event<&'h RefusingHeap<B>>,
+        records: &mut Vec<Record<&'h RefusingHeap<B>>, &'h RefusingHeap<B>>,
+    ) -> Result<bool, Stuck>
+        requires { All HasInterruptWords records.old.items }
+        ensures { All HasInterruptWords records.new.items }
+    {
+        let mut events = Vec::with_capacity(self.heap, 1)?;
+        events.push(event)?;
+        let Some(board) = &mut self.board else {
+            return Err(Stuck::Conditions);
+        };
+        self.heap.refuse_from(self.refused);
+        let is_done = run(board, &events, records);
+        self.heap.refuse_from(0);
+        Ok(is_done)
+    }
+
+    /// Whether a slot has met a refusal.
+    fn disturbed(&self, words: &mut Words<'_>, answer: &mut String) -> Result<(), Stuck> {
+        let Some(board) = &self.board else {
+            return Err(Stuck::Conditions);
+        };
+        match board.disturbed(words.u8()) {
+            Some(flag) => put_flag(answer, flag),
+            None => put_word(answer, "none"),
+        }
+    }
+
+    /// Makes the board with each request for memory refused, and those behind it: `ok` where each time it is refused for
+    /// want of memory, the image comes back, and so does all memory; and where each slot takes some.
+    fn boards(&self, words: &mut Words<'_>, answer: &mut String) -> Result<(), Stuck> {
+        let cache = words.u32();
+        let used = self.local.used();
+        let (_, requests) = self.refused_at(0, cache)?;
+        for n in 1..=requests {
+            let (refusal, _) = self.refused_at(n, cache)?;
+            if refusal != Some((BoardFault::NoMemory, true)) || self.local.used() != used {
+                return put_number(answer, n);
+            }
+        }
+        let is_enough = requests > self.guests.len() as u64;
+        put_word(answer, if is_enough { "ok" } else { "too few" })
+    }
+
+    // Makes it with the nth request refused: why there is no board, and how many requests there were.
+    fn refused_at(&self, n: u64, cache: u32) -> Result<(Option<(BoardFault, bool)>, u64), Stuck> {
+        self.heap.refuse_from(n);
+        let refusal = self.made(cache)?.err();
+        let requests = self.heap.requests();
+        self.heap.refuse_from(0);
+        Ok((refusal, requests))
+    }
+}
+
+// What `new` and `run` promise isn't needed here, and is dear to prove of this image and this heap.
+fn board_of<I: Image, A: Allocator + Copy>(
+    heap: A,
+    slots: &[SlotSpec],
+    image: I,
+    cache: u32,
+) -> Result<Board<I, A>, Refused<I, BoardFault>> {
+    Board::new(heap, slots, image, cache)
+}
+
+fn run<I: Image, A: Allocator + Copy>(
+    board: &mut Board<I, A>,
+    events: &[Event<A>],
+    records: &mut Vec<Record<A>, A>,
+) -> bool
+    requires { All HasInterruptWords records.old.items }
+    ensures { All HasInterruptWords records.new.items }
+{
+    board.run(events, records).is_ok()
+}
+
+// The lines of records, without the last one's end.
+fn put_records<A: Allocator>(
+    alloc: A,
+    records: &[Record<A>],
+    answer: &mut String,
+) -> Result<(), Stuck>
+    requires { All HasInterruptWords records.now }
+{
+    let Ok(bytes) = print_records(alloc, records) else {
+        return Err(Stuck::NoMemory);
+    };
+    match str::from_utf8(&bytes) {
+        Ok(text) => put_word(answer, text.trim_end()),
+        Err(_) => Err(Stuck::Conditions),
+    }
+}

@@ -1,5 +1,0 @@
-use Rattle.chain.proofs.Admitting.{good_nil}
-use Rattle.worked_calls.proofs.chains.good_chain.Goals as goal
-
-pub loop-buffer-init : goal.loop-buffer-init
-loop-buffer-init c = rw c.new-chain.ensures (good_nil c.args.mem.now)
