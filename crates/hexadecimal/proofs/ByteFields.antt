@@ -1,12 +1,10 @@
 -- Bytes spelled by digits: which fields spell some.
-use Rattle.std.proofs.Common.{◌≡◌, ◌≢◌, ℕ, suc, ◌+◌, ◌*◌, ◌/◌, ◌%◌, ◌^◌, ◌<◌, Bool, true, false, IsTrue, ◌↔◌, List, [], ◌∷◌, ◌++◌, All, length, get_or, take, drop, MatchResult, Result, Ok, Err, take-append-drop, append_assoc, append-nil, refl, sym, ap, subst, ◌∙◌, arith, inl, inr}
+use Rattle.std.proofs.Common.{◌≡◌, ◌≢◌, ℕ, suc, ◌+◌, ◌*◌, ◌/◌, ◌%◌, ◌^◌, ◌<◌, Bool, true, false, IsTrue, ◌↔◌, List, [], ◌∷◌, ◌++◌, All, length, get_or, take, drop, take-append-drop, append_assoc, append-nil, refl, sym, ap, subst, ◌∙◌, arith, inl, inr}
 use Rattle.std.proofs.lemmas.List.{get_or_past}
 use Rattle.std.proofs.lemmas.Bool.{cases_lt, false≢true}
 use Rattle.std.proofs.lemmas.List.Elements.{All-cons, All-nil, recursion_from_All}
 use Rattle.hex.specs.Hex.{encode_lower, encode_with, lower_digits, IsBytes}
-use Rattle.hex.specs.Hex.{decode_sized}
-use Rattle.hex.specs.declared.error.FromHexError.{FromHexError}
-use Rattle.hex.proofs.HexLemmas.{decode_sized-encode_lower, length-encode_with}
+use Rattle.hex.proofs.HexLemmas.{length-encode_with}
 use Rattle.hexadecimal.specs.Spelling.{digit, bytes}
 use Rattle.hexadecimal.specs.Fields.{ArePairs, IsDigit, IsBytesField, SpellsBytes}
 
@@ -64,18 +62,6 @@ pairs_decoded (a ∷ b ∷ field) even h =
       spelled = pair_decoded a b high.value low.value more.bs field second high.is low.is more.spelled;
       fits = All-cons (λ x. x < 2 ^ 8) v more.bs (omega arith) more.fits;
     }
-
--- what `hex` reads of digits, two and two, are the bytes that they spell
-pub by_hex : (digits out read : List ℕ) (result : Result Unit FromHexError) → All IsDigit digits → length digits ≡ 2 * length out
-    → MatchResult (decode_sized digits (length out)) (λ bs. (result ≡ Ok tt) × (read ≡ bs)) (λ e. result ≡ Err e)
-    → (encode_lower read ≡ digits) × AreBytes read
-by_hex digits out read result are size gives =
-    let spelled = pairs_decoded digits (omega (arith, size)) are in
-    let len : length spelled.bs ≡ length out = omega (arith, size, ap length spelled.spelled, length-encode_with lower_digits spelled.bs) in
-    let decoded : decode_sized digits (length out) ≡ Ok spelled.bs =
-    subst (λ (t : List ℕ). decode_sized t (length out) ≡ Ok spelled.bs) spelled.spelled (decode_sized-encode_lower spelled.bs (length out) len (is_bytes spelled.bs spelled.fits)) in
-    let same = (rw decoded at gives).1 in
-    (ap encode_lower same ∙ spelled.spelled, subst AreBytes (sym same) spelled.fits)
 
 pub pairs_say : (field : List ℕ) → ArePairs field → SpellsBytes field
 pairs_say field pairs =

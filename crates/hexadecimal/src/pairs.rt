@@ -1,5 +1,4 @@
-//! Bytes as pairs of digits, and back: few by `hex`, and many by loops without a branch in their bodies, so that many bytes
-//! are taken at once.
+//! Bytes as pairs of digits, and back, by loops without a branch in their bodies, so that many bytes are taken at once.
 
 ghost use Rattle.std.specs.Prelude.{◌≡◌, ◌*◌, ◌/◌, ◌%◌, ◌^◌, ◌<◌, All, length};
 ghost use Rattle.hex.specs.Hex.{encode_lower};
@@ -8,37 +7,8 @@ ghost use Rattle.hexadecimal.specs.Fields.{IsDigit};
 
 use crate::digit::digit_of;
 
-/// Up to so many bytes go by `hex`. It takes one after another, and a long field would take it three times as long.
-const FEW: usize = 64;
-
 /// Writes bytes by two digits each.
 pub fn spell(bytes: &[u8], digits: &mut [u8])
-    requires { length digits.old ≡ 2 * length bytes.now }
-    ensures { digits.new ≡ encode_lower bytes.now }
-{
-    if bytes.len() <= FEW {
-        let _ = hex::encode_to_slice(bytes, digits);
-    } else {
-        spell_many(bytes, digits);
-    }
-}
-
-/// Writes the bytes that the digits spell, two for each.
-pub fn read_pairs(digits: &[u8], bytes: &mut [u8])
-    requires digits { All IsDigit digits.now }
-    requires size { length digits.now ≡ 2 * length bytes.old }
-    ensures spelled { encode_lower bytes.new ≡ digits.now }
-    ensures fits { All (λ b. b < 2 ^ 8) bytes.new }
-{
-    if bytes.len() <= FEW {
-        let _ = hex::decode_to_slice(digits, bytes);
-    } else {
-        read_many(digits, bytes);
-    }
-}
-
-// The same of many bytes.
-fn spell_many(bytes: &[u8], digits: &mut [u8])
     requires { length digits.old ≡ 2 * length bytes.now }
     ensures { digits.new ≡ encode_lower bytes.now }
 {
@@ -49,8 +19,8 @@ fn spell_many(bytes: &[u8], digits: &mut [u8])
     }
 }
 
-// The same of many bytes.
-fn read_many(digits: &[u8], bytes: &mut [u8])
+/// Writes the bytes that the digits spell, two for each.
+pub fn read_pairs(digits: &[u8], bytes: &mut [u8])
     requires digits { All IsDigit digits.now }
     requires size { length digits.now ≡ 2 * length bytes.old }
     ensures spelled { encode_lower bytes.new ≡ digits.now }

@@ -1,5 +1,5 @@
 use Rattle.hexadecimal.proofs.PairSteps.{AreRead}
-use Rattle.hexadecimal.proofs.pairs.read_many.Given as goal
+use Rattle.hexadecimal.proofs.pairs.read_pairs.Given as goal
 
 -- the bytes so far have the digits so far
 abbrev pub invariant-loop-i : goal.invariant-loop-i

@@ -1,6 +1,6 @@
 use Rattle.std.proofs.Common.{◌≡◌, ◌*◌, ◌++◌, take, drop}
 use Rattle.hex.specs.Hex.{encode_lower}
-use Rattle.hexadecimal.proofs.pairs.spell_many.Given as goal
+use Rattle.hexadecimal.proofs.pairs.spell.Given as goal
 
 -- the bytes before the i-th are written
 abbrev pub invariant-loop-i : goal.invariant-loop-i

@@ -2,7 +2,7 @@ use Rattle.std.proofs.Common.{arith}
 use Rattle.hex.specs.Hex.{lower_digits}
 use Rattle.hex.proofs.Pairs.{encode_step, encode_done}
 use Rattle.hexadecimal.specs.Spelling.{digit}
-use Rattle.hexadecimal.proofs.pairs.spell_many.Goals as goal
+use Rattle.hexadecimal.proofs.pairs.spell.Goals as goal
 
 pub loop-i-preserved : goal.loop-i-preserved
 unfolding digit
