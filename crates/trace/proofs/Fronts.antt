@@ -1,5 +1,5 @@
 -- A number at the front of a line, and a line before its line feed, field by field.
-use Rattle.std.proofs.Common.{◌≡◌, ◌≢◌, ℕ, zero, suc, ◌+◌, ◌*◌, ◌<◌, List, [], ◌∷◌, ◌++◌, length, get_or, take, drop, refl, sym, ap, ◌∙◌, arith}
+use Rattle.std.proofs.Common.{◌≡◌, ◌≢◌, ℕ, zero, suc, ◌+◌, ◌*◌, ◌%◌, ◌<◌, ◌≤◌, List, [], ◌∷◌, ◌++◌, All, length, length-take, get_or, take, drop, refl, sym, ap, subst, ◌∙◌, arith}
 use Rattle.std.proofs.lemmas.List.{append_assoc, take-append-drop}
 use Rattle.board.specs.declared.event.EventKind.TheVariants as event
 use Rattle.mmio_window.specs.declared.device_kind.DeviceKind.{DeviceKind}
@@ -9,6 +9,8 @@ use Rattle.trace.specs.Said.{said_line}
 use Rattle.trace.specs.Spelling.{width_digit, window}
 use Rattle.trace.specs.Text.{line}
 use Rattle.trace.specs.Words.{spelled}
+use Rattle.hexadecimal.specs.Fields.{IsDigit, SpellsBytes}
+use Rattle.hexadecimal.proofs.ByteFields.{pairs_say}
 use Rattle.hexadecimal.proofs.Numbers.{num_digit, num_push}
 use Rattle.hexadecimal.specs.Spelling.{digit, fixed, num}
 use Rattle.hexadecimal.proofs.Numbers.{Reads}
@@ -100,3 +102,17 @@ value_taken n value mid xs front back after head tail spells ends =
     sym (take-append-drop mid xs)
     ∙ ap (λ (ys : List ℕ). ys ++ drop mid xs) (sym head ∙ spells)
     ∙ ap (λ (ys : List ℕ). fixed n value ++ ys) (sym tail ∙ ends)
+
+-- digits, two and two, spell bytes
+pub pairs_spell : (text front : List ℕ) (len : ℕ) → front ≡ take len text → len ≤ length text → All IsDigit (take len text) → 0 < len → len % 2 ≡ 0
+    → SpellsBytes front
+pairs_spell text front len is within digits some even =
+    let size : length front ≡ len = omega (arith, ap length is, length-take len text) in
+    pairs_say front (record { some = omega (arith, size); even = ap (λ (n : ℕ). n % 2) size ∙ even; digits = subst (All IsDigit) (sym is) digits })
+
+-- a list that was cut before a line feed
+pub cut_behind : (len : ℕ) (xs front back after : List ℕ) → front ≡ take len xs → back ≡ drop len xs → back ≡ 10 ∷ after → xs ≡ front ++ 10 ∷ after
+cut_behind len xs front back after head tail ends =
+    sym (take-append-drop len xs)
+    ∙ ap (λ (ys : List ℕ). ys ++ drop len xs) (sym head)
+    ∙ ap (λ (ys : List ℕ). front ++ ys) (sym tail ∙ ends)
