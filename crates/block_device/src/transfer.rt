@@ -1,6 +1,7 @@
-//! Sectors on their way between an image and a chain, one at a time. What is read goes from
-//! the cache straight into memory, what is written out of memory straight into the cache, and through one array where
-//! it lies in more than one segment. The first call of the image that fails is the last.
+//! Sectors on their way between an image and a chain: as many at once as lie in one piece, where the image is in
+//! memory, else one at a time. What is read goes from the cache straight into memory, what is written out of memory straight
+//! into the cache, and through one array where a sector lies in more than one segment. The first call of the image that
+//! fails is the last.
 
 ghost use Rattle.std.specs.Prelude.{◌+◌, ◌*◌, ◌^◌, ◌<◌, ◌≤◌, ◌≡◌, length, take, drop, All};
 ghost use Rattle.std.specs.List.{range_with_len};
@@ -87,6 +88,13 @@ impl BlockDevice {
         ensures touches { TouchesNothing I.moment I.may_leave I.left_since cache.old cache.new }
         ensures range { SameRange mem.old mem.new }
     {
+        if let Some(bytes) = cache.lend_sectors(self.extent.start + sector, count) {
+            chain.write_at(mem, 0, bytes);
+            return Done {
+                len: SECTOR_LEN * count,
+                ..Done::SUCCEEDED
+            };
+        }
         for done in 0..count {
             match cache.lend(self.extent.start + sector + done) {
                 Ok(bytes) => chain.write_at(mem, SECTOR_LEN * done, bytes),
@@ -101,8 +109,7 @@ impl BlockDevice {
         }
         Done {
             len: SECTOR_LEN * count,
-            status: RequestStatus::Success,
-            failed: false,
+            ..Done::SUCCEEDED
         }
     }
 

@@ -1,14 +1,15 @@
 //! A cache of sectors over an image.
 
-ghost use Rattle.std.specs.Prelude.{◌≡◌, ◌<◌, ◌↔◌, IfOk, IfErr, OnOk, OnErr, IsSome, IfSome, replicate};
+ghost use Rattle.std.specs.Prelude.{◌≡◌, ◌+◌, ◌*◌, ◌<◌, ◌≤◌, ◌↔◌, length, is_some, IfOk, IfErr, OnOk, OnErr, IsSome, IfSome, replicate};
+ghost use Rattle.std.specs.Bool.{OnTrue, OnFalse};
 ghost use Rattle.std.specs.Borrow.{sem};
 ghost use Rattle.std.specs.Io.BufRead.{Rests};
 ghost use Rattle.std.specs.NonZero.{non_zero_usize_get};
 ghost use Rattle.sector_cache.specs.contracts.cache.SectorCache.{the_row};
-ghost use Rattle.sector_cache.specs.Disk.{IsAsTold, IsTorn, failed, written, flushed};
+ghost use Rattle.sector_cache.specs.Disk.{IsAsTold, IsTorn, TellsAll, failed, written, written_from, flushed};
 ghost use Rattle.sector_cache.specs.Fault.{IsCapacity, RefusesCapacity};
 ghost use Rattle.sector_cache.specs.Lending.{IsReadThrough};
-ghost use Rattle.sector_cache.specs.Stop.{TouchesNothing, TouchesSector};
+ghost use Rattle.sector_cache.specs.Stop.{TouchesFrom, TouchesNothing, TouchesSector};
 
 use crate::fault::{CacheFault, Refused};
 use crate::image::{Image, ImageError};
@@ -90,6 +91,16 @@ impl<I: Image, A: Allocator + Copy> SectorCache<I, A> {
         Ok(&self.lent)
     }
 
+    /// Lends the bytes of `count` sectors from sector `first` on where they lie in the image. One that isn't in memory
+    /// lends none.
+    pub fn lend_sectors(&self, first: u64, count: u64) -> Option<&[u8]>
+        requires { first + count ≤ (I.disk self.now).sector_count }
+        ensures lent { is_some result ≡ I.lends self.now }
+        ensures told { IfSome result (λ bytes. TellsAll (I.disk self.now) first count bytes.now) }
+    {
+        self.image.lend_sectors(first, count)
+    }
+
     /// Reads a sector. After an `Err` `into` may hold any bytes.
     pub fn read(&mut self, sector: u64, into: &mut [u8; 512]) -> Result<(), ImageError>
         requires { sector < (I.disk self.old).sector_count }
@@ -116,6 +127,23 @@ impl<I: Image, A: Allocator + Copy> SectorCache<I, A> {
             self.kept.keep(sector, from);
         }
         Ok(())
+    }
+
+    /// Writes sectors from sector `first` on where they lie in the image, and answers whether they do. One that isn't in
+    /// memory is left as it is.
+    #[tactic(auto, using(crate::proofs::Coherence::coherent_none))]
+    pub fn write_in_place(&mut self, first: u64, from: &[u8]) -> bool
+        requires { 512 * first + length from.now ≤ 512 * (I.disk self.old).sector_count }
+        ensures lent { result ≡ I.lends self.old }
+        ensures written { OnTrue result (I.disk self.new ≡ written_from first from.now (I.disk self.old)) }
+        ensures left { OnFalse result (self.new ≡ self.old) }
+        ensures touches { TouchesFrom I.moment I.may_leave I.left_since first (length from.now) self.old self.new }
+    {
+        if !self.image.write_in_place(first, from) {
+            return false;
+        }
+        self.kept.clear();
+        true
     }
 
     /// `write` of 512 zeros, of which none are kept: zeroing many sectors drives no other out of the cache.
