@@ -1,7 +1,7 @@
 -- Sectors that were moved so far, and what the request is once they all are, or once the image fails.
-use Rattle.std.proofs.Common.{◌≡◌, inl, inr, ℕ, ◌+◌, ◌*◌, ◌<◌, ◌≤◌, true, false, Some, List, [], ◌++◌, length, map, take, drop, refl, sym, ap, ◌∙◌, arith, length-take, length-drop, length-append}
-use Rattle.std.specs.Prelude.{IfSome, IsSomeAnd, None, Option, Result, Ok, Err}
-use Rattle.std.proofs.lemmas.List.{take_all, take-take, drop-drop}
+use Rattle.std.proofs.Common.{◌≡◌, inl, inr, ℕ, ◌+◌, ◌*◌, ◌<◌, ◌≤◌, true, false, Option, None, Some, List, [], ◌++◌, length, map, take, drop, refl, sym, ap, ◌∙◌, arith, length-take, length-drop, length-append}
+use Rattle.std.specs.Prelude.{IfSome, IsSomeAnd, Result, Ok, Err}
+use Rattle.std.proofs.lemmas.List.{length-take-le, take_all, take-take, drop-drop}
 use Rattle.std.proofs.lemmas.List.{length-map, map-append}
 use Rattle.std.proofs.Math.Seq.{take-add}
 use Rattle.guest_memory.specs.Memory.{Memory, SameRange}
@@ -11,7 +11,7 @@ use Rattle.chain.specs.Service.{scattered}
 use Rattle.chain.proofs.Partial.{scattered-run, scattered-then_run, scattered-nil}
 use Rattle.sector_cache.specs.Sector.{extent_of, sector_of}
 use Rattle.sector_cache.specs.Lending.{IsReadThrough}
-use Rattle.sector_cache.specs.Disk.{Disk, IsWhole, IsTorn, TellsAll, failed, flushed, written, written_from}
+use Rattle.sector_cache.specs.Disk.{Disk, IsWhole, IsTorn, Tells, failed, flushed, written, written_from}
 use Rattle.block_device.specs.declared.extent.Extent.{Extent}
 use Rattle.block_device.specs.declared.request.RequestStatus.TheVariants.{Success, IoError}
 use Rattle.block_device.specs.declared.request.Request.TheVariants.{Read, Write}
@@ -67,7 +67,7 @@ reading_more buffers old m new disk d d' sector done place chunk r whole told sa
 
 -- all of them at once
 pub reading_run : (buffers : List Buffer) (old new : Memory) (disk : Disk) (sector count : ℕ) (bytes : List ℕ) → length bytes ≡ 512 * count
-    → TellsAll disk sector count bytes → new ≡ scatter old (writable_of buffers) bytes → SameRange old new
+    → Tells disk sector count bytes → new ≡ scatter old (writable_of buffers) bytes → SameRange old new
     → IsReading buffers old new disk disk sector count
 reading_run buffers old new disk sector count bytes long told put range = record {
   found = bytes;
@@ -112,6 +112,14 @@ pub first_sector : (part chunk readable : List ℕ) (place : ℕ) → part ≡ t
     → 512 ≤ length part → chunk ≡ take 512 part → chunk ≡ take 512 (drop place readable)
 first_sector part chunk readable place listed enough first =
     first ∙ ap (take 512) listed ∙ take-take 512 (length part) (drop place readable) enough
+
+-- a front of a part of the readable list is a part of it too
+pub front_listed : (part front readable : List ℕ) (place k : ℕ) → part ≡ take (length part) (drop place readable)
+    → k ≤ length part → front ≡ take k part → front ≡ take (length front) (drop place readable)
+front_listed part front readable place k listed within first =
+    let size : length front ≡ k = ap length first ∙ length-take-le k part within in
+    first ∙ ap (take k) listed ∙ take-take k (length part) (drop place readable) within
+    ∙ ap (λ n. take n (drop place readable)) (sym size)
 
 -- and so is a shorter part with the bytes behind it
 pub gathered_sector : (part front rest readable : List ℕ) (place size : ℕ) → part ≡ take (length part) (drop place readable)

@@ -3,11 +3,11 @@
 //! into the cache, and through one array where a sector lies in more than one segment. The first call of the image that
 //! fails is the last.
 
-ghost use Rattle.std.specs.Prelude.{◌+◌, ◌*◌, ◌^◌, ◌<◌, ◌≤◌, ◌≡◌, length, take, drop, All};
+ghost use Rattle.std.specs.Prelude.{◌+◌, ◌*◌, ◌^◌, ◌<◌, ◌≤◌, ◌≡◌, ◌/◌, length, min, take, drop, All};
 ghost use Rattle.std.specs.List.{range_with_len};
 ghost use Rattle.guest_memory.specs.Memory.{SameRange};
 ghost use Rattle.chain.specs.Buffers.{Within};
-ghost use Rattle.chain.specs.Bytes.{readable_of, writable_of};
+ghost use Rattle.chain.specs.Bytes.{readable_of, readable_rest, writable_of};
 ghost use Rattle.sector_cache.specs.Stop.{TouchesNothing, TouchesSectors};
 ghost use Rattle.block_device.specs.declared.request.Request.TheVariants.{Read, Write};
 ghost use Rattle.block_device.specs.Asking.{found_by, status_by};
@@ -136,10 +136,18 @@ impl BlockDevice {
             (on_image self.now.extent (range_with_len sector count)) cache.old cache.new }
     {
         let mut gathered = [0; SECTOR_LEN as usize];
-        for done in 0..count {
-            let bytes = sector_at(mem, chain, HEADER_LEN + SECTOR_LEN * done, &mut gathered);
-            match cache.write(self.extent.start + sector + done, bytes) {
-                Ok(()) => {}
+        let mut done = 0;
+        while done < count {
+            let place = HEADER_LEN + SECTOR_LEN * done;
+            let first = self.extent.start + sector + done;
+            let run = sectors_at(mem, chain, place, count - done);
+            if !run.is_empty() && cache.write_in_place(first, run) {
+                done += run.len() as u64 / SECTOR_LEN;
+                continue;
+            }
+            let bytes = sector_at(mem, chain, place, &mut gathered);
+            match cache.write(first, bytes) {
+                Ok(()) => done += 1,
                 Err(_) => return Done::FAILED,
             }
         }
@@ -148,6 +156,25 @@ impl BlockDevice {
             Err(_) => Done::FAILED,
         }
     }
+}
+
+// The sectors that lie whole in one segment from a place of the readable list on, but at most so many.
+fn sectors_at<'m, M: Allocator>(
+    mem: &'m GuestMemory<M>,
+    chain: &Chain,
+    place: u64,
+    most: u64,
+) -> &'m [u8]
+    requires inside { All (Within mem.now) chain.now }
+    requires in_list { place < length (readable_of mem.now chain.now) }
+    requires fits { sector_len * most < 2 ^ 64 }
+    ensures len { length result.now ≡
+        sector_len * min most ((readable_rest chain.now place).len / sector_len) }
+    ensures listed { result.now ≡ take (length result.now) (drop place (readable_of mem.now chain.now)) }
+{
+    let part = chain.read_part(mem, place);
+    let count = most.min(part.len() as u64 / SECTOR_LEN);
+    &part[..(SECTOR_LEN * count) as usize]
 }
 
 // The 512 readable bytes from a place on: where they lie in memory where that is one segment, and else gathered.

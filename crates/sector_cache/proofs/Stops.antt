@@ -106,6 +106,25 @@ module _ (sectors : List ℕ) where
                 ]
           ]
 
+  -- the range is a run of them
+  pub differs_in_run : (first n size : ℕ) → size ≡ 512 * n → ((k : ℕ) → k < n → Contains sectors (first + k)) → (old new : List ℕ)
+      → DiffersWithin (512 * first) (512 * first + size) old new → DiffersInSectors sectors old new
+  differs_in_run first n size whole listed old new d = record { others = same }
+    where
+      same : (other : ℕ) → ¬ Contains sectors other → sector_of new other ≡ sector_of old other
+      same other unlisted =
+          elim (cases_lt other first) [
+            | inl before ↦ extent_apart (512 * first) (512 * first + size) other 1 old new d (inl (omega (arith, before)))
+            | inr from ↦
+                elim (cases_lt other (first + n)) [
+                  | inl below ↦
+                      let here : first + (other - first) ≡ other = omega (arith, from) in
+                      absurd (unlisted (subst (λ s. Contains sectors s) here (listed (other - first) (omega (arith, from, below)))))
+                  | inr behind ↦
+                      extent_apart (512 * first) (512 * first + size) other 1 old new d (inr (omega (arith, behind, whole)))
+                ]
+          ]
+
 -- fronts of which each sector is the same
 fronts_same : (old new : List ℕ) (n : ℕ)
     → ((sector : ℕ) → sector < n → sector_of new sector ≡ sector_of old sector)

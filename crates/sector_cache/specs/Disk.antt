@@ -21,13 +21,9 @@ IsWhole disk = IfSome disk.told (λ bytes. length bytes ≡ 512 * disk.sector_co
 abbrev pub IsAsTold : Disk → ℕ → List ℕ → Type 0
 IsAsTold disk sector read = IfSome disk.told (λ bytes. read ≡ sector_of bytes sector)
 
--- bytes are told, and these are the sector's
-abbrev pub Tells : Disk → ℕ → List ℕ → Type 0
-Tells disk sector read = IsSomeAnd disk.told (λ bytes. read ≡ sector_of bytes sector)
-
 -- bytes are told, and these are those of `count` sectors from sector `first` on
-abbrev pub TellsAll : Disk → (first count : ℕ) → List ℕ → Type 0
-TellsAll disk first count lent = IsSomeAnd disk.told (λ bytes. lent ≡ extent_of bytes first count)
+abbrev pub Tells : Disk → (first count : ℕ) → List ℕ → Type 0
+Tells disk first count lent = IsSomeAnd disk.told (λ bytes. lent ≡ extent_of bytes first count)
 
 -- An image that was just made of these bytes: it tells them, no call has failed and the mark is
 -- clear.

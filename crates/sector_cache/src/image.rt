@@ -2,7 +2,7 @@
 
 ghost use Rattle.std.specs.Prelude.{◌≡◌, ◌+◌, ◌*◌, ◌^◌, ◌<◌, ◌≤◌, ℕ, Bool, List, false, length, is_some, IfSome, OnOk, OnErr};
 ghost use Rattle.std.specs.Bool.{OnTrue, OnFalse};
-ghost use Rattle.sector_cache.specs.Disk.{Disk, IsWhole, IsAsTold, IsTorn, LeavesTold, Tells, TellsAll, failed, written, written_from, flushed};
+ghost use Rattle.sector_cache.specs.Disk.{Disk, IsWhole, IsAsTold, IsTorn, LeavesTold, Tells, failed, written, written_from, flushed};
 ghost use Rattle.sector_cache.specs.Stop.{TouchesFrom, TouchesNothing, TouchesSector, unnumbered, unrecorded};
 
 use thiserror::Error;
@@ -40,16 +40,7 @@ pub trait Image {
     fn lend_sectors(&self, first: u64, count: u64) -> Option<&[u8]>
         requires { first + count ≤ (disk self.now).sector_count }
         ensures lent { is_some result ≡ lends self.now }
-        ensures told { IfSome result (λ bytes. TellsAll (disk self.now) first count bytes.now) };
-
-    /// Lends the bytes of one sector so.
-    fn lend_sector(&self, sector: u64) -> Option<&[u8; 512]>
-        requires { sector < (disk self.now).sector_count }
-        ensures lent { is_some result ≡ lends self.now }
-        ensures told { IfSome result (λ bytes. Tells (disk self.now) sector bytes.now) }
-    {
-        self.lend_sectors(sector, 1)?.first_chunk()
-    }
+        ensures told { IfSome result (λ bytes. Tells (disk self.now) first count bytes.now) };
 
     /// Writes sectors from sector `first` on where they lie in memory, and answers whether they do. An image that isn't
     /// there is left as it is.

@@ -1,7 +1,7 @@
 //! An image that is a list of bytes in memory. Its calls never fail.
 
 ghost use Rattle.std.specs.Prelude.{◌≡◌, ◌≢◌, ◌+◌, ◌*◌, ◌%◌, ◌<◌, ◌≤◌, ◌↔◌, length, Some, IsSomeAnd, OnOk, IfOk, IsOk, IsErrOf, IsTrue, true};
-ghost use Rattle.sector_cache.specs.Disk.{IsAsTold, TellsAll, new_disk, written, written_from, flushed};
+ghost use Rattle.sector_cache.specs.Disk.{IsAsTold, Tells, new_disk, written, written_from, flushed};
 ghost use Rattle.sector_cache.specs.Stop.{TouchesFrom, TouchesNothing, TouchesSector, unnumbered, unrecorded};
 
 use crate::fault::ImageFault;
@@ -64,7 +64,7 @@ impl<A: Allocator> Image for MemoryImage<A> {
 
     fn lend_sectors(&self, first: u64, count: u64) -> Option<&[u8]>
         requires { first + count ≤ (disk_of self.now).sector_count }
-        ensures { IsSomeAnd result (λ bytes. TellsAll (disk_of self.now) first count bytes.now) }
+        ensures { IsSomeAnd result (λ bytes. Tells (disk_of self.now) first count bytes.now) }
     {
         Some(sector::lend(&self.bytes, first, count))
     }

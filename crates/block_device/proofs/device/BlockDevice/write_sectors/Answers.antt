@@ -1,16 +1,36 @@
-use Rattle.std.proofs.Common.{◌+◌, arith}
+use Rattle.std.proofs.Common.{◌≡◌, ◌+◌, ◌*◌, ◌/◌, ◌<◌, ◌≤◌, length, arith}
 use Rattle.std.specs.List.{range_with_len}
 use Rattle.chain.specs.Bytes.{readable_of}
-use Rattle.block_device.proofs.Transfers.{writing_start, writing_more, writing_done, writing_fails, writing_unflushed}
+use Rattle.block_device.proofs.Transfers.{writing_start, writing_more, writing_run, writing_done, writing_fails, writing_unflushed}
 use Rattle.block_device.specs.Touching.{on_image}
-use Rattle.block_device.proofs.Touching.{range_has, unwritten, written_nothing, written_sector}
+use Rattle.block_device.proofs.Touching.{range_has, range_has_run, unwritten, written_nothing, written_run, written_sector}
 use Rattle.block_device.proofs.device.BlockDevice.write_sectors.Goals as goal
 
 pub loop-done-init : goal.loop-done-init
 loop-done-init g c = (
   writing_start (g.I.Image.disk c.args.cache.now) (c.args.self.now.extent.start + c.args.sector) _,
   unwritten (on_image c.args.self.now.extent (range_with_len c.args.sector c.args.count)),
+  omega arith,
 )
+
+pub loop-done-preserved-then : goal.loop-done-preserved-then
+loop-done-preserved-then g c =
+    let run = c.sectors_at-run.result.now in
+    let n = length run / 512 in
+    let count = c.args.count in
+    let done = c.loop-done.done in
+    let first = c.args.self.now.extent.start + c.args.sector in
+    let some : 0 < n = omega arith in
+    let within : done + n ≤ count = omega arith in
+    let whole : length run ≡ 512 * n = omega arith in (
+      writing_run (g.I.Image.disk c.args.cache.now) (g.I.Image.disk c.loop-done.cache) (g.I.Image.disk c.write_in_place.new.self) first
+          count done n (readable_of c.args.mem.now c.args.chain.now) run (g.met.I.Image.whole c.args.cache.now) c.loop-done.invariant.0
+          some within c.requires.payload (omega arith) whole c.sectors_at-run.ensures.listed c.write_in_place.ensures.written,
+      written_run c.args.self.now.extent (range_with_len c.args.sector count) (c.args.sector + done) (first + done) n (length run)
+          c.loop-done.invariant.1 (range_has_run c.args.sector count done n within) (omega arith) whole
+          c.write_in_place.ensures.touches,
+      within,
+    )
 
 pub loop-done-preserved : goal.loop-done-preserved
 loop-done-preserved g c = (
@@ -21,6 +41,7 @@ loop-done-preserved g c = (
       (c.args.sector + c.loop-done.done) (c.args.self.now.extent.start + c.args.sector + c.loop-done.done)
       c.loop-done.invariant.1 (range_has c.args.sector c.args.count c.loop-done.done c.loop-done-test.true)
       (omega arith) c.write.ensures.touches,
+  omega arith,
 )
 
 pub returns-in-Err-clause-done : goal.returns-in-Err-clause-done
