@@ -113,13 +113,11 @@ pub first_sector : (part chunk readable : List ℕ) (place : ℕ) → part ≡ t
 first_sector part chunk readable place listed enough first =
     first ∙ ap (take 512) listed ∙ take-take 512 (length part) (drop place readable) enough
 
--- a front of a part of the readable list is a part of it too
-pub front_listed : (part front readable : List ℕ) (place k : ℕ) → part ≡ take (length part) (drop place readable)
-    → k ≤ length part → front ≡ take k part → front ≡ take (length front) (drop place readable)
-front_listed part front readable place k listed within first =
-    let size : length front ≡ k = ap length first ∙ length-take-le k part within in
-    first ∙ ap (take k) listed ∙ take-take k (length part) (drop place readable) within
-    ∙ ap (λ n. take n (drop place readable)) (sym size)
+-- a front of a part of the readable list is one of the list too
+pub front_listed : (part readable : List ℕ) (place k : ℕ) → part ≡ take (length part) (drop place readable)
+    → k ≤ length part → take k part ≡ take k (drop place readable)
+front_listed part readable place k listed within =
+    ap (take k) listed ∙ take-take k (length part) (drop place readable) within
 
 -- and so is a shorter part with the bytes behind it
 pub gathered_sector : (part front rest readable : List ℕ) (place size : ℕ) → part ≡ take (length part) (drop place readable)
@@ -154,15 +152,17 @@ writing_more disk d d' sector count done readable chunk is_whole w sooner size i
     }
 
 -- some sectors more are written in place
-pub writing_run : (disk d d' : Disk) (sector count done n : ℕ) (readable chunk : List ℕ) → IsWhole disk → IsWriting disk d sector (payload_of readable) done
+pub writing_run : (disk d d' : Disk) (sector count done n : ℕ) (readable : List ℕ) → IsWhole disk → IsWriting disk d sector (payload_of readable) done
     → 0 < n → done + n ≤ count → length (payload_of readable) ≡ 512 * count → sector + done + n ≤ disk.sector_count
-    → length chunk ≡ 512 * n → chunk ≡ take (length chunk) (drop (16 + 512 * done) readable) → d' ≡ written_from (sector + done) chunk d
+    → d' ≡ written_from (sector + done) (take (512 * n) (drop (16 + 512 * done) readable)) d
     → IsWriting disk d' sector (payload_of readable) (done + n)
-writing_run disk d d' sector count done n readable chunk is_whole w some within size inside whole read put =
+writing_run disk d d' sector count done n readable is_whole w some within size inside put =
     let payload = payload_of readable in
+    let chunk = take (512 * n) (drop (16 + 512 * done) readable) in
     let same : chunk ≡ take (512 * n) (drop (512 * done) payload) =
-    read ∙ ap (λ k. take k (drop (16 + 512 * done) readable)) whole
-    ∙ ap (take (512 * n)) (ap (λ k. drop k readable) (omega arith) ∙ sym (drop-drop (512 * done) 16 readable)) in
+    ap (take (512 * n)) (ap (λ k. drop k readable) (omega arith) ∙ sym (drop-drop (512 * done) 16 readable)) in
+    let whole : length chunk ≡ 512 * n =
+    ap length same ∙ length-take-le (512 * n) (drop (512 * done) payload) (omega (arith, size, within, length-drop (512 * done) payload)) in
     let long : length (take (512 * done) payload) ≡ 512 * done = simp length-take (omega (arith, size, within)) in
     record {
       is =

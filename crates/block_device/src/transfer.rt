@@ -3,12 +3,13 @@
 //! into the cache, and through one array where a sector lies in more than one segment. The first call of the image that
 //! fails is the last.
 
-ghost use Rattle.std.specs.Prelude.{◌+◌, ◌*◌, ◌^◌, ◌<◌, ◌≤◌, ◌≡◌, ◌/◌, length, min, take, drop, All};
+ghost use Rattle.std.specs.Prelude.{◌+◌, ◌*◌, ◌^◌, ◌<◌, ◌≤◌, ◌≡◌, ◌/◌, length, min, take, drop, if◌then◌else◌, All};
 ghost use Rattle.std.specs.List.{range_with_len};
 ghost use Rattle.guest_memory.specs.Memory.{SameRange};
 ghost use Rattle.chain.specs.Buffers.{Within};
 ghost use Rattle.chain.specs.Bytes.{readable_of, readable_rest, writable_of};
-ghost use Rattle.sector_cache.specs.Stop.{TouchesNothing, TouchesSectors};
+ghost use Rattle.sector_cache.specs.Disk.{written_from};
+ghost use Rattle.sector_cache.specs.Stop.{TouchesFrom, TouchesNothing, TouchesSectors};
 ghost use Rattle.block_device.specs.declared.request.Request.TheVariants.{Read, Write};
 ghost use Rattle.block_device.specs.Asking.{found_by, status_by};
 ghost use Rattle.block_device.specs.Extent.{CallsWithin, IsWithin, extent_disk, sector_len};
@@ -140,9 +141,9 @@ impl BlockDevice {
         while done < count {
             let place = HEADER_LEN + SECTOR_LEN * done;
             let first = self.extent.start + sector + done;
-            let run = sectors_at(mem, chain, place, count - done);
-            if !run.is_empty() && cache.write_in_place(first, run) {
-                done += run.len() as u64 / SECTOR_LEN;
+            let run = write_run(mem, chain, cache, place, first, count - done);
+            if run > 0 {
+                done += run;
                 continue;
             }
             let bytes = sector_at(mem, chain, place, &mut gathered);
@@ -158,23 +159,38 @@ impl BlockDevice {
     }
 }
 
-// The sectors that lie whole in one segment from a place of the readable list on, but at most so many.
-fn sectors_at<'m, M: Allocator>(
-    mem: &'m GuestMemory<M>,
+// Writes the sectors from `first` on, at most so many, that lie whole in one segment from a place of the readable list on,
+// where the image is in memory. Answers how many these are.
+fn write_run<I: Image, M: Allocator, C: Allocator + Copy>(
+    mem: &GuestMemory<M>,
     chain: &Chain,
+    cache: &mut SectorCache<I, C>,
     place: u64,
+    first: u64,
     most: u64,
-) -> &'m [u8]
+) -> u64
     requires inside { All (Within mem.now) chain.now }
     requires in_list { place < length (readable_of mem.now chain.now) }
+    requires lies { first + most ≤ (I.disk cache.old).sector_count }
     requires fits { sector_len * most < 2 ^ 64 }
-    ensures len { length result.now ≡
-        sector_len * min most ((readable_rest chain.now place).len / sector_len) }
-    ensures listed { result.now ≡ take (length result.now) (drop place (readable_of mem.now chain.now)) }
+    ensures few { result ≤ most }
+    ensures count { result ≡ (if I.lends cache.old then
+        min most ((readable_rest chain.now place).len / sector_len) else 0) }
+    ensures none { result ≡ 0 → cache.new ≡ cache.old }
+    ensures written { 0 < result → I.disk cache.new ≡ written_from first
+        (take (sector_len * result) (drop place (readable_of mem.now chain.now))) (I.disk cache.old) }
+    ensures touches { 0 < result → TouchesFrom I.moment I.may_leave I.left_since
+        first (sector_len * result) cache.old cache.new }
 {
     let part = chain.read_part(mem, place);
     let count = most.min(part.len() as u64 / SECTOR_LEN);
-    &part[..(SECTOR_LEN * count) as usize]
+    if count == 0 {
+        return 0;
+    }
+    if !cache.write_in_place(first, &part[..(SECTOR_LEN * count) as usize]) {
+        return 0;
+    }
+    count
 }
 
 // The 512 readable bytes from a place on: where they lie in memory where that is one segment, and else gathered.
