@@ -2,7 +2,7 @@
 use Rattle.std.proofs.Common.{◌≡◌, ℕ, ◌+◌, ◌*◌, ◌≤◌, ◌<◌, ◌≢◌, inl, inr, List, [], ◌∷◌, length, Some, None, IfSome, Contains, nat_eq, sym, ◌∙◌, ap, subst, refl, take, ◌-◌, arith}
 use Rattle.std.specs.Option.{option_map}
 use Rattle.std.specs.Map.{lookup, remove_entry}
-use Rattle.std.specs.Prelude.{IsSomeAnd, Result, Ok, Err, OnOk, OnErr, true, false}
+use Rattle.std.specs.Prelude.{IsSomeAnd, MatchOption, Option, Result, Ok, Err, OnOk, OnErr, true, false}
 use Rattle.std.proofs.lemmas.Map.Views.{Contains-from_lookup}
 use Rattle.std.proofs.lemmas.Bool.{eqb-true, eq-eqb}
 use Rattle.std.proofs.lemmas.List.{take_all}
@@ -120,3 +120,11 @@ pub told_first : (disk : Disk) (sector : ℕ) (lent first : List ℕ) → IsWhol
 told_first disk sector lent first whole within told is =
     let long : length lent ≡ 512 = told_length disk sector 1 lent whole within told in
     subst (Tells disk sector 1) (sym (is ∙ take_all 512 lent (omega (arith, long)))) told
+
+-- as a slice's first chunk
+pub told_chunk : {X : Type 0} (chunk : Option X) (now : X → List ℕ) (Short : Type 0) (Is : X → Type 0) (disk : Disk) (sector : ℕ) (lent : List ℕ)
+    → MatchOption chunk Short Is → ((x : X) → Is x → now x ≡ take 512 lent) → IsWhole disk → sector + 1 ≤ disk.sector_count
+    → Tells disk sector 1 lent → IfSome chunk (λ x. Tells disk sector 1 (now x))
+told_chunk None now Short Is disk sector lent is first whole within told = tt
+told_chunk (Some x) now Short Is disk sector lent is first whole within told =
+    told_first disk sector lent (now x) whole within told (first x is)

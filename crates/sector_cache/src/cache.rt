@@ -191,7 +191,7 @@ impl<I: Image, A: Allocator> SectorCache<I, A> {
     }
 }
 
-#[tactic(auto, using(crate::proofs::Coherence::told_length, crate::proofs::Coherence::told_first))]
+#[tactic(auto, using(crate::proofs::Coherence::told_length))]
 /// One sector of an image, where it lies in memory.
 fn lend_one<I: Image>(image: &I, sector: u64) -> Option<&[u8; 512]>
     requires { sector < (I.disk image.now).sector_count }
