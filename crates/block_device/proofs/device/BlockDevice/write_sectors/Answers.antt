@@ -36,13 +36,13 @@ pub loop-done-preserved : goal.loop-done-preserved
 loop-done-preserved g c =
     let same : c.write_run-run.new.cache ≡ c.loop-done.cache = c.write_run-run.ensures.none (omega arith) in
     let so_far : IsWriting (g.I.Image.disk c.args.cache.now) (g.I.Image.disk c.write_run-run.new.cache) (c.args.self.now.extent.start + c.args.sector)
-        (payload_of (readable_of c.args.mem.now c.args.chain.now)) c.loop-done.done =
+    (payload_of (readable_of c.args.mem.now c.args.chain.now)) c.loop-done.done =
     subst (λ image. IsWriting (g.I.Image.disk c.args.cache.now) (g.I.Image.disk image) (c.args.self.now.extent.start + c.args.sector)
-        (payload_of (readable_of c.args.mem.now c.args.chain.now)) c.loop-done.done) (sym same) c.loop-done.invariant.0 in
+    (payload_of (readable_of c.args.mem.now c.args.chain.now)) c.loop-done.done) (sym same) c.loop-done.invariant.0 in
     let touched : TouchesSectors g.I.Image.moment g.I.Image.may_leave g.I.Image.left_since
-        (on_image c.args.self.now.extent (range_with_len c.args.sector c.args.count)) c.args.cache.now c.write_run-run.new.cache =
+    (on_image c.args.self.now.extent (range_with_len c.args.sector c.args.count)) c.args.cache.now c.write_run-run.new.cache =
     subst (λ image. TouchesSectors g.I.Image.moment g.I.Image.may_leave g.I.Image.left_since
-        (on_image c.args.self.now.extent (range_with_len c.args.sector c.args.count)) c.args.cache.now image) (sym same) c.loop-done.invariant.1 in (
+    (on_image c.args.self.now.extent (range_with_len c.args.sector c.args.count)) c.args.cache.now image) (sym same) c.loop-done.invariant.1 in (
       writing_more (g.I.Image.disk c.args.cache.now) (g.I.Image.disk c.write_run-run.new.cache) (g.I.Image.disk c.write.new.self) (c.args.self.now.extent.start + c.args.sector)
           c.args.count c.loop-done.done (readable_of c.args.mem.now c.args.chain.now) _ (g.met.I.Image.whole c.args.cache.now) so_far
           c.loop-done-test.true c.requires.payload (omega arith) c.sector_at-bytes.ensures c.in-Ok.ensures.ok,
@@ -57,9 +57,9 @@ pub returns-in-Err-clause-done : goal.returns-in-Err-clause-done
 returns-in-Err-clause-done g c =
     let same : c.write_run-run.new.cache ≡ c.loop-done.cache = c.write_run-run.ensures.none (omega arith) in
     let so_far : IsWriting (g.I.Image.disk c.args.cache.now) (g.I.Image.disk c.write_run-run.new.cache) (c.args.self.now.extent.start + c.args.sector)
-        (payload_of (readable_of c.args.mem.now c.args.chain.now)) c.loop-done.done =
+    (payload_of (readable_of c.args.mem.now c.args.chain.now)) c.loop-done.done =
     subst (λ image. IsWriting (g.I.Image.disk c.args.cache.now) (g.I.Image.disk image) (c.args.self.now.extent.start + c.args.sector)
-        (payload_of (readable_of c.args.mem.now c.args.chain.now)) c.loop-done.done) (sym same) c.loop-done.invariant.0 in
+    (payload_of (readable_of c.args.mem.now c.args.chain.now)) c.loop-done.done) (sym same) c.loop-done.invariant.0 in
     (writing_fails c.args.self.now.identity c.args.self.now.extent c.args.chain.now c.args.mem.now (g.I.Image.disk c.args.cache.now) (g.I.Image.disk c.write_run-run.new.cache) (g.I.Image.disk c.write.new.self)
     c.args.sector c.args.count c.loop-done.done (g.met.I.Image.whole c.args.cache.now) c.requires.lies so_far c.loop-done-test.true c.requires.sectors c.requires.payload c.in-Err.ensures.err).0
 
@@ -67,9 +67,9 @@ pub returns-in-Err-clause-calls : goal.returns-in-Err-clause-calls
 returns-in-Err-clause-calls g c =
     let same : c.write_run-run.new.cache ≡ c.loop-done.cache = c.write_run-run.ensures.none (omega arith) in
     let so_far : IsWriting (g.I.Image.disk c.args.cache.now) (g.I.Image.disk c.write_run-run.new.cache) (c.args.self.now.extent.start + c.args.sector)
-        (payload_of (readable_of c.args.mem.now c.args.chain.now)) c.loop-done.done =
+    (payload_of (readable_of c.args.mem.now c.args.chain.now)) c.loop-done.done =
     subst (λ image. IsWriting (g.I.Image.disk c.args.cache.now) (g.I.Image.disk image) (c.args.self.now.extent.start + c.args.sector)
-        (payload_of (readable_of c.args.mem.now c.args.chain.now)) c.loop-done.done) (sym same) c.loop-done.invariant.0 in
+    (payload_of (readable_of c.args.mem.now c.args.chain.now)) c.loop-done.done) (sym same) c.loop-done.invariant.0 in
     (writing_fails c.args.self.now.identity c.args.self.now.extent c.args.chain.now c.args.mem.now (g.I.Image.disk c.args.cache.now) (g.I.Image.disk c.write_run-run.new.cache) (g.I.Image.disk c.write.new.self)
     c.args.sector c.args.count c.loop-done.done (g.met.I.Image.whole c.args.cache.now) c.requires.lies so_far c.loop-done-test.true c.requires.sectors c.requires.payload c.in-Err.ensures.err).1
 
@@ -97,9 +97,9 @@ pub returns-in-Err-clause-touches : goal.returns-in-Err-clause-touches
 returns-in-Err-clause-touches g c =
     let same : c.write_run-run.new.cache ≡ c.loop-done.cache = c.write_run-run.ensures.none (omega arith) in
     let touched : TouchesSectors g.I.Image.moment g.I.Image.may_leave g.I.Image.left_since
-        (on_image c.args.self.now.extent (range_with_len c.args.sector c.args.count)) c.args.cache.now c.write_run-run.new.cache =
+    (on_image c.args.self.now.extent (range_with_len c.args.sector c.args.count)) c.args.cache.now c.write_run-run.new.cache =
     subst (λ image. TouchesSectors g.I.Image.moment g.I.Image.may_leave g.I.Image.left_since
-        (on_image c.args.self.now.extent (range_with_len c.args.sector c.args.count)) c.args.cache.now image) (sym same) c.loop-done.invariant.1 in
+    (on_image c.args.self.now.extent (range_with_len c.args.sector c.args.count)) c.args.cache.now image) (sym same) c.loop-done.invariant.1 in
     written_sector c.args.self.now.extent (range_with_len c.args.sector c.args.count)
     (c.args.sector + c.loop-done.done) (c.args.self.now.extent.start + c.args.sector + c.loop-done.done)
     touched (range_has c.args.sector c.args.count c.loop-done.done c.loop-done-test.true)
