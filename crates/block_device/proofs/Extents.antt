@@ -5,7 +5,7 @@ use Rattle.std.specs.Option.{option_map}
 use Rattle.std.proofs.Math.Seq.{take-add}
 use Rattle.std.proofs.lemmas.List.{places, same_lists, take-append-drop}
 use Rattle.sector_cache.specs.Sector.{extent_of, sector_of, with_sector}
-use Rattle.sector_cache.specs.Disk.{Disk, IsWhole, written}
+use Rattle.sector_cache.specs.Disk.{Disk, IsWhole, written, written_from}
 use Rattle.sector_cache.proofs.Sectors.{extent_of-more, extent_of-extent_of}
 use Rattle.block_device.specs.declared.extent.Extent.{Extent}
 use Rattle.block_device.specs.Extent.{IsWithin, extent_disk, ToldOutside, KeepsOutside}
@@ -25,6 +25,13 @@ pub with_sector-with_sectors : (bytes : List ℕ) (sector done : ℕ) (front chu
 with_sector-with_sectors bytes sector done front chunk long whole inside =
     same_lists _ _ (simp (length-append, length-take, length-drop) (omega arith)) (λ k d h. grind (arith, places))
 
+-- some sectors more
+pub with_sectors-with_sectors : (bytes : List ℕ) (sector done : ℕ) (front chunk : List ℕ) → length front ≡ 512 * done
+    → 512 * (sector + done) + length chunk ≤ length bytes
+    → with_sectors (with_sectors bytes sector front) (sector + done) chunk ≡ with_sectors bytes sector (front ++ chunk)
+with_sectors-with_sectors bytes sector done front chunk long inside =
+    same_lists _ _ (simp (length-append, length-take, length-drop) (omega arith)) (λ k d h. grind (arith, places))
+
 -- the extent of what is written within it
 pub extent_of-with_sectors : (bytes : List ℕ) (start count sector : ℕ) (new : List ℕ) → 512 * (start + count) ≤ length bytes → 512 * sector + length new ≤ 512 * count
     → extent_of (with_sectors bytes (start + sector) new) start count ≡ with_sectors (extent_of bytes start count) sector new
@@ -42,10 +49,10 @@ behind-with_sectors bytes start count sector new inside within =
     same_lists _ _ (simp (length-append, length-take, length-drop) (omega arith)) (λ k d h. grind (arith, places))
 
 -- a write of some bytes sets the mark
-pub marked-chunk : (front chunk : List ℕ) (mark : Bool) → length chunk ≡ 512 → true ≡ marked (front ++ chunk) mark
-marked-chunk [] [] mark whole = absurd (omega (arith, whole))
-marked-chunk [] (x ∷ chunk) mark whole = refl
-marked-chunk (x ∷ front) chunk mark whole = refl
+pub marked-chunk : (front chunk : List ℕ) (mark : Bool) → 0 < length chunk → true ≡ marked (front ++ chunk) mark
+marked-chunk [] [] mark some = absurd (omega (arith, some))
+marked-chunk [] (x ∷ chunk) mark some = refl
+marked-chunk (x ∷ front) chunk mark some = refl
 
 pub same_disk : (n f : ℕ) (t u : Option (List ℕ)) (m k : Bool) → t ≡ u → m ≡ k
     → ◌≡◌ {A = Disk} (record { told = t; sector_count = n; failures = f; mark = m }) (record { told = u; sector_count = n; failures = f; mark = k })
@@ -63,13 +70,27 @@ filled-nil sector disk = same_disk disk.sector_count disk.failures disk.told (op
 pub written-filled : (disk : Disk) (sector done : ℕ) (front chunk : List ℕ) → IsWhole disk → length front ≡ 512 * done → length chunk ≡ 512 → sector + done < disk.sector_count
     → written (sector + done) chunk (filled sector front disk) ≡ filled sector (front ++ chunk) disk
 written-filled disk sector done front chunk is_whole long whole inside =
-    same_disk disk.sector_count disk.failures _ _ true (marked (front ++ chunk) disk.mark) (same_told disk.told is_whole) (marked-chunk front chunk disk.mark whole)
+    same_disk disk.sector_count disk.failures _ _ true (marked (front ++ chunk) disk.mark) (same_told disk.told is_whole) (marked-chunk front chunk disk.mark (omega (arith, whole)))
   where
     same_told : (told : Option (List ℕ)) → IfSome told (λ bytes. length bytes ≡ 512 * disk.sector_count)
         → option_map (λ bytes. with_sector bytes (sector + done) chunk) (option_map (λ bytes. with_sectors bytes sector front) told)
         ≡ option_map (λ bytes. with_sectors bytes sector (front ++ chunk)) told
     same_told None h = refl
     same_told (Some bytes) h = ap Some (with_sector-with_sectors bytes sector done front chunk long whole (omega arith))
+
+-- some sectors more are written in place
+pub written_from-filled : (disk : Disk) (sector done n : ℕ) (front chunk : List ℕ) → IsWhole disk → length front ≡ 512 * done
+    → length chunk ≡ 512 * n → 0 < n → sector + done + n ≤ disk.sector_count
+    → written_from (sector + done) chunk (filled sector front disk) ≡ filled sector (front ++ chunk) disk
+written_from-filled disk sector done n front chunk is_whole long size some inside =
+    same_disk disk.sector_count disk.failures _ _ true (marked (front ++ chunk) disk.mark) (same_told disk.told is_whole)
+    (marked-chunk front chunk disk.mark (omega (arith, size, some)))
+  where
+    same_told : (told : Option (List ℕ)) → IfSome told (λ bytes. length bytes ≡ 512 * disk.sector_count)
+        → option_map (λ bytes. with_sectors bytes (sector + done) chunk) (option_map (λ bytes. with_sectors bytes sector front) told)
+        ≡ option_map (λ bytes. with_sectors bytes sector (front ++ chunk)) told
+    same_told None h = refl
+    same_told (Some bytes) h = ap Some (with_sectors-with_sectors bytes sector done front chunk long (omega (arith, h, size, inside)))
 
 -- the extent of a disk that was written within it
 pub extent_disk-filled : (extent : Extent) (disk : Disk) (sector : ℕ) (new : List ℕ) → IsWhole disk → IsWithin disk.sector_count extent → 512 * sector + length new ≤ 512 * extent.count
@@ -139,6 +160,11 @@ AreAsTold-extent extent disk sector count found within h =
 -- the sectors' bytes in front, and one sector more
 pub take-sector : (payload : List ℕ) (done : ℕ) → take (512 * done) payload ++ take 512 (drop (512 * done) payload) ≡ take (512 * (done + 1)) payload
 take-sector payload done = sym (take-add (512 * done) 512 payload) ∙ ap (λ n. take n payload) (omega arith)
+
+-- and some sectors more
+pub take-sectors : (payload : List ℕ) (done n : ℕ)
+    → take (512 * done) payload ++ take (512 * n) (drop (512 * done) payload) ≡ take (512 * (done + n)) payload
+take-sectors payload done n = sym (take-add (512 * done) (512 * n) payload) ∙ ap (λ k. take k payload) (omega arith)
 
 told_trans : (extent : Extent) (a b c : Option (List ℕ)) → ToldOutside extent a b → ToldOutside extent b c → ToldOutside extent a c
 told_trans extent None None None p q = tt

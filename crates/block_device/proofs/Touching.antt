@@ -15,7 +15,7 @@ use Rattle.chain.proofs.Budgets.{IsInPiece, piece_goes_on}
 use Rattle.sector_cache.specs.Disk.{Disk, LeavesTold}
 use Rattle.sector_cache.specs.Sector.{sector_of}
 use Rattle.sector_cache.specs.Stop.{BeginsAt, DiffersInSectors, Only, Touches, TouchesBy, TouchesSectors}
-use Rattle.sector_cache.proofs.Stops.{differs_in_more, differs_in_none, differs_in_one, differs_in_range, differs_in_wider, known_by, told_by, touches_as, touches_more, touches_more_by, touches_none, touches_none_by, touches_nothing_by}
+use Rattle.sector_cache.proofs.Stops.{differs_in_more, differs_in_none, differs_in_one, differs_in_range, differs_in_run, differs_in_wider, known_by, told_by, touches_as, touches_more, touches_more_by, touches_none, touches_none_by, touches_nothing_by}
 use Rattle.mmio_window.specs.declared.queue.Queue.{Queue}
 use Rattle.mmio_window.specs.Queue.{queue_kind}
 use Rattle.block_device.specs.declared.device.BlockDevice.{BlockDevice}
@@ -51,6 +51,12 @@ touched_more extent so_far calls = touches_more (512 * extent.start) (512 * (ext
 
 pub range_has : (a n k : ℕ) → k < n → Contains (range_with_len a n) (a + k)
 range_has a n k below = (k, omega (arith, below, length-range_with_len a n), get_or-range_with_len a n k (a + k) below)
+
+-- and from one of them on
+pub range_has_run : (a n from size : ℕ) → from + size ≤ n → (k : ℕ) → k < size → Contains (range_with_len a n) (a + from + k)
+range_has_run a n from size within k below =
+    let at : a + (from + k) ≡ a + from + k = omega arith in
+    subst (λ s. Contains (range_with_len a n) s) at (range_has a n (from + k) (omega (arith, within, below)))
 
 onto_image : (extent : Extent) (own : List ℕ) (sector : ℕ) → Contains own sector
     → Contains (on_image extent own) (extent.start + sector)
@@ -129,6 +135,20 @@ written_sector extent own sector place so_far listed at call =
     let here : Contains (on_image extent own) place = subst (λ p. Contains (on_image extent own) p) (sym at)
     (onto_image extent own sector listed) in
     written_more (on_image extent own) so_far (touches_as (differs_in_one (on_image extent own) place here) call)
+
+-- a write in place of some that follow one another
+pub written_run : (extent : Extent) (own : List ℕ) (sector place n size : ℕ) {t u v : ℕ} {a b c : List ℕ → Type 0}
+    {p q r : ℕ → List ℕ → Type 0} → TouchesBy (DiffersInSectors (on_image extent own)) t u a b p q
+    → ((k : ℕ) → k < n → Contains own (sector + k)) → place ≡ extent.start + sector → size ≡ 512 * n
+    → Touches (512 * place) (512 * place + size) u v b c q r
+    → TouchesBy (DiffersInSectors (on_image extent own)) t v a c p r
+written_run extent own sector place n size so_far listed at whole call =
+    written_more (on_image extent own) so_far (touches_as (differs_in_run (on_image extent own) place n size whole here) call)
+  where
+    here : (k : ℕ) → k < n → Contains (on_image extent own) (place + k)
+    here k below =
+        let same : extent.start + (sector + k) ≡ place + k = omega (arith, at) in
+        subst (λ p. Contains (on_image extent own) p) same (onto_image extent own (sector + k) (listed k below))
 
 -- calls that touch some of them
 pub written_part : (extent : Extent) (own part : List ℕ) {t u v : ℕ} {a b c : List ℕ → Type 0}

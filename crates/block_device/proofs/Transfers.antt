@@ -1,17 +1,17 @@
 -- Sectors that were moved so far, and what the request is once they all are, or once the image fails.
-use Rattle.std.proofs.Common.{◌≡◌, inl, inr, ℕ, ◌+◌, ◌*◌, ◌<◌, ◌≤◌, true, false, Some, List, [], ◌++◌, length, map, take, drop, refl, sym, ap, ◌∙◌, arith, length-take, length-drop, length-append}
-use Rattle.std.specs.Prelude.{IfSome, Result, Ok, Err}
-use Rattle.std.proofs.lemmas.List.{take_all, take-take, drop-drop}
+use Rattle.std.proofs.Common.{◌≡◌, inl, inr, ℕ, ◌+◌, ◌*◌, ◌<◌, ◌≤◌, true, false, Option, None, Some, List, [], ◌++◌, length, map, take, drop, refl, sym, ap, ◌∙◌, arith, length-take, length-drop, length-append}
+use Rattle.std.specs.Prelude.{IfSome, IsSomeAnd, Result, Ok, Err}
+use Rattle.std.proofs.lemmas.List.{length-take-le, take_all, take-take, drop-drop}
 use Rattle.std.proofs.lemmas.List.{length-map, map-append}
 use Rattle.std.proofs.Math.Seq.{take-add}
 use Rattle.guest_memory.specs.Memory.{Memory, SameRange}
 use Rattle.chain.specs.declared.segment.Buffer.{Buffer}
 use Rattle.chain.specs.Bytes.{readable_of, writable_of, scatter}
 use Rattle.chain.specs.Service.{scattered}
-use Rattle.chain.proofs.Partial.{scattered-then_run, scattered-nil}
-use Rattle.sector_cache.specs.Sector.{sector_of}
+use Rattle.chain.proofs.Partial.{scattered-run, scattered-then_run, scattered-nil}
+use Rattle.sector_cache.specs.Sector.{extent_of, sector_of}
 use Rattle.sector_cache.specs.Lending.{IsReadThrough}
-use Rattle.sector_cache.specs.Disk.{Disk, IsWhole, IsTorn, failed, flushed, written}
+use Rattle.sector_cache.specs.Disk.{Disk, IsWhole, IsTorn, Tells, failed, flushed, written, written_from}
 use Rattle.block_device.specs.declared.extent.Extent.{Extent}
 use Rattle.block_device.specs.declared.request.RequestStatus.TheVariants.{Success, IoError}
 use Rattle.block_device.specs.declared.request.Request.TheVariants.{Read, Write}
@@ -20,7 +20,7 @@ use Rattle.block_device.specs.Request.{payload_of}
 use Rattle.block_device.specs.Outcome.{AreAsTold, filled}
 use Rattle.block_device.specs.Progress.{IsDone}
 use Rattle.block_device.proofs.Endings.{nothing_found}
-use Rattle.block_device.proofs.Extents.{filled-nil, written-filled, extent_disk-filled, KeepsOutside-filled, AreAsTold-none, AreAsTold-more, AreAsTold-extent, take-sector}
+use Rattle.block_device.proofs.Extents.{filled-nil, written-filled, extent_disk-filled, KeepsOutside-filled, AreAsTold-none, AreAsTold-more, AreAsTold-extent, take-sector, take-sectors, written_from-filled}
 
 -- the disk after a sector was lent, and after a read that failed
 pub after_lent : {X E : Type 0} (result : Result X E) (x : X) (old new : Disk) → result ≡ Ok x → IsReadThrough result old new → new ≡ old
@@ -65,6 +65,22 @@ reading_more buffers old m new disk d d' sector done place chunk r whole told sa
       range = record { base = range.base ∙ r.range.base; size = range.size ∙ r.range.size };
     }
 
+-- all of them at once
+pub reading_run : (buffers : List Buffer) (old new : Memory) (disk : Disk) (sector count : ℕ) (bytes : List ℕ) → length bytes ≡ 512 * count
+    → Tells disk sector count bytes → new ≡ scatter old (writable_of buffers) bytes → SameRange old new
+    → IsReading buffers old new disk disk sector count
+reading_run buffers old new disk sector count bytes long told put range = record {
+  found = bytes;
+  finds = record { size = long; told = as_told disk.told told };
+  memory = put ∙ sym (scattered-run old (writable_of buffers) bytes);
+  same = refl;
+  range = range;
+}
+  where
+    as_told : (t : Option (List ℕ)) → IsSomeAnd t (λ b. bytes ≡ extent_of b sector count) → IfSome t (λ b. bytes ≡ extent_of b sector count)
+    as_told None never = absurd never
+    as_told (Some b) is = is
+
 -- all are read
 pub reading_done : {identity : List ℕ} (extent : Extent) (buffers : List Buffer) (old new : Memory) (disk disk' : Disk) (sector count done len : ℕ)
     → IsReading buffers old new disk disk' (extent.start + sector) done → done ≡ count → len ≡ 512 * count → sector + count ≤ extent.count
@@ -97,6 +113,12 @@ pub first_sector : (part chunk readable : List ℕ) (place : ℕ) → part ≡ t
 first_sector part chunk readable place listed enough first =
     first ∙ ap (take 512) listed ∙ take-take 512 (length part) (drop place readable) enough
 
+-- a front of a part of the readable list is one of the list too
+pub front_listed : (part readable : List ℕ) (place k : ℕ) → part ≡ take (length part) (drop place readable)
+    → k ≤ length part → take k part ≡ take k (drop place readable)
+front_listed part readable place k listed within =
+    ap (take k) listed ∙ take-take k (length part) (drop place readable) within
+
 -- and so is a shorter part with the bytes behind it
 pub gathered_sector : (part front rest readable : List ℕ) (place size : ℕ) → part ≡ take (length part) (drop place readable)
     → front ≡ part → rest ≡ take size (drop (place + length part) readable) → length part + size ≡ 512
@@ -127,6 +149,26 @@ writing_more disk d d' sector count done readable chunk is_whole w sooner size i
           put ∙ ap (written (sector + done) chunk) w.is
           ∙ written-filled disk sector done (take (512 * done) payload) chunk is_whole long whole inside
           ∙ ap (λ bytes. filled sector bytes disk) (ap (λ c. take (512 * done) payload ++ c) same ∙ take-sector payload done);
+    }
+
+-- some sectors more are written in place
+pub writing_run : (disk d d' : Disk) (sector count done n : ℕ) (readable : List ℕ) → IsWhole disk → IsWriting disk d sector (payload_of readable) done
+    → 0 < n → done + n ≤ count → length (payload_of readable) ≡ 512 * count → sector + done + n ≤ disk.sector_count
+    → d' ≡ written_from (sector + done) (take (512 * n) (drop (16 + 512 * done) readable)) d
+    → IsWriting disk d' sector (payload_of readable) (done + n)
+writing_run disk d d' sector count done n readable is_whole w some within size inside put =
+    let payload = payload_of readable in
+    let chunk = take (512 * n) (drop (16 + 512 * done) readable) in
+    let same : chunk ≡ take (512 * n) (drop (512 * done) payload) =
+    ap (take (512 * n)) (ap (λ k. drop k readable) (omega arith) ∙ sym (drop-drop (512 * done) 16 readable)) in
+    let whole : length chunk ≡ 512 * n =
+    ap length same ∙ length-take-le (512 * n) (drop (512 * done) payload) (omega (arith, size, within, length-drop (512 * done) payload)) in
+    let long : length (take (512 * done) payload) ≡ 512 * done = simp length-take (omega (arith, size, within)) in
+    record {
+      is =
+          put ∙ ap (written_from (sector + done) chunk) w.is
+          ∙ written_from-filled disk sector done n (take (512 * done) payload) chunk is_whole long whole some inside
+          ∙ ap (λ bytes. filled sector bytes disk) (ap (λ c. take (512 * done) payload ++ c) same ∙ take-sectors payload done n);
     }
 
 -- the image fails at a sector

@@ -2,6 +2,7 @@
 -- function of what the image answers, and else the ways in which a request fails.
 use Rattle.std.specs.Prelude.{◌≡◌, ℕ, ◌+◌, ◌*◌, ◌<◌, Bool, true, List, [], ◌∷◌, ◌++◌, length, take, drop, IfSome, ◌⊎◌}
 use Rattle.std.specs.Option.{option_map}
+pub use Rattle.sector_cache.specs.Sector.{with_sectors}
 use Rattle.sector_cache.specs.Sector.{extent_of}
 use Rattle.sector_cache.specs.Disk.{Disk, failed, flushed}
 use Rattle.block_device.specs.declared.request.RequestStatus.{RequestStatus}
@@ -16,10 +17,6 @@ pub record Outcome : Type 0 where
   pub disk : Disk
   pub found : List ℕ
   pub status : RequestStatus
-
--- the bytes with new ones in place of those from a sector on
-abbrev pub with_sectors : List ℕ → ℕ → List ℕ → List ℕ
-with_sectors bytes sector new = take (sector_len * sector) bytes ++ (new ++ drop (sector_len * sector + length new) bytes)
 
 -- the mark once these bytes were written: no write is tried where there are none
 abbrev pub marked : List ℕ → Bool → Bool

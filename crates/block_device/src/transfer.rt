@@ -1,13 +1,15 @@
-//! Sectors on their way between an image and a chain, one at a time. What is read goes from
-//! the cache straight into memory, what is written out of memory straight into the cache, and through one array where
-//! it lies in more than one segment. The first call of the image that fails is the last.
+//! Sectors on their way between an image and a chain: as many at once as lie in one piece, where the image is in
+//! memory, else one at a time. What is read goes from the cache straight into memory, what is written out of memory straight
+//! into the cache, and through one array where a sector lies in more than one segment. The first call of the image that
+//! fails is the last.
 
-ghost use Rattle.std.specs.Prelude.{◌+◌, ◌*◌, ◌^◌, ◌<◌, ◌≤◌, ◌≡◌, length, take, drop, All};
+ghost use Rattle.std.specs.Prelude.{◌+◌, ◌*◌, ◌^◌, ◌<◌, ◌≤◌, ◌≡◌, ◌/◌, length, min, take, drop, if◌then◌else◌, All};
 ghost use Rattle.std.specs.List.{range_with_len};
 ghost use Rattle.guest_memory.specs.Memory.{SameRange};
 ghost use Rattle.chain.specs.Buffers.{Within};
-ghost use Rattle.chain.specs.Bytes.{readable_of, writable_of};
-ghost use Rattle.sector_cache.specs.Stop.{TouchesNothing, TouchesSectors};
+ghost use Rattle.chain.specs.Bytes.{readable_of, readable_rest, writable_of};
+ghost use Rattle.sector_cache.specs.Disk.{written_from};
+ghost use Rattle.sector_cache.specs.Stop.{TouchesFrom, TouchesNothing, TouchesSectors};
 ghost use Rattle.block_device.specs.declared.request.Request.TheVariants.{Read, Write};
 ghost use Rattle.block_device.specs.Asking.{found_by, status_by};
 ghost use Rattle.block_device.specs.Extent.{CallsWithin, IsWithin, extent_disk, sector_len};
@@ -87,6 +89,13 @@ impl BlockDevice {
         ensures touches { TouchesNothing I.moment I.may_leave I.left_since cache.old cache.new }
         ensures range { SameRange mem.old mem.new }
     {
+        if let Some(bytes) = cache.lend_sectors(self.extent.start + sector, count) {
+            chain.write_at(mem, 0, bytes);
+            return Done {
+                len: SECTOR_LEN * count,
+                ..Done::SUCCEEDED
+            };
+        }
         for done in 0..count {
             match cache.lend(self.extent.start + sector + done) {
                 Ok(bytes) => chain.write_at(mem, SECTOR_LEN * done, bytes),
@@ -101,8 +110,7 @@ impl BlockDevice {
         }
         Done {
             len: SECTOR_LEN * count,
-            status: RequestStatus::Success,
-            failed: false,
+            ..Done::SUCCEEDED
         }
     }
 
@@ -129,10 +137,18 @@ impl BlockDevice {
             (on_image self.now.extent (range_with_len sector count)) cache.old cache.new }
     {
         let mut gathered = [0; SECTOR_LEN as usize];
-        for done in 0..count {
-            let bytes = sector_at(mem, chain, HEADER_LEN + SECTOR_LEN * done, &mut gathered);
-            match cache.write(self.extent.start + sector + done, bytes) {
-                Ok(()) => {}
+        let mut done = 0;
+        while done < count {
+            let place = HEADER_LEN + SECTOR_LEN * done;
+            let first = self.extent.start + sector + done;
+            let run = write_run(mem, chain, cache, place, first, count - done);
+            if run > 0 {
+                done += run;
+                continue;
+            }
+            let bytes = sector_at(mem, chain, place, &mut gathered);
+            match cache.write(first, bytes) {
+                Ok(()) => done += 1,
                 Err(_) => return Done::FAILED,
             }
         }
@@ -141,6 +157,40 @@ impl BlockDevice {
             Err(_) => Done::FAILED,
         }
     }
+}
+
+// Writes the sectors from `first` on, at most so many, that lie whole in one segment from a place of the readable list on,
+// where the image is in memory. Answers how many these are.
+fn write_run<I: Image, M: Allocator, C: Allocator + Copy>(
+    mem: &GuestMemory<M>,
+    chain: &Chain,
+    cache: &mut SectorCache<I, C>,
+    place: u64,
+    first: u64,
+    most: u64,
+) -> u64
+    requires inside { All (Within mem.now) chain.now }
+    requires in_list { place < length (readable_of mem.now chain.now) }
+    requires lies { first + most ≤ (I.disk cache.old).sector_count }
+    requires fits { sector_len * most < 2 ^ 64 }
+    ensures few { result ≤ most }
+    ensures count { result ≡ (if I.lends cache.old then
+        min most ((readable_rest chain.now place).len / sector_len) else 0) }
+    ensures none { result ≡ 0 → cache.new ≡ cache.old }
+    ensures written { 0 < result → I.disk cache.new ≡ written_from first
+        (take (sector_len * result) (drop place (readable_of mem.now chain.now))) (I.disk cache.old) }
+    ensures touches { 0 < result → TouchesFrom I.moment I.may_leave I.left_since
+        first (sector_len * result) cache.old cache.new }
+{
+    let part = chain.read_part(mem, place);
+    let count = most.min(part.len() as u64 / SECTOR_LEN);
+    if count == 0 {
+        return 0;
+    }
+    if !cache.write_in_place(first, &part[..(SECTOR_LEN * count) as usize]) {
+        return 0;
+    }
+    count
 }
 
 // The 512 readable bytes from a place on: where they lie in memory where that is one segment, and else gathered.

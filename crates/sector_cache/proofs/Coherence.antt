@@ -1,17 +1,18 @@
 -- What is kept stays what the image tells, through each call of the image.
-use Rattle.std.proofs.Common.{◌≡◌, ℕ, ◌*◌, ◌<◌, ◌≢◌, inl, inr, List, [], ◌∷◌, length, Some, None, IfSome, Contains, nat_eq, sym, ◌∙◌, ap, subst, refl, take, ◌-◌, arith}
+use Rattle.std.proofs.Common.{◌≡◌, ℕ, ◌+◌, ◌*◌, ◌≤◌, ◌<◌, ◌≢◌, inl, inr, List, [], ◌∷◌, length, Some, None, IfSome, Contains, nat_eq, sym, ◌∙◌, ap, subst, refl, take, ◌-◌, arith}
 use Rattle.std.specs.Option.{option_map}
 use Rattle.std.specs.Map.{lookup, remove_entry}
-use Rattle.std.specs.Prelude.{Result, Ok, Err, OnOk, OnErr, true, false}
+use Rattle.std.specs.Prelude.{IsSomeAnd, MatchOption, Option, Result, Ok, Err, OnOk, OnErr, true, false}
 use Rattle.std.proofs.lemmas.Map.Views.{Contains-from_lookup}
 use Rattle.std.proofs.lemmas.Bool.{eqb-true, eq-eqb}
+use Rattle.std.proofs.lemmas.List.{take_all}
 use Rattle.lru.specs.LruCache.{LruCache, lru_cache, promoted}
 use Rattle.lru.proofs.CallerLemmas.{Contains-take, Contains-promoted, Contains-remove_entry}
 use Rattle.lru.proofs.Splits.{Contains-cons, Contains-nil}
-use Rattle.sector_cache.specs.Disk.{Disk, IsWhole, IsAsTold, IsTorn, failed, written}
+use Rattle.sector_cache.specs.Disk.{Disk, IsWhole, IsAsTold, IsTorn, Tells, failed, written}
 use Rattle.sector_cache.specs.Kept.{IsCoherent, MayKeep, with_first}
-use Rattle.sector_cache.specs.Sector.{sector_of, with_sector}
-use Rattle.sector_cache.proofs.Sectors.{sector_of-with_sector, sector_of-with_sector_other}
+use Rattle.sector_cache.specs.Sector.{extent_of, sector_of, with_sector}
+use Rattle.sector_cache.proofs.Sectors.{length-extent_of, sector_of-with_sector, sector_of-with_sector_other}
 
 -- another sector is told as before a write
 IsAsTold-other : (disk : Disk) (sector : ℕ) (new : List ℕ) → IsWhole disk → sector < disk.sector_count → length new ≡ 512 → (other : ℕ) (bytes : List ℕ) → (sector ≡ other → ⊥) → IsAsTold disk other bytes → IsAsTold (written sector new disk) other bytes
@@ -104,3 +105,26 @@ told_written sector disk after new is whole within long = rw is (IsAsTold-itself
 -- and as it was read
 pub told_read : (sector : ℕ) (disk after : Disk) (bytes : List ℕ) → after ≡ disk → IsAsTold disk sector bytes → IsAsTold after sector bytes
 told_read sector disk after bytes is told = rw is told
+
+-- what is told of whole sectors
+pub told_length : (disk : Disk) (first count : ℕ) (lent : List ℕ) → IsWhole disk → first + count ≤ disk.sector_count
+    → Tells disk first count lent → length lent ≡ 512 * count
+told_length disk first count lent whole within told = (elim disk.told as (λ t. IfSome t (λ b. length b ≡ 512 * disk.sector_count) → IsSomeAnd t (λ b. lent ≡ extent_of b first count) → length lent ≡ 512 * count) [
+  | None ↦ λ _ never. absurd never
+  | Some b ↦ λ full is. ap length is ∙ length-extent_of b first count (omega (arith, full, within))
+]) whole told
+
+-- the first of them, where it is the only one
+pub told_first : (disk : Disk) (sector : ℕ) (lent first : List ℕ) → IsWhole disk → sector + 1 ≤ disk.sector_count
+    → Tells disk sector 1 lent → first ≡ take 512 lent → Tells disk sector 1 first
+told_first disk sector lent first whole within told is =
+    let long : length lent ≡ 512 = told_length disk sector 1 lent whole within told in
+    subst (Tells disk sector 1) (sym (is ∙ take_all 512 lent (omega (arith, long)))) told
+
+-- as a slice's first chunk
+pub told_chunk : {X : Type 0} (chunk : Option X) (now : X → List ℕ) (Short : Type 0) (Is : X → Type 0) (disk : Disk) (sector : ℕ) (lent : List ℕ)
+    → MatchOption chunk Short Is → ((x : X) → Is x → now x ≡ take 512 lent) → IsWhole disk → sector + 1 ≤ disk.sector_count
+    → Tells disk sector 1 lent → IfSome chunk (λ x. Tells disk sector 1 (now x))
+told_chunk None now Short Is disk sector lent is first whole within told = tt
+told_chunk (Some x) now Short Is disk sector lent is first whole within told =
+    told_first disk sector lent (now x) whole within told (first x is)

@@ -6,7 +6,7 @@ use Rattle.std.proofs.Math.Seq.{take-add}
 use Rattle.std.proofs.lemmas.Bool.{cases_lt}
 use Rattle.std.proofs.lemmas.List.{length-take-le, length-take, length-drop, length-append, get_or-take, get_or-drop, get_or_append_left, get_or-append_right, drop-drop, drop-take, take-take, take-append-drop, take_at, drop_at, same_lists}
 use borrow.Rule.Slice.PartMut.{put_mid}
-use Rattle.sector_cache.specs.Sector.{extent_of, sector_of, with_sector}
+use Rattle.sector_cache.specs.Sector.{extent_of, sector_of, with_sector, with_sectors}
 
 -- a write to the 512 bytes from 512 * sector on is a write of the sector
 pub put_mid-sector : (bytes new : List ℕ) (sector at n : ℕ) → at ≡ sector * 512 → n ≡ 512 → put_mid at n bytes new ≡ with_sector bytes sector new
@@ -14,6 +14,15 @@ put_mid-sector bytes new sector at n e f =
     ap (λ rest. take at bytes ++ (new ++ rest)) (drop-drop n at bytes)
     ∙ ap (λ m. take m bytes ++ (new ++ drop (at + n) bytes)) (omega (arith, e))
     ∙ ap (λ m. take (512 * sector) bytes ++ (new ++ drop m bytes)) (omega (arith, e, f))
+
+-- a write to the bytes from 512 * first on is a write of the sectors there
+pub put_mid-sectors : (bytes chunk from : List ℕ) (first at n : ℕ) → chunk ≡ from → at ≡ first * 512 → n ≡ length from
+    → put_mid at n bytes chunk ≡ with_sectors bytes first from
+put_mid-sectors bytes chunk from first at n is e f =
+    ap (λ new. put_mid at n bytes new) is
+    ∙ ap (λ rest. take at bytes ++ (from ++ rest)) (drop-drop n at bytes)
+    ∙ ap (λ m. take m bytes ++ (from ++ drop (at + n) bytes)) (omega (arith, e))
+    ∙ ap (λ m. take (512 * first) bytes ++ (from ++ drop m bytes)) (omega (arith, e, f))
 
 -- Lengths.
 

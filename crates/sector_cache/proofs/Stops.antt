@@ -5,7 +5,7 @@ use Rattle.std.proofs.Math.Seq.{take-add}
 use Rattle.std.proofs.lemmas.Bool.{cases_lt}
 use Rattle.std.proofs.lemmas.List.{drop-drop, drop-take, drop_at, length-take-le, take-take, take_all, take_at}
 use Rattle.sector_cache.specs.Disk.{Disk, LeavesTold}
-use Rattle.sector_cache.specs.Sector.{extent_of, sector_of, with_sector}
+use Rattle.sector_cache.specs.Sector.{extent_of, sector_of, with_sector, with_sectors}
 use Rattle.sector_cache.specs.Stop.{BeginsAt, DiffersInSectors, DiffersWithin, IsCutBy, Only, Touches, TouchesBy}
 
 -- Bytes that differ within a range.
@@ -45,6 +45,21 @@ differs_sector bytes sector new inside whole =
           ∙ sym (drop-drop 512 (512 * sector) (with_sector bytes sector new))
           ∙ ap (drop 512) (drop_at front (new ++ rest) (512 * sector) front_long)
           ∙ drop_at new rest 512 whole;
+    }
+
+-- a write of sectors in place
+pub differs_sectors : (bytes : List ℕ) (first : ℕ) (new : List ℕ) → 512 * first + length new ≤ length bytes
+    → DiffersWithin (512 * first) (512 * first + length new) bytes (with_sectors bytes first new)
+differs_sectors bytes first new inside =
+    let front = take (512 * first) bytes in
+    let rest = drop (512 * first + length new) bytes in
+    let front_long : length front ≡ 512 * first = length-take-le (512 * first) bytes (omega (arith, inside)) in
+    record {
+      before = take_at front (new ++ rest) (512 * first) front_long;
+      behind =
+          sym (drop-drop (length new) (512 * first) (with_sectors bytes first new))
+          ∙ ap (drop (length new)) (drop_at front (new ++ rest) (512 * first) front_long)
+          ∙ drop_at new rest (length new) refl;
     }
 
 -- an extent that is apart from the range
@@ -88,6 +103,25 @@ module _ (sectors : List ℕ) where
                   | inr upto ↦
                       let here : sector ≡ other = omega (arith, from, upto) in
                       absurd (unlisted (subst (λ s. Contains sectors s) here listed))
+                ]
+          ]
+
+  -- the range is a run of them
+  pub differs_in_run : (first n size : ℕ) → size ≡ 512 * n → ((k : ℕ) → k < n → Contains sectors (first + k)) → (old new : List ℕ)
+      → DiffersWithin (512 * first) (512 * first + size) old new → DiffersInSectors sectors old new
+  differs_in_run first n size whole listed old new d = record { others = same }
+    where
+      same : (other : ℕ) → ¬ Contains sectors other → sector_of new other ≡ sector_of old other
+      same other unlisted =
+          elim (cases_lt other first) [
+            | inl before ↦ extent_apart (512 * first) (512 * first + size) other 1 old new d (inl (omega (arith, before)))
+            | inr from ↦
+                elim (cases_lt other (first + n)) [
+                  | inl below ↦
+                      let here : first + (other - first) ≡ other = omega (arith, from) in
+                      absurd (unlisted (subst (λ s. Contains sectors s) here (listed (other - first) (omega (arith, from, below)))))
+                  | inr behind ↦
+                      extent_apart (512 * first) (512 * first + size) other 1 old new d (inr (omega (arith, behind, whole)))
                 ]
           ]
 
@@ -266,3 +300,11 @@ module _ (start end : ℕ) where
 pub touches_plain_sector : (sector : ℕ) (from old new : List ℕ) → new ≡ with_sector old sector from → 512 * (sector + 1) ≤ length old → length from ≡ 512 → Touches (512 * sector) (512 * (sector + 1)) 0 0 (λ left. left ≡ old) (λ left. left ≡ new) (λ _ _. ⊤) (λ _ _. ⊤)
 touches_plain_sector sector from old new is inside whole =
     touches_plain (512 * sector) (512 * (sector + 1)) old new (subst (DiffersWithin (512 * sector) (512 * (sector + 1)) old) (sym is) (differs_sector old sector from inside whole))
+
+-- and after a write of sectors in place
+pub touches_plain_sectors : (first : ℕ) (from old new : List ℕ) → new ≡ with_sectors old first from
+    → 512 * first + length from ≤ length old
+    → Touches (512 * first) (512 * first + length from) 0 0 (λ left. left ≡ old) (λ left. left ≡ new) (λ _ _. ⊤) (λ _ _. ⊤)
+touches_plain_sectors first from old new is inside =
+    touches_plain (512 * first) (512 * first + length from) old new
+    (subst (DiffersWithin (512 * first) (512 * first + length from) old) (sym is) (differs_sectors old first from inside))

@@ -1,7 +1,7 @@
 -- An image as it is seen from outside, and what each call of it leaves.
 use Rattle.std.specs.Prelude.{◌≡◌, ℕ, ◌+◌, ◌*◌, ◌/◌, Bool, true, false, List, length, Option, Some, IfSome, IsSomeAnd}
 use Rattle.std.specs.Option.{option_map}
-use Rattle.sector_cache.specs.Sector.{sector_of, with_sector}
+use Rattle.sector_cache.specs.Sector.{extent_of, sector_of, with_sector, with_sectors}
 
 -- What a proof sees of an image:
 -- the bytes that it tells, or none where nothing is claimed of them (a file's);
@@ -21,9 +21,9 @@ IsWhole disk = IfSome disk.told (λ bytes. length bytes ≡ 512 * disk.sector_co
 abbrev pub IsAsTold : Disk → ℕ → List ℕ → Type 0
 IsAsTold disk sector read = IfSome disk.told (λ bytes. read ≡ sector_of bytes sector)
 
--- bytes are told, and these are the sector's
-abbrev pub Tells : Disk → ℕ → List ℕ → Type 0
-Tells disk sector read = IsSomeAnd disk.told (λ bytes. read ≡ sector_of bytes sector)
+-- bytes are told, and these are those of `count` sectors from sector `first` on
+abbrev pub Tells : Disk → (first count : ℕ) → List ℕ → Type 0
+Tells disk first count lent = IsSomeAnd disk.told (λ bytes. lent ≡ extent_of bytes first count)
 
 -- An image that was just made of these bytes: it tells them, no call has failed and the mark is
 -- clear.
@@ -39,6 +39,11 @@ failed disk = record disk { failures = disk.failures + 1 }
 abbrev pub written : ℕ → List ℕ → Disk → Disk
 written sector new disk =
     record disk { told = option_map (λ bytes. with_sector bytes sector new) disk.told; mark = true }
+
+-- after sectors from sector `first` on were written in place: they hold the new bytes, and the mark is set
+abbrev pub written_from : (first : ℕ) → List ℕ → Disk → Disk
+written_from first new disk =
+    record disk { told = option_map (λ bytes. with_sectors bytes first new) disk.told; mark = true }
 
 -- after a flush that succeeded: the mark is clear
 abbrev pub flushed : Disk → Disk

@@ -51,6 +51,11 @@ abbrev pub TouchesSector : {I : Type 0} → (moment : I → ℕ) → (may_leave 
 TouchesSector moment may_leave left_since sector old new =
     TouchesOnly moment may_leave left_since (512 * sector) (512 * (sector + 1)) old new
 
+-- only the bytes of a run of sectors are, which has `size` bytes and begins at sector `first`
+abbrev pub TouchesFrom : {I : Type 0} → (moment : I → ℕ) → (may_leave : I → List ℕ → Type 0) → (left_since : I → ℕ → List ℕ → Type 0) → (first size : ℕ) → (old new : I) → Type 0
+TouchesFrom moment may_leave left_since first size old new =
+    TouchesOnly moment may_leave left_since (512 * first) (512 * first + size) old new
+
 -- only the bytes of these sectors are
 abbrev pub TouchesSectors : {I : Type 0} → (moment : I → ℕ) → (may_leave : I → List ℕ → Type 0) → (left_since : I → ℕ → List ℕ → Type 0) → (sectors : List ℕ) → (old new : I) → Type 0
 TouchesSectors moment may_leave left_since sectors old new =

@@ -1,14 +1,15 @@
 //! A cache of sectors over an image.
 
-ghost use Rattle.std.specs.Prelude.{◌≡◌, ◌<◌, ◌↔◌, IfOk, IfErr, OnOk, OnErr, IsSome, IfSome, replicate};
+ghost use Rattle.std.specs.Prelude.{◌≡◌, ◌+◌, ◌*◌, ◌<◌, ◌≤◌, ◌↔◌, length, is_some, IfOk, IfErr, OnOk, OnErr, IsSome, IfSome, replicate};
+ghost use Rattle.std.specs.Bool.{OnTrue, OnFalse};
 ghost use Rattle.std.specs.Borrow.{sem};
 ghost use Rattle.std.specs.Io.BufRead.{Rests};
 ghost use Rattle.std.specs.NonZero.{non_zero_usize_get};
 ghost use Rattle.sector_cache.specs.contracts.cache.SectorCache.{the_row};
-ghost use Rattle.sector_cache.specs.Disk.{IsAsTold, IsTorn, failed, written, flushed};
+ghost use Rattle.sector_cache.specs.Disk.{IsAsTold, IsTorn, Tells, failed, written, written_from, flushed};
 ghost use Rattle.sector_cache.specs.Fault.{IsCapacity, RefusesCapacity};
 ghost use Rattle.sector_cache.specs.Lending.{IsReadThrough};
-ghost use Rattle.sector_cache.specs.Stop.{TouchesNothing, TouchesSector};
+ghost use Rattle.sector_cache.specs.Stop.{TouchesFrom, TouchesNothing, TouchesSector};
 
 use crate::fault::{CacheFault, Refused};
 use crate::image::{Image, ImageError};
@@ -79,8 +80,8 @@ impl<I: Image, A: Allocator + Copy> SectorCache<I, A> {
             IsReadThrough result (I.disk self.old) (I.disk cache)
             × TouchesNothing I.moment I.may_leave I.left_since self.old cache)) }
     {
-        if self.image.lend_sector(sector).is_some() {
-            return self.image.lend_sector(sector).ok_or(ImageError);
+        if lend_one(&self.image, sector).is_some() {
+            return lend_one(&self.image, sector).ok_or(ImageError);
         }
         if self.kept.copy(sector, &mut self.lent) {
             return Ok(&self.lent);
@@ -88,6 +89,18 @@ impl<I: Image, A: Allocator + Copy> SectorCache<I, A> {
         self.image.read_sector(sector, &mut self.lent)?;
         self.kept.keep(sector, &self.lent);
         Ok(&self.lent)
+    }
+
+    #[tactic(auto, using(crate::proofs::Coherence::told_length))]
+    /// Lends the bytes of `count` sectors from sector `first` on where they lie in the image. One that isn't in memory
+    /// lends none.
+    pub fn lend_sectors(&self, first: u64, count: u64) -> Option<&[u8]>
+        requires { first + count ≤ (I.disk self.now).sector_count }
+        ensures lent { is_some result ≡ I.lends self.now }
+        ensures told { IfSome result (λ bytes. Tells (I.disk self.now) first count bytes.now) }
+        ensures len { IfSome result (λ bytes. length bytes.now ≡ 512 * count) }
+    {
+        self.image.lend_sectors(first, count)
     }
 
     /// Reads a sector. After an `Err` `into` may hold any bytes.
@@ -112,10 +125,27 @@ impl<I: Image, A: Allocator + Copy> SectorCache<I, A> {
     {
         self.kept.forget(sector);
         self.image.write_sector(sector, from)?;
-        if self.image.lend_sector(sector).is_none() {
+        if lend_one(&self.image, sector).is_none() {
             self.kept.keep(sector, from);
         }
         Ok(())
+    }
+
+    #[tactic(auto, using(crate::proofs::Coherence::coherent_none))]
+    /// Writes sectors from sector `first` on where they lie in the image, and answers whether they do. One that isn't in
+    /// memory is left as it is.
+    pub fn write_in_place(&mut self, first: u64, from: &[u8]) -> bool
+        requires { 512 * first + length from.now ≤ 512 * (I.disk self.old).sector_count }
+        ensures lent { result ≡ I.lends self.old }
+        ensures written { OnTrue result (I.disk self.new ≡ written_from first from.now (I.disk self.old)) }
+        ensures left { OnFalse result (self.new ≡ self.old) }
+        ensures touches { TouchesFrom I.moment I.may_leave I.left_since first (length from.now) self.old self.new }
+    {
+        if !self.image.write_in_place(first, from) {
+            return false;
+        }
+        self.kept.clear();
+        true
     }
 
     /// `write` of 512 zeros, of which none are kept: zeroing many sectors drives no other out of the cache.
@@ -159,6 +189,16 @@ impl<I: Image, A: Allocator> SectorCache<I, A> {
         } = self;
         image
     }
+}
+
+#[tactic(auto, using(crate::proofs::Coherence::told_length))]
+/// One sector of an image, where it lies in memory.
+fn lend_one<I: Image>(image: &I, sector: u64) -> Option<&[u8; 512]>
+    requires { sector < (I.disk image.now).sector_count }
+    ensures lent { is_some result ≡ I.lends image.now }
+    ensures told { IfSome result (λ bytes. Tells (I.disk image.now) sector 1 bytes.now) }
+{
+    image.lend_sectors(sector, 1)?.first_chunk()
 }
 
 /// How many sectors a cache of this capacity may keep, if there may be such a cache.

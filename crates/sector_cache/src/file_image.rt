@@ -155,8 +155,13 @@ impl<F: BackingFile> Image for FileImage<F> {
         self.sectors
     }
 
-    fn lend_sector(&self, _sector: u64) -> Option<&[u8; 512]> {
+    fn lend_sectors(&self, _first: u64, _count: u64) -> Option<&[u8]> {
         None
+    }
+
+    #[tactic(auto, using(crate::proofs::Stops::touches_none))]
+    fn write_in_place(&mut self, _first: u64, _from: &[u8]) -> bool {
+        false
     }
 
     fn read_sector(&mut self, sector: u64, into: &mut [u8; 512]) -> Result<(), ImageError>

@@ -1,8 +1,9 @@
 //! What a disk image is: the calls that the cache makes, and what each of them leaves.
 
-ghost use Rattle.std.specs.Prelude.{◌≡◌, ◌^◌, ◌<◌, ◌≤◌, ℕ, Bool, List, false, is_some, IfSome, OnOk, OnErr};
-ghost use Rattle.sector_cache.specs.Disk.{Disk, IsWhole, IsAsTold, IsTorn, LeavesTold, Tells, failed, written, flushed};
-ghost use Rattle.sector_cache.specs.Stop.{TouchesNothing, TouchesSector, unnumbered, unrecorded};
+ghost use Rattle.std.specs.Prelude.{◌≡◌, ◌+◌, ◌*◌, ◌^◌, ◌<◌, ◌≤◌, ℕ, Bool, List, false, length, is_some, IfSome, OnOk, OnErr};
+ghost use Rattle.std.specs.Bool.{OnTrue, OnFalse};
+ghost use Rattle.sector_cache.specs.Disk.{Disk, IsWhole, IsAsTold, IsTorn, LeavesTold, Tells, failed, written, written_from, flushed};
+ghost use Rattle.sector_cache.specs.Stop.{TouchesFrom, TouchesNothing, TouchesSector, unnumbered, unrecorded};
 
 use thiserror::Error;
 
@@ -34,11 +35,21 @@ pub trait Image {
     fn sectors(&self) -> u64
         ensures { result ≡ (disk self.now).sector_count };
 
-    /// Lends the bytes of a sector where they lie in memory. An image that isn't there lends none.
-    fn lend_sector(&self, sector: u64) -> Option<&[u8; 512]>
-        requires { sector < (disk self.now).sector_count }
+    /// Lends the bytes of `count` sectors from sector `first` on where they lie in memory. An image that isn't there
+    /// lends none.
+    fn lend_sectors(&self, first: u64, count: u64) -> Option<&[u8]>
+        requires { first + count ≤ (disk self.now).sector_count }
         ensures lent { is_some result ≡ lends self.now }
-        ensures told { IfSome result (λ bytes. Tells (disk self.now) sector bytes.now) };
+        ensures told { IfSome result (λ bytes. Tells (disk self.now) first count bytes.now) };
+
+    /// Writes sectors from sector `first` on where they lie in memory, and answers whether they do. An image that isn't
+    /// there is left as it is.
+    fn write_in_place(&mut self, first: u64, from: &[u8]) -> bool
+        requires { 512 * first + length from.now ≤ 512 * (disk self.old).sector_count }
+        ensures lent { result ≡ lends self.old }
+        ensures written { OnTrue result (disk self.new ≡ written_from first from.now (disk self.old)) }
+        ensures left { OnFalse result (self.new ≡ self.old) }
+        ensures touches { TouchesFrom moment may_leave left_since first (length from.now) self.old self.new };
 
     /// After an `Err` `into` may hold any bytes.
     fn read_sector(&mut self, sector: u64, into: &mut [u8; 512]) -> Result<(), ImageError>

@@ -52,6 +52,13 @@ impl<A: Allocator + Copy> Kept<A> {
         let _ = self.sectors.put(sector, *bytes);
     }
 
+    /// Keeps nothing any more.
+    pub(crate) fn clear(&mut self)
+        ensures { self.new.sectors ≡ lru_cache [] self.old.sectors.cap }
+    {
+        self.sectors.clear();
+    }
+
     #[tactic(auto, using(crate::proofs::Keeping::none_left))]
     /// Keeps nothing of a sector.
     pub(crate) fn forget(&mut self, sector: u64)

@@ -1,8 +1,8 @@
 //! An image that is a list of bytes in memory. Its calls never fail.
 
-ghost use Rattle.std.specs.Prelude.{◌≡◌, ◌≢◌, ◌%◌, ◌<◌, ◌↔◌, length, Some, IsSomeAnd, OnOk, IfOk, IsOk, IsErrOf, true};
-ghost use Rattle.sector_cache.specs.Disk.{IsAsTold, Tells, new_disk, written, flushed};
-ghost use Rattle.sector_cache.specs.Stop.{TouchesNothing, TouchesSector, unnumbered, unrecorded};
+ghost use Rattle.std.specs.Prelude.{◌≡◌, ◌≢◌, ◌+◌, ◌*◌, ◌%◌, ◌<◌, ◌≤◌, ◌↔◌, length, Some, IsSomeAnd, OnOk, IfOk, IsOk, IsErrOf, IsTrue, true};
+ghost use Rattle.sector_cache.specs.Disk.{IsAsTold, Tells, new_disk, written, written_from, flushed};
+ghost use Rattle.sector_cache.specs.Stop.{TouchesFrom, TouchesNothing, TouchesSector, unnumbered, unrecorded};
 
 use crate::fault::ImageFault;
 use crate::image::{Image, ImageError};
@@ -62,11 +62,23 @@ impl<A: Allocator> Image for MemoryImage<A> {
         self.bytes.len() as u64 / 512
     }
 
-    fn lend_sector(&self, sector: u64) -> Option<&[u8; 512]>
-        requires { sector < (disk_of self.now).sector_count }
-        ensures { IsSomeAnd result (λ bytes. Tells (disk_of self.now) sector bytes.now) }
+    fn lend_sectors(&self, first: u64, count: u64) -> Option<&[u8]>
+        requires { first + count ≤ (disk_of self.now).sector_count }
+        ensures { IsSomeAnd result (λ bytes. Tells (disk_of self.now) first count bytes.now) }
     {
-        sector::lend(&self.bytes, sector)
+        Some(sector::lend(&self.bytes, first, count))
+    }
+
+    #[tactic(auto, using(crate::proofs::Stops::touches_plain_sectors))]
+    fn write_in_place(&mut self, first: u64, from: &[u8]) -> bool
+        requires { 512 * first + length from.now ≤ 512 * (disk_of self.old).sector_count }
+        ensures succeeds { IsTrue result }
+        ensures after { disk_of self.new ≡ written_from first from.now (disk_of self.old) }
+        ensures touches { TouchesFrom unnumbered may_leave_of unrecorded first (length from.now) self.old self.new }
+    {
+        self.mark = true;
+        sector::copy_all_into(&mut self.bytes, first, from);
+        true
     }
 
     #[tactic(auto, using(crate::proofs::Stops::touches_none))]

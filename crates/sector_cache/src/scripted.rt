@@ -111,8 +111,13 @@ impl<A: Allocator> Image for ScriptedImage<A> {
         self.memory.sectors()
     }
 
-    fn lend_sector(&self, _sector: u64) -> Option<&[u8; 512]> {
+    fn lend_sectors(&self, _first: u64, _count: u64) -> Option<&[u8]> {
         None
+    }
+
+    #[tactic(auto, using(crate::proofs::Stops::touches_none))]
+    fn write_in_place(&mut self, _first: u64, _from: &[u8]) -> bool {
+        false
     }
 
     #[tactic(auto, using(crate::proofs::Stops::touches_none))]

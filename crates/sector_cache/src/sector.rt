@@ -1,7 +1,7 @@
-//! The length of a sector, and one sector of a list of bytes, read and written in place.
+//! The length of a sector, and sectors of a list of bytes, read and written in place.
 
-ghost use Rattle.std.specs.Prelude.{◌≡◌, ◌↔◌, ◌+◌, ◌*◌, ◌%◌, ◌≤◌, ◌++◌, length, take, drop, IsSomeAnd, IsTrue};
-ghost use Rattle.sector_cache.specs.Sector.{sector_of, with_sector};
+ghost use Rattle.std.specs.Prelude.{◌≡◌, ◌↔◌, ◌+◌, ◌*◌, ◌%◌, ◌≤◌, ◌++◌, length, take, drop, IsTrue};
+ghost use Rattle.sector_cache.specs.Sector.{extent_of, sector_of, with_sector, with_sectors};
 
 /// The length of a sector in bytes (5.2).
 pub const SECTOR_LEN: usize = 512;
@@ -13,12 +13,13 @@ pub fn are_whole_sectors(bytes: u64) -> bool
     bytes.is_multiple_of(SECTOR_LEN as u64)
 }
 
-/// One sector where it lies.
-pub(crate) fn lend(bytes: &[u8], sector: u64) -> Option<&[u8; SECTOR_LEN]>
-    requires { 512 * (sector + 1) ≤ length bytes.now }
-    ensures { IsSomeAnd result (λ lent. lent.now ≡ sector_of bytes.now sector) }
+/// So many sectors where they lie.
+pub(crate) fn lend(bytes: &[u8], first: u64, count: u64) -> &[u8]
+    requires { 512 * (first + count) ≤ length bytes.now }
+    ensures { result.now ≡ extent_of bytes.now first count }
 {
-    bytes[sector as usize * SECTOR_LEN..].first_chunk()
+    let start = first as usize * SECTOR_LEN;
+    &bytes[start..start + count as usize * SECTOR_LEN]
 }
 
 /// Copies one sector out of `bytes`.
@@ -37,6 +38,15 @@ pub(crate) fn copy_into(bytes: &mut [u8], sector: u64, from: &[u8; SECTOR_LEN])
 {
     let start = sector as usize * SECTOR_LEN;
     bytes[start..start + SECTOR_LEN].copy_from_slice(from);
+}
+
+/// Copies sectors into `bytes`, from sector `first` on.
+pub(crate) fn copy_all_into(bytes: &mut [u8], first: u64, from: &[u8])
+    requires { 512 * first + length from.now ≤ length bytes.old }
+    ensures { bytes.new ≡ with_sectors bytes.old first from.now }
+{
+    let start = first as usize * SECTOR_LEN;
+    bytes[start..start + from.len()].copy_from_slice(from);
 }
 
 /// Copies the first half of one sector over that of another.

@@ -49,8 +49,12 @@ impl Image for BlindImage {
         4
     }
 
-    fn lend_sector(&self, _sector: u64) -> Option<&[u8; 512]> {
+    fn lend_sectors(&self, _first: u64, _count: u64) -> Option<&[u8]> {
         None
+    }
+
+    fn write_in_place(&mut self, _first: u64, _from: &[u8]) -> bool {
+        false
     }
 
     fn read_sector(&mut self, _sector: u64, _into: &mut [u8; 512]) -> Result<(), ImageError> {

@@ -2,7 +2,9 @@
 
 use crate::tests::refused::requests_of;
 use crate::tests::same;
-use crate::tests::sectors::{Call, Given, cached, call_of, eight_bytes, eight_sectors, halves_of};
+use crate::tests::sectors::{
+    Call, Given, cached, call_of, eight_bytes, eight_sectors, filled, halves_of,
+};
 use refusing::RefusingHeap;
 use sector_cache::{Image, MemoryImage, SectorCache};
 use std::alloc::Global;
@@ -14,23 +16,51 @@ fn eight_in_memory(alloc: Global) -> Result<MemoryImage, Fail> {
     Ok(MemoryImage::new(eight_bytes(alloc)?)?)
 }
 
-/// What an image lends of its sector 3, where it lends any.
-fn third_of<I: Image>(image: &I) -> Option<Given> {
+/// The first byte and the last of sectors 3 and 4 of an image, where it lends them.
+fn two_of<I: Image>(image: &I) -> Option<(usize, [u8; 2])> {
     if image.sectors() != 8 {
         return None;
     }
-    image.lend_sector(3).map(halves_of)
+    let lent = image.lend_sectors(3, 2)?;
+    Some((lent.len(), [*lent.first()?, *lent.last()?]))
 }
 
 #[test]
 fn an_image_in_memory_lends(rt: HostRuntime) -> Result<(), Fail> {
-    let memory = third_of(&eight_in_memory(rt.alloc())?);
-    let scripted = third_of(&eight_sectors(rt.alloc(), &[])?);
+    let memory = two_of(&eight_in_memory(rt.alloc())?);
+    let scripted = two_of(&eight_sectors(rt.alloc(), &[])?);
     same(
         &rt,
-        &"sector 3",
+        &"sectors 3 and 4",
         &(memory, scripted),
-        &(Some(Some([0x13, 0x13])), None),
+        &(Some((1024, [0x13, 0x14])), None),
+    );
+    Ok(())
+}
+
+/// Writes sectors 3 and 4 in place, and answers whether that is done and what stands in 4 and 5 then.
+fn written_of<I: Image>(image: &mut I) -> Option<(bool, [Given; 2])> {
+    if image.sectors() != 8 {
+        return None;
+    }
+    let is_written = image.write_in_place(3, &[0x66; 1024]);
+    let (mut fourth, mut fifth) = (filled(0), filled(0));
+    image.read_sector(4, &mut fourth).ok()?;
+    image.read_sector(5, &mut fifth).ok()?;
+    Some((is_written, [halves_of(&fourth), halves_of(&fifth)]))
+}
+
+#[test]
+fn an_image_in_memory_is_written_in_place(rt: HostRuntime) -> Result<(), Fail> {
+    let memory = written_of(&mut eight_in_memory(rt.alloc())?);
+    let scripted = written_of(&mut eight_sectors(rt.alloc(), &[])?);
+    let written = (true, [Some([0x66, 0x66]), Some([0x15, 0x15])]);
+    let left = (false, [Some([0x14, 0x14]), Some([0x15, 0x15])]);
+    same(
+        &rt,
+        &"sectors 4 and 5",
+        &(memory, scripted),
+        &(Some(written), Some(left)),
     );
     Ok(())
 }

@@ -56,8 +56,12 @@ impl Image for SwitchedImage {
         self.memory.sectors()
     }
 
-    fn lend_sector(&self, _sector: u64) -> Option<&[u8; 512]> {
+    fn lend_sectors(&self, _first: u64, _count: u64) -> Option<&[u8]> {
         None
+    }
+
+    fn write_in_place(&mut self, _first: u64, _from: &[u8]) -> bool {
+        false
     }
 
     fn read_sector(&mut self, sector: u64, into: &mut [u8; 512]) -> Result<(), ImageError> {

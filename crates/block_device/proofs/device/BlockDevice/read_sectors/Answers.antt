@@ -1,7 +1,19 @@
 use Rattle.std.proofs.Common.{◌≡◌, ◌+◌, ◌*◌, length, refl, arith}
-use Rattle.block_device.proofs.Transfers.{after_lent, after_refused, reading_start, reading_more, reading_done, reading_fails}
+use Rattle.block_device.proofs.Transfers.{after_lent, after_refused, reading_start, reading_more, reading_run, reading_done, reading_fails}
 use Rattle.sector_cache.proofs.Stops.{touches_more, touches_none}
 use Rattle.block_device.proofs.device.BlockDevice.read_sectors.Goals as goal
+
+pub returns-in-Some-clause-done : goal.returns-in-Some-clause-done
+returns-in-Some-clause-done g c =
+    let disk = g.I.Image.disk c.args.cache.now in
+    let first = c.args.self.now.extent.start + c.args.sector in
+    let run = reading_run c.args.chain.now c.args.mem.now c.write_at.new.mem disk first c.args.count c.in-Some.bytes.now
+    c.in-Some.ensures.len c.in-Some.ensures.told c.write_at.ensures.written c.write_at.ensures.same_range in
+    reading_done c.args.self.now.extent c.args.chain.now c.args.mem.now c.write_at.new.mem disk disk c.args.sector c.args.count c.args.count (512 * c.args.count)
+    run refl refl c.requires.sectors
+
+pub returns-in-Some-clause-touches : goal.returns-in-Some-clause-touches
+returns-in-Some-clause-touches g c = touches_none 0 0
 
 pub loop-done-init : goal.loop-done-init
 loop-done-init g c = (
