@@ -8,6 +8,10 @@ use std::alloc::{AllocError, Allocator, Global};
 use std::marker::Model;
 use std_alloc::vec::Lodged;
 
+mod lent;
+
+pub use lent::lend;
+
 /// The bytes of one region.
 #[derive(Drop)]
 pub struct GuestBytes<A: Allocator = Global> {
@@ -36,6 +40,16 @@ impl<A: Allocator> GuestBytes<A> {
             own,
             lent: Vec::new(Lodged),
         })
+    }
+
+    /// The bytes that a host lends. Dropping them frees nothing.
+    pub fn lent(alloc: A, bytes: Vec<u8, Lodged>) -> GuestBytes<A>
+        ensures { result ≡ bytes.items }
+    {
+        GuestBytes {
+            own: Vec::new(alloc),
+            lent: bytes,
+        }
     }
 
     /// How many bytes there are.
