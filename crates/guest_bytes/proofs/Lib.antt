@@ -1,1 +1,1 @@
-mod Lodging
+pub mod Lodging

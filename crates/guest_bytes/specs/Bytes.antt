@@ -1,7 +1,7 @@
--- A region's bytes as a list.
+-- A region's bytes, and a list of bytes that is written in part.
 use Rattle.std.specs.Prelude.{ℕ, ◌+◌, List, [], ◌∷◌, ◌++◌, length, take, drop}
 
--- the library's own bytes, or where it has none, those that are lent
+-- the library's own bytes, or where there are none, those that are lent
 abbrev pub bytes_of : List ℕ → List ℕ → List ℕ
 bytes_of [] lent = lent
 bytes_of (b ∷ bs) lent = b ∷ bs

@@ -41,7 +41,6 @@ use Rattle.guest_bytes.specs.contracts.lent.lend.Key.{name as #self}
 use Rattle.guest_bytes.proofs.lent.lend.Statement as stated
 use Rattle.guest_bytes.proofs.lent.lend.Code as code
 
-
 abbrev key : Callee
 key = callee_name (layouts (a_type ∷ []) (u8, tt))
 
