@@ -13,7 +13,7 @@ use prog.Routine.{Routine}
 use contract.Monad.{Fun, fact, fact_i}
 use contract.BorrowLft.{◌⊑◌, ⊑_refl}
 use types.Logic.{Logic, sem}
-use types.Kit.{Goal, Seq, Item, ‵, raw, ◌⊛◌, some, later, given, ◌$◌, ◌∵◌, !, qed, move, keep, use0, use1, drop, split, join, pick, fsplit, fjoin, fjoin3, feq_l, feq_i, flt_i, rewrite, check, show, await, updating, now, done}
+use types.Kit.{Goal, Seq, Item, ‵, raw, ◌⊛◌, some, later, ◌$◌, ◌∵◌, !, qed, move, keep, use0, use1, drop, split, join, pick, fsplit, fjoin, fjoin3, feq_l, feq_i, flt_i, rewrite, check, show, await, updating, now, done}
 use denote.RattleType.{RattleType}
 use denote.Builtin.{u8}
 use denote.Array.{Array}

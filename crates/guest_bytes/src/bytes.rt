@@ -64,6 +64,16 @@ impl<A: Allocator> GuestBytes<A> {
         self.own.len()
     }
 
+    /// All the bytes.
+    pub fn as_slice(&self) -> &[u8]
+        ensures { result.now ≡ self.now }
+    {
+        if self.own.is_empty() {
+            return &self.lent;
+        }
+        &self.own
+    }
+
     /// The `n` bytes from place `from` on.
     pub fn slice(&self, from: usize, n: usize) -> &[u8]
         requires { from + n ≤ length self.now }

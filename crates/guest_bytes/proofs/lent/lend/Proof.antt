@@ -2,7 +2,7 @@
 use Rattle.std.proofs.Common.{◌≡◌, ℕ, ◌^◌, ◌<◌, List, [], ◌∷◌, ◌++◌, length, refl, sym, ap, ◌∙◌, subst, Vec}
 use seplogic.Ra.Ura.{Ura}
 use base.Fraction.{full_share}
-use mir.Syntax.{Fn, Callee, a_type, w64}
+use mir.Syntax.{Callee, a_type, w64}
 use mir.Val.{Val, vptr, vint}
 use base.Logic.{SProp, ent, id⊢, never}
 use prog.Memory.{Memory}
@@ -24,7 +24,7 @@ use denote.RawPtr.{ptr_val, in_a_block, block_ptr, lies_at}
 use denote.Signature.{plain, types_at}
 use denote.Steps.{nothing, heard, only}
 use denote.Triple.Call.{calls_at}
-use denote.Triple.Clauses.{Clauses, Ended, closing}
+use denote.Triple.Clauses.{Clauses, closing}
 use denote.Triple.Entry.{alive}
 use denote.Triple.Spec.{Meets, triple_of}
 use denote.Triple.Statement.{Triple}
