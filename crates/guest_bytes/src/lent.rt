@@ -1,0 +1,17 @@
+//! Bytes that their owner hands over by a pointer. No other function here sees one.
+
+ghost use Rattle.std.specs.Prelude.{◌≡◌, ℕ, ◌^◌, ◌<◌, List};
+ghost use Rattle.std.specs.Borrow.{full_share, sem, u8};
+ghost use Rattle.std.specs.Ptr.{lies_at};
+ghost use denote.Array.{Array};
+
+use std_alloc::vec::{Lodged, lodge};
+
+/// The `len` bytes from `ptr` on, which the caller owns and gives up. None is touched here, and a drop frees none.
+pub unsafe fn lend(ptr: *mut u8, len: usize) -> Vec<u8, Lodged>
+    ghost items: { List ℕ }
+    requires* { sem 𝓛 (lies_at (Array u8 len) full_share ptr items) ∗ ⌜ len < 2 ^ 63 ⌝ }
+    ensures { result.items ≡ items }
+{
+    lodge(ptr, len, len)
+}
