@@ -1,6 +1,7 @@
 -- Whether areas lie in a memory hangs on its addresses alone, and is tested.
 use Rattle.std.proofs.Common.{◌≡◌, ℕ, zero, suc, ◌<◌, ◌+◌, ◌*◌, Bool, true, false, refl, arith}
 use Rattle.std.proofs.lemmas.Bool.Decides.{nat_tests}
+use lib.Count.{ones}
 use Rattle.guest_memory.specs.Memory.{Memory, SameRange}
 use Rattle.guest_memory.proofs.Ranges.{inside_same, is_inside-tells}
 use Rattle.split_ring.specs.Ring.{SplitSetup, LiesIn, IsAligned, IsQueueSize, can_set_up}
@@ -40,5 +41,6 @@ unusable m setup never = by (can_set_up m setup) refl
 
 -- a queue has a descriptor
 pub positive : (n : ℕ) → IsQueueSize n → 0 < n
+unfolding ones
 positive zero number = let test : false ≡ true = number.power_of_two in cc
 positive (suc n) number = omega arith
