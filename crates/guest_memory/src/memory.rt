@@ -3,7 +3,7 @@
 ghost use Rattle.std.specs.Prelude.{◌≡◌, ◌+◌, ◌-◌, ◌^◌, ◌≤◌, ◌<◌, ◌↔◌, length, replicate, [], ◌∷◌, IsTrue, IsSome, IfOk, OnOk, IfSome, slice_index_or};
 ghost use Rattle.std.specs.List.{position};
 ghost use Rattle.guest_memory.specs.Limits.{IsSize, IsBase};
-ghost use Rattle.guest_memory.specs.Memory.{Inside, SameRange, is_inside, part_of, zeroed};
+ghost use Rattle.guest_memory.specs.Memory.{Inside, SameRange, first_region, is_inside, part_of, zeroed};
 ghost use Rattle.guest_memory.specs.Regions.{touches, IsIn, AreApart, memory_of};
 ghost use Rattle.guest_memory.specs.Lending.{LendsPart};
 ghost use Rattle.std.specs.Borrow.{sem};
@@ -95,6 +95,15 @@ impl<A: Allocator> GuestMemory<A> {
     {
         let last = &self.regions[self.regions.len() - 1];
         last.base() - self.base() + last.len()
+    }
+
+    /// The bytes of the first region: all that there are where it is the only one.
+    pub fn first_region(&self) -> &[u8]
+        ensures value { result.now ≡ first_region self.now }
+        ensures part { result.now ≡ part_of self.now self.now.base (length result.now) }
+        ensures inside { Inside self.now self.now.base (length result.now) }
+    {
+        self.regions[0].bytes()
     }
 
     /// Whether the `n` bytes from `addr` on all lie in the memory, in one region. An empty range does where its address

@@ -52,6 +52,13 @@ impl<A: Allocator> Region<A> {
         self.bytes.len() as u64
     }
 
+    /// Its bytes.
+    pub fn bytes(&self) -> &[u8]
+        ensures { result.now ≡ self.now.bytes }
+    {
+        &self.bytes
+    }
+
     /// Whether `addr` lies in the region, or is its end.
     pub fn touches(&self, addr: u64) -> bool
         ensures { result ≡ touches addr self.now }
