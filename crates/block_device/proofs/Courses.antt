@@ -41,7 +41,7 @@ pub course_start : (device : BlockDevice) (budget : Budget) (m : Memory) (queue 
 course_start device budget m queue disk lies = record {
   piece = piece_begins queue_kind (block_device device) budget (site_of device m queue disk);
   stays = record { rises = omega arith; clear = λ same clear. clear; outside = KeepsOutside-same device.extent disk disk refl refl };
-  range = record { base = refl; size = refl };
+  range = record { base = refl; size = refl; gaps = refl };
   lies = lies;
   made = refl;
   counted = not_less disk.failures;

@@ -45,7 +45,7 @@ reading_start buffers m disk sector = record {
   finds = AreAsTold-none disk sector;
   memory = sym (scattered-nil m (writable_of buffers));
   same = refl;
-  range = record { base = refl; size = refl };
+  range = record { base = refl; size = refl; gaps = refl };
 }
 
 pub reading_more : (buffers : List Buffer) (old m new : Memory) (disk d d' : Disk) (sector done place : ℕ) (chunk : List ℕ) → IsReading buffers old m disk d sector done
@@ -62,7 +62,7 @@ reading_more buffers old m new disk d d' sector done place chunk r whole told sa
           ∙ scattered-then_run old (writable_of buffers) (map Some r.found) chunk place size
           ∙ ap (scattered old (writable_of buffers)) (sym (map-append Some r.found chunk));
       same = same ∙ r.same;
-      range = record { base = range.base ∙ r.range.base; size = range.size ∙ r.range.size };
+      range = record { base = range.base ∙ r.range.base; size = range.size ∙ r.range.size; gaps = range.gaps ∙ r.range.gaps };
     }
 
 -- all of them at once

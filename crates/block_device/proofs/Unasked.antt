@@ -58,7 +58,7 @@ pub record IsUnasked (device : BlockDevice) (budget left : Budget) (start now : 
 pub unasked_start : (device : BlockDevice) (budget : Budget) (m : Memory) (queue : Queue) → LiesIn m queue → IsUnasked device budget budget m m queue queue
 unasked_start device budget m queue lies = record {
   piece = λ disk. piece_begins queue_kind (unasked_device device) budget (at_disk m queue disk);
-  range = record { base = refl; size = refl };
+  range = record { base = refl; size = refl; gaps = refl };
   lies = lies;
   made = refl;
 }

@@ -40,7 +40,7 @@ written_block A Block offset width value old new is = ap (λ (s : SlotState). s.
 written_block A Console offset width value old new is = ap (λ (s : SlotState). s.block) (is [])
 
 pub same_range : (m : Memory) → SameRange m m
-same_range m = record { base = refl; size = refl }
+same_range m = record { base = refl; size = refl; gaps = refl }
 
 pub range_of : (m n : Memory) → n ≡ m → SameRange m n
 range_of m n is = subst (λ (k : Memory). SameRange m k) (sym is) (same_range m)

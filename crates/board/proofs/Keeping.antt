@@ -51,7 +51,7 @@ use Rattle.board.proofs.Alone.{get_set}
 -- ---- the memory keeps its range
 
 same_range : (m : Memory) → SameRange m m
-same_range m = record { base = refl; size = refl }
+same_range m = record { base = refl; size = refl; gaps = refl }
 
 scattered_range : (m : Memory) (addrs : List ℕ) (written : List (Option ℕ)) → SameRange m (scattered m addrs written)
 scattered_range m [] written = same_range m

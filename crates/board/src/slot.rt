@@ -5,7 +5,8 @@
 //! those of its devices' windows, `service` serves their queues, and `console` is what is done to the console
 //! from outside.
 
-ghost use Rattle.std.specs.Prelude.{◌≡◌, ◌≢◌, ◌<◌, ◌≤◌, ◌||◌, ℕ, List, All, map, Some, IfOk};
+ghost use Rattle.std.specs.Prelude.{◌≡◌, ◌≢◌, ◌<◌, ◌≤◌, ◌||◌, ℕ, List, All, map, length, Some, IfOk};
+ghost use Rattle.guest_memory.specs.Memory.{Inside, first_region};
 ghost use Rattle.block_device.specs.Extent.{IsWithin, TouchesExtent};
 ghost use Rattle.board.specs.Fault.{IsMemory};
 ghost use Rattle.board.specs.Image.{Tells, bytes_of, health_of};
@@ -262,13 +263,14 @@ impl<A: Allocator> Slot<A> {
         &self.memory
     }
 
-    /// The bytes of the guest's memory, to be written.
+    /// The bytes of the first region of the guest's memory, to be written.
     pub(crate) fn memory_mut(&mut self) -> &mut [u8]
         ensures* writes_back { sem 𝓛 (LendsBytes A.row A.Allocator self.entry result) }
-        ensures value { result.now ≡ self.old.memory.bytes }
+        ensures value { result.now ≡ first_region self.old.memory }
+        ensures inside { Inside self.old.memory self.old.memory.base (length result.now) }
     {
-        let (base, len) = (self.memory.base(), self.memory.len());
-        self.memory.part_mut(base, len)
+        let (base, len) = (self.memory.base(), self.memory.first_region().len());
+        self.memory.part_mut(base, len as u64)
     }
 
     /// InterruptStatus of the block window and of the console window.

@@ -4,6 +4,7 @@ use Rattle.chain.specs.declared.budget.Progress.{Progress}
 use Rattle.std.specs.List.{slice_get}
 use Rattle.std.specs.Option.{option_map}
 use Rattle.std.specs.Global.{Global}
+use Rattle.guest_memory.specs.Memory.{first_region}
 use Rattle.board.specs.declared.event.EventKind.{EventKind}
 use Rattle.board.specs.declared.reply.Reply.{Reply}
 use Rattle.board.specs.declared.saved.RestoreFault.{RestoreFault}
@@ -43,10 +44,10 @@ pub record MovesOutput (slot : ℕ) (into_old into_new : List ℕ) (taken : ℕ)
   pub moved : into_new ≡ take taken (output_of slot old) ++ drop taken into_old
   pub left : IsTaken old slot (length into_old) (take taken (output_of slot old)) new
 
--- there is such a slot, of which nothing is paused, its memory has so many bytes, and nothing changes
+-- there is such a slot, of which nothing is paused, its memory's first region has so many bytes, and nothing changes
 pub record HasMemory (slot len : ℕ) (old new : SessionState) : Type 0 where
   pub idle : IsIdle slot old
-  pub there : IsSomeAnd (slice_get old.slots slot) (λ found. len ≡ length found.memory.bytes)
+  pub there : IsSomeAnd (slice_get old.slots slot) (λ found. len ≡ length (first_region found.memory))
   pub kept : new ≡ old
 
 -- there is no such slot, and nothing changes

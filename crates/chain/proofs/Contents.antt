@@ -6,7 +6,7 @@ use Rattle.std.proofs.lemmas.List.FromFn.{length-range_with_len}
 use Rattle.std.proofs.lemmas.List.{append-nil, drop-drop, length-take, length-drop, take-append-drop, take-take, length-take-le}
 use borrow.Rule.Slice.PartMut.{put_mid}
 use Rattle.guest_memory.specs.Memory.{Memory, Inside, put, part_of}
-use Rattle.guest_memory.proofs.Ranges.{inside_same, put-none, put-put, put_range, take-plus}
+use Rattle.guest_memory.proofs.Ranges.{inside_part, inside_same, put-none, put-put, put_range, take-plus}
 use Rattle.chain.specs.declared.segment.Buffer.{Buffer}
 use Rattle.chain.specs.declared.segment.Segment.{Segment}
 use Rattle.chain.specs.Buffers.{Within}
@@ -20,7 +20,7 @@ pub part_inside : (m : Memory) (w : Bool) (xs : List Buffer) (place n : ℕ) →
     → (r : Segment) → r ≡ rest_at (segments_of w xs) place → n ≤ r.len → Inside m r.addr n
 part_inside m w xs place n a h r is l =
     let inside : Inside m r.addr r.len = rw is (rest_inside m (segments_of w xs) place (All-segments_of m w xs a) h) in
-    record { above = inside.above; below = omega (arith, inside.below, l) }
+    inside_part inside (omega arith) (omega (arith, l))
 
 -- one more run is read
 pub read_run : (list part into new : List ℕ) (from done n : ℕ) → part ≡ take (length part) (drop (from + done) list) → n ≤ length part
@@ -36,8 +36,8 @@ pub scatter-range : (m : Memory) (a : ℕ) (bs : List ℕ) → Inside m a (lengt
 scatter-range m a [] h = sym (put-none m a)
 scatter-range m a (x ∷ bs) h =
     let r = put_range m a (x ∷ []) in
-    let one : Inside m a (1 + length bs) = record { above = h.above; below = omega (arith, h.below) } in
-    let rest : Inside (put m a (x ∷ [])) (a + 1) (length bs) = inside_same m (put m a (x ∷ [])) (a + 1) (length bs) r (record { above = omega (arith, h.above); below = omega (arith, h.below) }) in
+    let one : Inside m a (1 + length bs) = inside_part h (omega arith) (omega arith) in
+    let rest : Inside (put m a (x ∷ [])) (a + 1) (length bs) = inside_same m (put m a (x ∷ [])) (a + 1) (length bs) r (inside_part h (omega arith) (omega arith)) in
     scatter-range (put m a (x ∷ [])) (a + 1) bs rest ∙ put-put m a (x ∷ []) bs one
 
 -- two runs
@@ -62,7 +62,7 @@ write_run m new xs bytes from done n a h found is less fits put_is =
     let size : length run ≡ n = length-take-le n (drop done bytes) (rw length-drop (omega arith)) in
     let r = rest_addresses (segments_of true xs) (from + done) n h l in
     let inside = rest_inside m (segments_of true xs) (from + done) (All-segments_of m true xs a) h in
-    let part : Inside m rest.addr (length run) = record { above = inside.above; below = omega (arith, inside.below, size, l) } in
+    let part : Inside m rest.addr (length run) = inside_part inside (omega arith) (omega (arith, size, l)) in
     let written : new ≡ scatter m (range_with_len rest.addr n) run = e ∙ sym (scatter-range m rest.addr run part) ∙ ap (λ k. scatter m (range_with_len rest.addr k) run) size in
     let cut : drop (from + done) all ≡ range_with_len rest.addr n ++ drop (from + (done + n)) all =
     sym (take-append-drop n (drop (from + done) all)) ∙ rw (r, drop-drop n (from + done) all) (ap (λ k. range_with_len rest.addr n ++ drop k all) (omega arith)) in
@@ -92,7 +92,7 @@ lent_writes m xs from n bytes a h less size =
     let cut : all ≡ range ++ drop n all = sym (take-append-drop n all) ∙ ap (λ l. l ++ drop n all) (rest_addresses (segments_of true xs) from n h less) in
     let same : length range ≡ length bytes = length-range_with_len rest.addr n ∙ sym size in
     let inside = rest_inside m (segments_of true xs) from (All-segments_of m true xs a) h in
-    let part : Inside m rest.addr (length bytes) = record { above = inside.above; below = omega (arith, inside.below, size, less) } in
+    let part : Inside m rest.addr (length bytes) = inside_part inside (omega arith) (omega (arith, size, less)) in
     sym (ap (λ l. scatter m l bytes) cut
     ∙ ap (scatter m (range ++ drop n all)) (sym (append-nil bytes))
     ∙ scatter-append m range (drop n all) bytes [] same

@@ -8,7 +8,7 @@ use Rattle.std.proofs.lemmas.List.{append_assoc, append-nil, drop-drop}
 use Rattle.std.proofs.lemmas.List.Elements.{All-cons, All-head, All-nil, All-tail}
 use Rattle.std.proofs.lemmas.List.Sums.{count_by-le-length, length-filter, sum_by-cons}
 use Rattle.guest_memory.specs.Memory.{Memory}
-use Rattle.guest_memory.proofs.Ranges.{take-plus}
+use Rattle.guest_memory.proofs.Ranges.{inside_part, take-plus}
 use Rattle.chain.specs.declared.segment.Segment.{Segment}
 use Rattle.chain.specs.declared.segment.Buffer.{Buffer}
 use Rattle.chain.specs.Bytes.{addresses, rest_at, segments_of}
@@ -126,7 +126,7 @@ runs_inside m (s ∷ ss) from to a =
       | inl some ↦
           rw (run_kept (cut from to s) (cuts (from - s.len) (to - s.len) ss) some)
           (All-cons (InMemory m) (cut from to s) (runs_of (from - s.len) (to - s.len) ss)
-          (record { above = omega (arith, here.above); below = omega (arith, here.below, some, k) }) later)
+          (inside_part here (omega arith) (omega (arith, some, k))) later)
       | inr none ↦ rw (empty_left_out (cut from to s) (cuts (from - s.len) (to - s.len) ss) none) later
     ]
 

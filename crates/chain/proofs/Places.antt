@@ -15,7 +15,7 @@ use Rattle.chain.specs.declared.buffers.Start.{Start}
 use Rattle.chain.specs.Held.{start_at}
 use Rattle.chain.specs.Bytes.{segments_of, addresses, len_of, rest_at}
 use Rattle.chain.proofs.Directions.{len_of-append, segments_of-append}
-use Rattle.guest_memory.proofs.Ranges.{length-part_of}
+use Rattle.guest_memory.proofs.Ranges.{inside_part, length-part_of}
 
 abbrev pub InMemory : Memory → Segment → Type 0
 InMemory m s = Inside m s.addr s.len
@@ -76,7 +76,7 @@ rest_inside m [] k a h = absurd (omega arith)
 rest_inside m (s ∷ ss) k a h =
     let here = All-head (InMemory m) s ss a in
     elim (cases_lt k s.len) [
-      | inl near ↦ rw (rest_here s ss k near) (record { above = omega (arith, here.above); below = omega (arith, here.below) })
+      | inl near ↦ rw (rest_here s ss k near) (inside_part here (omega arith) (omega (arith, near)))
       | inr far ↦ rw (rest_behind s ss k far) (rest_inside m ss (k - s.len) (All-tail (InMemory m) s ss a) (behind_size s ss k far h))
     ]
 

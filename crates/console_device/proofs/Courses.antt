@@ -28,7 +28,7 @@ module _ (device : Device (List ℕ)) where
   pub in_course_begins : (budget : Budget) (m : Memory) (queue : Queue) (s : List ℕ) → LiesIn m queue → IsInCourse device budget budget m m queue queue s s
   in_course_begins budget m queue s lies = record {
     piece = piece_begins queue_kind device budget (site_of m queue s);
-    range = record { base = refl; size = refl };
+    range = record { base = refl; size = refl; gaps = refl };
     lies = lies;
     made = refl;
   }

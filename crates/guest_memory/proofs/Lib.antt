@@ -1,2 +1,4 @@
+pub mod Gaps
 pub mod Ranges
+pub mod Regions
 pub mod Spellings

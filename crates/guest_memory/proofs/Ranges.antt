@@ -1,10 +1,10 @@
 -- What callers need of ranges of a memory: what a write leaves, and what it can't reach.
-use Rattle.std.proofs.Common.{◌≡◌, ◌↔◌, ◌⊎◌, inl, inr, ℕ, ◌+◌, ◌-◌, ◌≤◌, List, [], ◌++◌, length, take, drop, refl, ◌∙◌, ap, arith, length-append, length-take, length-drop, append_assoc}
-use Rattle.std.specs.Prelude.{IsTrue}
-use Rattle.std.proofs.lemmas.Bool.{cases_lt}
+use Rattle.std.proofs.Common.{◌≡◌, ◌↔◌, ◌⊎◌, inl, inr, ℕ, ◌+◌, ◌-◌, ◌≤◌, List, [], ◌++◌, length, take, drop, refl, sym, ◌∙◌, ap, subst, arith, Bool, true, false, length-append, length-take, length-drop, append_assoc}
+use Rattle.std.specs.Prelude.{IsTrue, nat_le, ◌&&◌}
 use Rattle.std.proofs.lemmas.Bool.Decides.{nat_tests}
 use Rattle.std.proofs.lemmas.List.{places, same_lists, take_all}
-use Rattle.guest_memory.specs.Memory.{Memory, Inside, is_inside, SameRange, part_of, put_at, put}
+use Rattle.guest_memory.specs.Memory.{Gap, Memory, Inside, MissesAll, is_inside, misses_all, SameRange, part_of, put_at, up_to_gap, put, first_region}
+use Rattle.guest_memory.proofs.Gaps.{misses-none, misses_part, up_to_gap-none, misses_all-true, true-misses_all, up_to_gap-all, up_to_gap-nil}
 
 -- a list keeps its length, whatever is written where
 pub length-put_at : (xs : List ℕ) (i : ℕ) (bs : List ℕ) → length (put_at xs i bs) ≡ length xs
@@ -20,9 +20,40 @@ pub take-put_at : (xs : List ℕ) (i : ℕ) (bs : List ℕ) → i + length bs �
 take-put_at xs i bs fits =
     same_lists _ _ (simp (length-take, length-append, length-drop) (omega arith)) (λ k d h. grind (arith, places))
 
+-- a range that lies inside is written whole
+pub written : (m : Memory) (a : ℕ) (bs : List ℕ) → Inside m a (length bs) → up_to_gap m.gaps a bs ≡ bs
+written m a bs inside = up_to_gap-all m.gaps a bs inside.clear
+
+-- so the memory then has its bytes from there on
+pub put_bytes : (m : Memory) (a : ℕ) (bs : List ℕ) → Inside m a (length bs) → put m a bs ≡ record m { bytes = put_at m.bytes (a - m.base) bs }
+put_bytes m a bs inside = ap (λ (ws : List ℕ). record m { bytes = put_at m.bytes (a - m.base) ws }) (written m a bs inside)
+
+-- a memory without gaps lies in itself
+pub whole_inside : (m : Memory) (n : ℕ) → m.gaps ≡ [] → n ≡ length m.bytes → Inside m m.base n
+whole_inside m n one same = record {
+  above = omega arith;
+  below = omega (arith, same);
+  clear = subst (λ (gs : List Gap). MissesAll gs m.base n) (sym one) (misses-none m.base n);
+}
+
+-- and is all that its first region is
+pub first_region-whole : (m : Memory) → m.gaps ≡ [] → first_region m ≡ m.bytes
+first_region-whole m one = ap (λ (gs : List Gap). up_to_gap gs m.base m.bytes) one ∙ up_to_gap-none m.base m.bytes
+
+-- a part of a range lies where the range does
+pub inside_part : {m : Memory} {a n b k : ℕ} → Inside m a n → a ≤ b → b + k ≤ a + n → Inside m b k
+inside_part {m} {a} {n} {b} {k} h above below =
+    record { above = omega (arith, h.above); below = omega (arith, h.below); clear = misses_part m.gaps a n b k above below h.clear }
+
+-- the same of the k bytes from its place j on
+pub inside_part_after : {m : Memory} {a n : ℕ} (j : ℕ) {k : ℕ} → Inside m a n → j + k ≤ n → Inside m (a + j) k
+inside_part_after {m} {a} {n} j {k} h fits = inside_part h (omega arith) (omega arith)
+
 -- what was written is read back
 pub part_of-put : (m : Memory) (a : ℕ) (bs : List ℕ) → Inside m a (length bs) → part_of (put m a bs) a (length bs) ≡ bs
-part_of-put m a bs inside = take-put_at m.bytes (a - m.base) bs (omega arith)
+part_of-put m a bs inside =
+    ap (λ (ws : List ℕ). take (length bs) (drop (a - m.base) (put_at m.bytes (a - m.base) ws))) (written m a bs inside)
+    ∙ take-put_at m.bytes (a - m.base) bs (omega arith)
 
 -- a part of a list in front of what was written is as before
 pub before-put_at : (xs : List ℕ) (i : ℕ) (bs : List ℕ) (j n : ℕ) → i + length bs ≤ length xs → j + n ≤ i → take n (drop j (put_at xs i bs)) ≡ take n (drop j xs)
@@ -36,16 +67,22 @@ behind-put_at xs i bs j n fits apart within =
 
 -- a range beside the written one is as before
 pub part_of-put_apart : (m : Memory) (a : ℕ) (bs : List ℕ) (b n : ℕ) → Inside m a (length bs) → Inside m b n → (a + length bs ≤ b) ⊎ (b + n ≤ a) → part_of (put m a bs) b n ≡ part_of m b n
-part_of-put_apart m a bs b n inside other (inl behind) = behind-put_at m.bytes (a - m.base) bs (b - m.base) n (omega arith) (omega arith) (omega arith)
-part_of-put_apart m a bs b n inside other (inr before) = before-put_at m.bytes (a - m.base) bs (b - m.base) n (omega arith) (omega arith)
+part_of-put_apart m a bs b n inside other apart =
+    ap (λ (x : Memory). part_of x b n) (put_bytes m a bs inside) ∙ beside apart
+  where
+    beside : (a + length bs ≤ b) ⊎ (b + n ≤ a) → take n (drop (b - m.base) (put_at m.bytes (a - m.base) bs)) ≡ part_of m b n
+    beside (inl behind) = behind-put_at m.bytes (a - m.base) bs (b - m.base) n (omega (arith, inside.above, inside.below)) (omega (arith, inside.above)) (omega (arith, other.above, other.below))
+    beside (inr before) = before-put_at m.bytes (a - m.base) bs (b - m.base) n (omega (arith, inside.above, inside.below)) (omega (arith, inside.above, other.above))
 
 -- a write leaves the range
 pub put_range : (m : Memory) (a : ℕ) (bs : List ℕ) → SameRange m (put m a bs)
-put_range m a bs = record { base = refl; size = length-put_at m.bytes (a - m.base) bs }
+put_range m a bs = record { base = refl; size = length-put_at m.bytes (a - m.base) (up_to_gap m.gaps a bs); gaps = refl }
 
 -- a write of nothing changes nothing
 pub put-none : (m : Memory) (a : ℕ) → put m a [] ≡ m
-put-none m a = ap (λ (xs : List ℕ). record m { bytes = xs }) (same_lists _ _ (length-put_at m.bytes (a - m.base) []) (λ k d h. grind (arith, places)))
+put-none m a =
+    ap (λ (ws : List ℕ). record m { bytes = put_at m.bytes (a - m.base) ws }) (up_to_gap-nil m.gaps a)
+    ∙ ap (λ (xs : List ℕ). record m { bytes = xs }) (same_lists _ _ (length-put_at m.bytes (a - m.base) []) (λ k d h. grind (arith, places)))
 
 -- two writes in a list, the second right behind the first, are one
 pub put_at-put_at : (xs : List ℕ) (i : ℕ) (bs cs : List ℕ) → i + length bs + length cs ≤ length xs → put_at (put_at xs i bs) (i + length bs) cs ≡ put_at xs i (bs ++ cs)
@@ -55,9 +92,15 @@ put_at-put_at xs i bs cs fits =
 -- two writes, the second right behind the first, are one
 pub put-put : (m : Memory) (a : ℕ) (xs ys : List ℕ) → Inside m a (length xs + length ys) → put (put m a xs) (a + length xs) ys ≡ put m a (xs ++ ys)
 put-put m a xs ys inside =
-    let place : a + length xs - m.base ≡ (a - m.base) + length xs = omega arith in
-    ap (λ (i : ℕ). record m { bytes = put_at (put_at m.bytes (a - m.base) xs) i ys }) place
-    ∙ ap (λ (bs : List ℕ). record m { bytes = bs }) (put_at-put_at m.bytes (a - m.base) xs ys (omega arith))
+    let place : a + length xs - m.base ≡ (a - m.base) + length xs = omega (arith, inside.above) in
+    let first : Inside m a (length xs) = inside_part inside (omega arith) (omega arith) in
+    let second : Inside m (a + length xs) (length ys) = inside_part inside (omega arith) (omega arith) in
+    let both : Inside m a (length (xs ++ ys)) = inside_part inside (omega arith) (omega (arith, length-append xs ys)) in
+    ap (λ (x : Memory). put x (a + length xs) ys) (put_bytes m a xs first)
+    ∙ ap (λ (ws : List ℕ). record m { bytes = put_at (put_at m.bytes (a - m.base) xs) (a + length xs - m.base) ws }) (written m (a + length xs) ys second)
+    ∙ ap (λ (i : ℕ). record m { bytes = put_at (put_at m.bytes (a - m.base) xs) i ys }) place
+    ∙ ap (λ (bs : List ℕ). record m { bytes = bs }) (put_at-put_at m.bytes (a - m.base) xs ys (omega (arith, inside.above, inside.below)))
+    ∙ sym (put_bytes m a (xs ++ ys) both)
 
 -- the first bytes of a list, and those that follow
 pub take-plus : (n k : ℕ) (xs : List ℕ) → take (n + k) xs ≡ take n xs ++ take k (drop n xs)
@@ -67,29 +110,34 @@ take-plus n k xs = same_lists _ _ (simp (length-take, length-append, length-drop
 pub length-part_of : (m : Memory) (a n : ℕ) → Inside m a n → length (part_of m a n) ≡ n
 length-part_of m a n inside = simp (length-take, length-drop) (omega arith)
 
--- a range lies in a memory or doesn't
-pub inside_cases : (m : Memory) (a n : ℕ) → Inside m a n ⊎ (¬ Inside m a n)
-inside_cases m a n =
-    elim (cases_lt a m.base) [
-      | inl under ↦ inr (λ h. absurd (omega (arith, h.above)))
-      | inr above ↦ elim (cases_lt (m.base + length m.bytes) (a + n)) [
-        | inl over ↦ inr (λ h. absurd (omega (arith, h.below)))
-        | inr below ↦ inl (record { above = above; below = below })
-      ]
-    ]
+-- what passes the test lies in the memory
+is_inside-true : (m : Memory) (a n : ℕ) → is_inside m a n ≡ true → Inside m a n
+is_inside-true m a n test =
+    let within : nat_le m.base a && nat_le (a + n) (m.base + length m.bytes) ≡ true = grind (arith, nat_tests) in
+    let clear : misses_all m.gaps a n ≡ true = grind (arith, nat_tests) in
+    record { above = grind (arith, nat_tests); below = grind (arith, nat_tests); clear = true-misses_all m.gaps a n clear }
 
 -- the test of a range tells whether it lies in the memory
 pub is_inside-tells : (m : Memory) (a n : ℕ) → IsTrue (is_inside m a n) ↔ Inside m a n
-is_inside-tells m a n = (λ test. record { above = grind (arith, nat_tests); below = grind (arith, nat_tests) }, λ inside. grind (arith, nat_tests))
+is_inside-tells m a n = (is_inside-true m a n, λ inside. grind (arith, nat_tests, misses_all-true m.gaps a n inside.clear))
+
+-- a range lies in a memory or doesn't
+pub inside_cases : (m : Memory) (a n : ℕ) → Inside m a n ⊎ (¬ Inside m a n)
+inside_cases m a n = by (is_inside m a n) refl
+  where
+    by : (t : Bool) → is_inside m a n ≡ t → Inside m a n ⊎ (¬ Inside m a n)
+    by true e = inl ((is_inside-tells m a n).0 e)
+    by false e = inr (λ h. cc ((is_inside-tells m a n).1 h))
 
 -- a range stays inside a memory of the same addresses
 pub inside_same : (old new : Memory) (a n : ℕ) → SameRange old new → Inside old a n → Inside new a n
-inside_same old new a n s h = record { above = omega arith; below = omega arith }
+inside_same old new a n s h =
+    record { above = omega arith; below = omega arith; clear = subst (λ (gs : List Gap). MissesAll gs a n) (sym s.gaps) h.clear }
 
 -- and the test answers as before
 pub is_inside-same : (old new : Memory) (a n : ℕ) → SameRange old new → is_inside new a n ≡ is_inside old a n
-is_inside-same old new a n s = rw (s.base, s.size) refl
+is_inside-same old new a n s = rw (s.base, s.size, s.gaps) refl
 
 -- the addresses stay where they stay in two steps
 pub same_trans : (a b c : Memory) → SameRange a b → SameRange b c → SameRange a c
-same_trans a b c p q = record { base = q.base ∙ p.base; size = q.size ∙ p.size }
+same_trans a b c p q = record { base = q.base ∙ p.base; size = q.size ∙ p.size; gaps = q.gaps ∙ p.gaps }

@@ -1,3 +1,4 @@
 pub mod Limits
 pub mod Memory
+pub mod Regions
 pub mod Lending

@@ -1,7 +1,7 @@
 //! The memory of one guest, and checked access to it.
 //!
 //! A guest's driver hands addresses to its devices, and may hand any. Each access here is tested against
-//! the memory's range first, so the layers above never reach beside it. They stand on this crate for
+//! the memory's regions first, so the layers above never reach beside them. They stand on this crate for
 //! every byte of a descriptor, a ring or a buffer.
 #![tactic(auto)]
 
@@ -9,6 +9,7 @@ mod fault;
 mod laws;
 mod memory;
 mod numbers;
+mod region;
 
 pub use fault::{MemoryFault, fault_of};
 pub use laws::a_range_is_tested;

@@ -1,35 +1,66 @@
-//! Bytes from a base address on, and the test whether a range lies inside.
+//! The regions of a guest's memory, and the test whether a range lies in one of them.
 
-ghost use Rattle.std.specs.Prelude.{◌≡◌, ◌+◌, ◌-◌, ◌^◌, ◌≤◌, ◌↔◌, length, IsTrue, IsSome, IfOk, OnOk, IfSome};
+ghost use Rattle.std.specs.Prelude.{◌≡◌, ◌+◌, ◌-◌, ◌^◌, ◌≤◌, ◌<◌, ◌↔◌, length, replicate, [], ◌∷◌, IsTrue, IsSome, IfOk, OnOk, IfSome, slice_index_or};
+ghost use Rattle.std.specs.List.{position};
 ghost use Rattle.guest_memory.specs.Limits.{IsSize, IsBase};
-ghost use Rattle.guest_memory.specs.Memory.{Inside, SameRange, is_inside, part_of, zeroed};
+ghost use Rattle.guest_memory.specs.Memory.{Inside, SameRange, first_region, is_inside, part_of, zeroed};
+ghost use Rattle.guest_memory.specs.Regions.{touches, IsIn, AreApart, memory_of};
 ghost use Rattle.guest_memory.specs.Lending.{LendsPart};
 ghost use Rattle.std.specs.Borrow.{sem};
 
 use crate::fault::{MemoryFault, fault_of};
-use std::alloc::{Allocator, Global};
+use crate::region::Region;
+use std::alloc::{AllocError, Allocator, Global};
 use std::marker::Model;
 
-/// The memory of one guest: bytes from a base address on.
+/// The memory of one guest: its regions, in ascending order and apart from each other.
 #[derive(Drop)]
 pub struct GuestMemory<A: Allocator = Global> {
-    base: u64,
-    bytes: Vec<u8, A>,
+    regions: Vec<Region<A>, A>,
 }
 
 impl<A: Allocator> Model for GuestMemory<A> {
     ghost use Rattle.guest_memory.specs.Memory.{Memory};
-    ghost use Rattle.guest_memory.specs.Limits.{IsBase};
-    ghost use Rattle.std.specs.Prelude.{length};
+    ghost use Rattle.guest_memory.specs.Regions.{memory_of, AreRegions};
 
     ghost Value = { Memory };
 
-    ghost view = { λ m. record { base = m.base; bytes = m.bytes.items } };
+    ghost view = { λ m. memory_of m.regions.items };
 
-    ghost invariant = { λ m. IsBase m.base (length m.bytes.items) };
+    ghost invariant = { λ m. AreRegions m.regions.items };
 }
 
-impl<A: Allocator> GuestMemory<A> {
+/// The place of the region that holds address `addr`, or whose end it is.
+fn place_of<A: Allocator>(regions: &[Region<A>], addr: u64) -> Option<usize>
+    ensures { result ≡ position (touches addr) regions.now }
+{
+    regions.iter().position(|region| region.touches(addr))
+}
+
+/// The place of the region that holds the `n` bytes from `addr` on.
+fn place_inside<A: Allocator>(regions: &[Region<A>], addr: u64, n: u64) -> usize
+    requires apart { AreApart regions.now }
+    requires inside { Inside (memory_of regions.now) addr n }
+    ensures place { result < length regions.now }
+    ensures region { (d : _) → IsIn (slice_index_or regions.now result d) addr n }
+{
+    place_of(regions, addr).unwrap_or(0)
+}
+
+/// The one region of a memory that has no gaps.
+fn one_region<A: Allocator + Copy>(alloc: A, base: u64, len: u64) -> Result<Vec<Region<A>, A>, AllocError>
+    requires { base + len ≤ 2 ^ 64 }
+    ensures { IfOk result (λ regions. regions.items ≡ record { base = base; bytes = replicate len 0 } ∷ []) }
+{
+    let bytes = vec![in alloc; 0; len as usize]?;
+    let mut regions = Vec::new(alloc);
+    match regions.push(Region::new(base, bytes)) {
+        Ok(()) => Ok(regions),
+        Err(_) => Err(AllocError),
+    }
+}
+
+impl<A: Allocator + Copy> GuestMemory<A> {
     /// A memory of `len` zero bytes from address `base` on.
     pub fn new(alloc: A, base: u64, len: u64) -> Result<GuestMemory<A>, MemoryFault>
         ensures made { IfOk result (λ m. m ≡ zeroed base len) }
@@ -42,35 +73,50 @@ impl<A: Allocator> GuestMemory<A> {
         if let Some(fault) = fault_of(base, len) {
             return Err(fault);
         }
-        match vec![in alloc; 0; len as usize] {
-            Ok(bytes) => Ok(GuestMemory { base, bytes }),
+        match one_region(alloc, base, len) {
+            Ok(regions) => Ok(GuestMemory { regions }),
             Err(_) => Err(MemoryFault::NoMemory),
         }
     }
 
+}
+
+impl<A: Allocator> GuestMemory<A> {
     /// The address of the first byte.
     pub fn base(&self) -> u64
         ensures { result ≡ self.now.base }
     {
-        self.base
+        self.regions[0].base()
     }
 
-    /// The size in bytes.
+    /// The number of addresses from the first byte to the last, those in gaps included.
     pub fn len(&self) -> u64
         ensures { result ≡ length self.now.bytes }
     {
-        self.bytes.len() as u64
+        let last = &self.regions[self.regions.len() - 1];
+        last.base() - self.base() + last.len()
     }
 
-    /// Whether the `n` bytes from `addr` on all lie in the memory. An empty range does where its address
-    /// lies in it, or at its end. Addresses don't wrap.
+    /// The bytes of the first region: all that there are where it is the only one.
+    pub fn first_region(&self) -> &[u8]
+        ensures value { result.now ≡ first_region self.now }
+        ensures part { result.now ≡ part_of self.now self.now.base (length result.now) }
+        ensures inside { Inside self.now self.now.base (length result.now) }
+    {
+        self.regions[0].bytes()
+    }
+
+    /// Whether the `n` bytes from `addr` on all lie in the memory, in one region. An empty range does where its address
+    /// lies in a region, or at its end. Addresses don't wrap.
     pub fn holds(&self, addr: u64, n: u64) -> bool
         ensures inside { IsTrue result ↔ Inside self.now addr n }
         ensures test { result ≡ is_inside self.now addr n }
         ensures fits { IsTrue result → addr + n ≤ 2 ^ 64 }
     {
-        let len = self.len();
-        addr >= self.base && addr - self.base <= len && n <= len - (addr - self.base)
+        match place_of(&self.regions, addr) {
+            Some(place) => n <= self.regions[place].room_behind(addr),
+            None => false,
+        }
     }
 
     /// The `n` bytes from `addr` on, where they all lie in the memory.
@@ -90,8 +136,8 @@ impl<A: Allocator> GuestMemory<A> {
         ensures len { length result.now ≡ n }
         ensures fits { addr + n ≤ 2 ^ 64 }
     {
-        let from = (addr - self.base) as usize;
-        &self.bytes[from..from + n as usize]
+        let place = place_inside(&self.regions, addr, n);
+        self.regions[place].slice(addr, n)
     }
 
     /// The `n` bytes from `addr` on, to be written. `holds` is the test.
@@ -101,7 +147,8 @@ impl<A: Allocator> GuestMemory<A> {
         ensures value { result.now ≡ part_of self.old addr n }
         ensures len { length result.now ≡ n }
     {
-        let from = (addr - self.base) as usize;
-        self.bytes.slice_mut(from..from + n as usize)
+        let place = place_inside(&self.regions, addr, n);
+        let region = &mut self.regions[place];
+        region.part_mut(addr, n)
     }
 }

@@ -15,6 +15,7 @@ use std::alloc::Allocator;
 
 /// Walks the split table of `len` bytes at `addr` from its first descriptor (2.7.5.3) and puts its buffers
 /// into the chain. After a fault the chain holds the buffers before it.
+#[tactic(auto, using(guest_memory::proofs::Ranges::inside_part))]
 pub fn append_split<A: Allocator>(
     mem: &GuestMemory<A>,
     addr: u64,
@@ -70,6 +71,7 @@ fn read_plain<A: Allocator>(mem: &GuestMemory<A>, addr: u64) -> Result<Descripto
 
 /// Puts the buffers of all descriptors of the packed table of `len` bytes at `addr` into the chain, in
 /// their order (2.8.7). After a fault the chain holds the buffers before it.
+#[tactic(auto, using(guest_memory::proofs::Ranges::inside_part))]
 pub fn append_packed<A: Allocator>(
     mem: &GuestMemory<A>,
     addr: u64,

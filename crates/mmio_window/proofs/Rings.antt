@@ -1,6 +1,5 @@
 -- What makes a ring, and which memories it lies in.
-use Rattle.std.proofs.Common.{◌≡◌, ℕ, Bool, true, false, cond, Some, None, refl, sym, ap, subst, arith}
-use Rattle.std.proofs.lemmas.Bool.Decides.{nat_tests}
+use Rattle.std.proofs.Common.{◌≡◌, ℕ, Bool, true, false, cond, Some, None, refl, sym, ap, subst}
 use Rattle.guest_memory.specs.Memory.{Memory, SameRange}
 use Rattle.negotiation.specs.Features.{ring_packed}
 use Rattle.negotiation.specs.Sets.{has}
@@ -16,21 +15,6 @@ use Rattle.mmio_window.specs.declared.queue_registers.QueueRegisters.{QueueRegis
 use Rattle.mmio_window.specs.Queue.{LiesIn, made_as}
 use Rattle.mmio_window.specs.QueueRegisters.{packed_ring_of, packed_setup_of, ring_of, split_ring_of, split_setup_of}
 
--- a ring that passes its test lies in the memory
-split_lies-from_test : (m : Memory) (setup : SplitSetup) → split.can_set_up m setup ≡ true → split.LiesIn m setup
-split_lies-from_test m setup usable = record {
-  desc = record { above = grind (arith, nat_tests); below = grind (arith, nat_tests) };
-  driver = record { above = grind (arith, nat_tests); below = grind (arith, nat_tests) };
-  device = record { above = grind (arith, nat_tests); below = grind (arith, nat_tests) };
-}
-
-packed_lies-from_test : (m : Memory) (setup : PackedSetup) → packed.can_set_up m setup ≡ true → packed.LiesIn m setup
-packed_lies-from_test m setup usable = record {
-  desc = record { above = grind (arith, nat_tests); below = grind (arith, nat_tests) };
-  driver = record { above = grind (arith, nat_tests); below = grind (arith, nat_tests) };
-  device = record { above = grind (arith, nat_tests); below = grind (arith, nat_tests) };
-}
-
 -- a ring that was made is as it was made, and lies in the memory
 pub record IsMade (m : Memory) (ring : Queue) : Type 0 where
   pub fresh : made_as ring ≡ ring
@@ -44,11 +28,11 @@ made_by_test m fresh true ring is_made made = let same : fresh ≡ ring = cc in 
 
 split_is_made : (m : Memory) (setup : SplitSetup) (ring : Queue) → split_ring_of m setup ≡ Some ring → IsMade m ring
 split_is_made m setup ring made =
-    made_by_test m (Split (split.new_ring setup)) (split.can_set_up m setup) ring (λ usable. record { fresh = refl; lies = split_lies-from_test m setup usable }) made
+    made_by_test m (Split (split.new_ring setup)) (split.can_set_up m setup) ring (λ usable. record { fresh = refl; lies = split_areas.LiesIn-from_test m setup usable }) made
 
 packed_is_made : (m : Memory) (setup : PackedSetup) (ring : Queue) → packed_ring_of m setup ≡ Some ring → IsMade m ring
 packed_is_made m setup ring made =
-    made_by_test m (Packed (packed.new_ring setup)) (packed.can_set_up m setup) ring (λ usable. record { fresh = refl; lies = packed_lies-from_test m setup usable }) made
+    made_by_test m (Packed (packed.new_ring setup)) (packed.can_set_up m setup) ring (λ usable. record { fresh = refl; lies = packed_areas.LiesIn-from_test m setup usable }) made
 
 made_by_kind : (m : Memory) (features : ℕ) (registers : QueueRegisters) (is_packed : Bool) (ring : Queue)
     → cond is_packed (packed_ring_of m (packed_setup_of features registers)) (split_ring_of m (split_setup_of features registers)) ≡ Some ring
@@ -61,7 +45,7 @@ is_made m features registers ring made = made_by_kind m features registers (has 
 
 -- in a memory of the same range the same rings are made
 pub ring_of-same : (m m' : Memory) (features : ℕ) (registers : QueueRegisters) → SameRange m m' → ring_of m' features registers ≡ ring_of m features registers
-ring_of-same m m' features registers same = rw (same.base, same.size) refl
+ring_of-same m m' features registers same = rw (same.base, same.size, same.gaps) refl
 
 -- a ring lies where another of its setup does, also once the memory's bytes have changed
 pub LiesIn-same : (m m' : Memory) (ring served : Queue) → SameRange m m' → made_as served ≡ made_as ring → LiesIn m ring → LiesIn m' served

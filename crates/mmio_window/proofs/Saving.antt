@@ -63,7 +63,7 @@ its_ring-served m n saved reached (Some fresh) ring settled made e =
     record {
       settled = settled;
       made = made ∙ ap Some (sym (is ∙ as_made.fresh));
-      lies = LiesIn-same m m fresh ring (record { base = refl; size = refl }) is as_made.lies;
+      lies = LiesIn-same m m fresh ring (record { base = refl; size = refl; gaps = refl }) is as_made.lies;
     }
 
 its_ring-by_test : (m : Memory) (n : NegotiationState) (saved : SavedQueue) (reached : Reached) (stands : Bool) (ring : Queue)

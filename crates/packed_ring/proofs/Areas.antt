@@ -1,8 +1,9 @@
--- Whether areas lie in a memory hangs on its addresses alone.
-use Rattle.std.proofs.Common.{◌*◌}
+-- Whether areas lie in a memory hangs on its addresses alone, and is tested.
+use Rattle.std.proofs.Common.{◌≡◌, ◌+◌, ◌*◌, Bool, true, false, refl, arith}
+use Rattle.std.proofs.lemmas.Bool.Decides.{nat_tests}
 use Rattle.guest_memory.specs.Memory.{Memory, SameRange}
-use Rattle.guest_memory.proofs.Ranges.{inside_same}
-use Rattle.packed_ring.specs.Ring.{PackedSetup, LiesIn}
+use Rattle.guest_memory.proofs.Ranges.{inside_same, is_inside-tells}
+use Rattle.packed_ring.specs.Ring.{PackedSetup, LiesIn, IsAligned, IsQueueSize, can_set_up}
 
 pub LiesIn-from_SameRange : (m m' : Memory) (setup : PackedSetup) → SameRange m m' → LiesIn m setup → LiesIn m' setup
 LiesIn-from_SameRange m m' setup same l = record {
@@ -10,3 +11,29 @@ LiesIn-from_SameRange m m' setup same l = record {
   driver = inside_same m m' setup.driver 4 same l.driver;
   device = inside_same m m' setup.device 4 same l.device;
 }
+
+-- areas of which the test says so lie in the memory
+pub LiesIn-from_test : (m : Memory) (setup : PackedSetup) → can_set_up m setup ≡ true → LiesIn m setup
+LiesIn-from_test m setup usable = record {
+  desc = (is_inside-tells m setup.desc (16 * setup.size)).0 (grind (arith, nat_tests));
+  driver = (is_inside-tells m setup.driver 4).0 (grind (arith, nat_tests));
+  device = (is_inside-tells m setup.device 4).0 (grind (arith, nat_tests));
+}
+
+-- a ring may be set up where its number, its addresses and its areas are good
+pub usable : (m : Memory) (setup : PackedSetup) → IsQueueSize setup.size → IsAligned setup → LiesIn m setup → can_set_up m setup ≡ true
+usable m setup number aligned lies =
+    let desc = (is_inside-tells m setup.desc (16 * setup.size)).1 lies.desc in
+    let driver = (is_inside-tells m setup.driver 4).1 lies.driver in
+    let device = (is_inside-tells m setup.device 4).1 lies.device in
+    grind (arith, nat_tests, number.least, number.most, aligned.desc, aligned.driver, aligned.device, desc, driver, device)
+
+-- and may not where an address or an area isn't
+pub unusable : (m : Memory) (setup : PackedSetup) → (IsAligned setup → LiesIn m setup → ⊥) → can_set_up m setup ≡ false
+unusable m setup never = by (can_set_up m setup) refl
+  where
+    by : (t : Bool) → can_set_up m setup ≡ t → t ≡ false
+    by true e =
+        let aligned : IsAligned setup = record { desc = grind (arith, nat_tests); driver = grind (arith, nat_tests); device = grind (arith, nat_tests) } in
+        absurd (never aligned (LiesIn-from_test m setup e))
+    by false e = refl

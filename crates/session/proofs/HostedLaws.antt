@@ -22,7 +22,6 @@ use Rattle.board.proofs.Waiting.{busy_stays, idle_stays, outlasts, untied}
 use Rattle.session.specs.Hosted.{HostedSessionState, IsHostedCall, IsKept, flight_at, with_hosted_bytes}
 use Rattle.session.specs.Session.{Waiting, none_waiting, waiting_at}
 use Rattle.session.proofs.HostedSteps.{quiet}
-use Rattle.session.proofs.InPlace.{whole_inside}
 use Rattle.session.proofs.Steps.{rebuilt}
 
 -- what a call for a slot that is there comes to
@@ -168,12 +167,12 @@ idle_keeps old new h event is = idle_from old new h event (slice_get old.slots h
 
 -- ---- a write in place
 
-pub hosted_in_place : (A : Type 0) (old : HostedSessionState) (h : ℕ) (found : HostedState) (bytes : List ℕ) → slice_get old.slots h ≡ Some found → length bytes ≡ length found.slot.memory.bytes
+pub hosted_in_place : (A : Type 0) (old : HostedSessionState) (h : ℕ) (found : HostedState) (bytes : List ℕ) → slice_get old.slots h ≡ Some found → Inside found.slot.memory found.slot.memory.base (length bytes)
     → IsHostedCall {A = A} old h (MemWrite found.slot.memory.base bytes) Done (with_hosted_bytes h old bytes)
-hosted_in_place A old h found bytes here same =
+hosted_in_place A old h found bytes here inside =
     let memory : Memory = found.slot.memory in
     let new = with_bytes found bytes in
-    let fits = (is_inside-tells memory memory.base (length bytes)).1 (whole_inside memory (length bytes) same) in
+    let fits = (is_inside-tells memory memory.base (length bytes)).1 inside in
     let writes = was_written A old.slots h found new memory.base bytes true here (sym fits) refl _ in
     subst (λ (o : Option HostedState). IsHostedCall {A = A} old h (MemWrite memory.base bytes) Done (record old { slots = put_back h o bytes old.slots })) (sym here)
     (quiet old.slots (slice_set old.slots h new) old.outputs h (MemWrite memory.base bytes) Done writes (λ other differ. others_stay old.slots h new other differ))

@@ -6,7 +6,7 @@ use Rattle.std.proofs.lemmas.Bool.Decides.{nat_tests}
 use Rattle.std.proofs.lemmas.List.{map-set, take_all, drop_all}
 use Rattle.std.proofs.lemmas.Option.{slice_get-map, slice_get_within}
 use Rattle.guest_memory.specs.Memory.{Inside, Memory, is_inside, put, put_at}
-use Rattle.guest_memory.proofs.Ranges.{is_inside-tells}
+use Rattle.guest_memory.proofs.Ranges.{is_inside-tells, put_bytes, whole_inside}
 use Rattle.sector_cache.specs.Disk.{Disk}
 use Rattle.board.specs.declared.event.EventKind.TheVariants.{MemWrite}
 use Rattle.board.specs.declared.reply.Reply.TheVariants.{Done}
@@ -65,36 +65,35 @@ put_all old new same =
     ap (λ (rest : List ℕ). take (length old) (take 0 old ++ new ++ rest)) (drop_all (0 + length new) old (omega (arith, same)))
     ∙ (ap (λ (bs : List ℕ). take (length old) bs) (append-nil new) ∙ take_all (length old) new (omega (arith, same)))
 
-put_whole : (memory : Memory) (bytes : List ℕ) → length bytes ≡ length memory.bytes → put memory memory.base bytes ≡ record memory { bytes = bytes }
-put_whole memory bytes same =
+put_whole : (memory : Memory) (bytes : List ℕ) → memory.gaps ≡ [] → length bytes ≡ length memory.bytes
+    → put memory memory.base bytes ≡ record memory { bytes = bytes }
+put_whole memory bytes one same =
     let front : memory.base - memory.base ≡ 0 = omega arith in
-    ap (λ (bs : List ℕ). record memory { bytes = bs }) (rw front (put_all memory.bytes bytes same))
+    put_bytes memory memory.base bytes (whole_inside memory (length bytes) one same)
+    ∙ ap (λ (bs : List ℕ). record memory { bytes = bs }) (rw front (put_all memory.bytes bytes same))
 
-pub whole_inside : (memory : Memory) (n : ℕ) → n ≡ length memory.bytes → Inside memory memory.base n
-whole_inside memory n same = record { above = omega arith; below = omega (arith, same) }
-
--- what is left of a memory that was lent
+-- what is left of a region that was lent
 pub in_place_lent : (A : Type 0) (old : SessionState) (slot : ℕ) (found : BoardSlot) (bytes : List ℕ) →
-    slice_get old.slots slot ≡ Some found → length bytes ≡ length found.memory.bytes →
+    slice_get old.slots slot ≡ Some found → Inside found.memory found.memory.base (length bytes) →
     IsStep {A = A} old (record { slot = slot; what = MemWrite found.memory.base bytes }) Done (with_slot_bytes slot old bytes)
-in_place_lent A old slot found bytes here same =
+in_place_lent A old slot found bytes here inside =
     subst (λ (o : Option BoardSlot). IsStep {A = A} old (record { slot = slot; what = MemWrite found.memory.base bytes }) Done (record old { slots = put_back slot o bytes old.slots }))
     (sym here)
-    (in_place A old slot found.memory.base found bytes here (whole_inside found.memory (length bytes) same))
+    (in_place A old slot found.memory.base found bytes here inside)
 
 pub in_place_whole : (A : Type 0) (old : SessionState) (slot : ℕ) (found : BoardSlot) (bytes : List ℕ) →
-    slice_get old.slots slot ≡ Some found → length bytes ≡ length found.memory.bytes →
+    slice_get old.slots slot ≡ Some found → found.memory.gaps ≡ [] → length bytes ≡ length found.memory.bytes →
     IsStep {A = A} old (record { slot = slot; what = MemWrite found.memory.base bytes }) Done (with_memory slot found (record found.memory { bytes = bytes }) old)
-in_place_whole A old slot found bytes here same =
+in_place_whole A old slot found bytes here one same =
     subst (λ (memory : Memory). IsStep {A = A} old (record { slot = slot; what = MemWrite found.memory.base bytes }) Done (with_memory slot found memory old))
-    (put_whole found.memory bytes same)
-    (in_place A old slot found.memory.base found bytes here (whole_inside found.memory (length bytes) same))
+    (put_whole found.memory bytes one same)
+    (in_place A old slot found.memory.base found bytes here (whole_inside found.memory (length bytes) one same))
 
 -- ---- as a call
 
 pub in_place_call : (A : Type 0) (old : SessionState) (slot : ℕ) (found : BoardSlot) (bytes : List ℕ) →
-    slice_get old.slots slot ≡ Some found → length bytes ≡ length found.memory.bytes → slice_get old.paused slot ≡ Some None →
+    slice_get old.slots slot ≡ Some found → Inside found.memory found.memory.base (length bytes) → slice_get old.paused slot ≡ Some None →
     IsCall {A = A} old (Handle (record { slot = slot; what = MemWrite found.memory.base bytes })) (Answered Done) (with_slot_bytes slot old bytes)
-in_place_call A old slot found bytes here same idle =
+in_place_call A old slot found bytes here inside idle =
     rw idle (idle_step_call {A = A} old (with_slot_bytes slot old bytes) (record { slot = slot; what = MemWrite found.memory.base bytes }) Done idle (slice_get_within old.slots slot found here) (λ state. refl)
-    (in_place_lent A old slot found bytes here same))
+    (in_place_lent A old slot found bytes here inside))

@@ -27,6 +27,7 @@ const EVENT_WRAP: u16 = 1 << 15;
 /// place `from` on, skipped ones included (2.8.10). A place is a position with a wrap counter of 1, or
 /// `n` more than a position with 0. The driver's area is read as it is now; `event_idx` is whether
 /// VIRTIO_F_EVENT_IDX was negotiated.
+#[tactic(auto, using(guest_memory::proofs::Ranges::inside_part))]
 pub fn packed_wants<A: Allocator>(
     mem: &GuestMemory<A>,
     driver_area: u64,

@@ -17,6 +17,7 @@ const IDX_MODULUS: u32 = 1 << 16;
 /// Whether the driver of a split queue of size `n` wants a notification of the `count` used entries
 /// that were placed from place `from` on (2.7.7). Places are values of the used idx. Its area, the
 /// available ring, is read as it is now; `event_idx` is whether VIRTIO_F_EVENT_IDX was negotiated.
+#[tactic(auto, using(guest_memory::proofs::Ranges::inside_part))]
 pub fn split_wants<A: Allocator>(
     mem: &GuestMemory<A>,
     driver_area: u64,

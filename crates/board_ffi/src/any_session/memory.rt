@@ -1,6 +1,7 @@
 //! A guest's memory between its accesses.
 
 ghost use Rattle.std.specs.Prelude.{◌≡◌, ◌≢◌, length};
+ghost use Rattle.guest_memory.specs.Memory.{first_region};
 ghost use Rattle.board.specs.declared.event.EventKind.{EventKind};
 ghost use Rattle.board.specs.declared.reply.Reply.{Reply};
 ghost use Rattle.board_ffi.specs.Calls.{HasMemory, IsBusy, IsMissing, Takes};
@@ -32,7 +33,7 @@ impl AnySession {
         }
     }
 
-    /// Tells where a guest's memory lies, and how many bytes it has.
+    /// Tells where the first region of a guest's memory lies, and how many bytes it has.
     pub(crate) fn lend(&self, slot: u8, bytes: &mut *mut u8, len: &mut usize) -> u32
         ensures lent { result ≡ 0 → HasMemory slot len.new self.now self.now }
         ensures missing { result ≢ 0 → result ≢ 19 → IsMissing slot result self.now self.now }
@@ -52,12 +53,12 @@ impl AnySession {
     }
 }
 
-// Tells where a memory lies.
+// Tells where the first region of a memory lies.
 fn place(memory: &GuestMemory, bytes: &mut *mut u8, len: &mut usize) -> u32
     ensures done { result ≡ 0 }
-    ensures len { len.new ≡ length memory.now.bytes }
+    ensures len { len.new ≡ length (first_region memory.now) }
 {
-    let lent = memory.slice(memory.base(), memory.len());
+    let lent = memory.first_region();
     if let Some(first) = lent.first() {
         *bytes = NonNull::from_ref(first).as_ptr();
     }

@@ -1,6 +1,7 @@
 //! What holds of every session whose disks the host serves. The bodies are empty: each contract is a theorem.
 
 ghost use Rattle.std.specs.Prelude.{◌≡◌, ℕ, List, Some, length, true};
+ghost use Rattle.guest_memory.specs.Memory.{Inside};
 ghost use Rattle.std.specs.List.{slice_get};
 ghost use Rattle.board.specs.declared.event.EventKind.{EventKind};
 ghost use Rattle.board.specs.Hosting.{HostedState, InFlight, IsOwn, must_wait};
@@ -37,7 +38,7 @@ pub fn what_waits_changes_nothing<A: Allocator>()
 /// each guest over courses holds of one whose memory is lent, to its CPUs or to the host that reads its disk into it.
 pub fn a_hosted_write_in_place_is_an_event<A: Allocator>()
     ensures { (old : HostedSessionState) (slot : ℕ) (found : HostedState) (bytes : List ℕ) →
-        slice_get old.slots slot ≡ Some found → length bytes ≡ length found.slot.memory.bytes →
+        slice_get old.slots slot ≡ Some found → Inside found.slot.memory found.slot.memory.base (length bytes) →
         IsHostedCall {A = A} old slot (EventKind.MemWrite found.slot.memory.base bytes)
         Reply.Done (with_hosted_bytes slot old bytes) }
 {}

@@ -3,7 +3,7 @@
 ghost use Rattle.std.specs.Prelude.{◌≡◌, ℕ, List, length};
 ghost use Rattle.std.specs.Bool.{OnTrue, OnFalse};
 ghost use Rattle.std.specs.Borrow.{sem, u8, Array, Lends};
-ghost use Rattle.guest_memory.specs.Memory.{is_inside, put};
+ghost use Rattle.guest_memory.specs.Memory.{Inside, first_region, is_inside, put};
 ghost use Rattle.board.specs.declared.event.EventKind.{EventKind};
 ghost use Rattle.board.specs.declared.reply.Reply.{Reply};
 ghost use Rattle.board.specs.Hosting.{TakesHosted, device_at, hosted_slot};
@@ -35,11 +35,12 @@ impl<A: Allocator> HostedSlot<A> {
         self.slot.memory()
     }
 
-    /// The bytes of the guest's memory, to be written.
+    /// The bytes of the first region of the guest's memory, to be written.
     pub(crate) fn memory_mut(&mut self) -> &mut [u8]
         ensures* writes_back { sem 𝓛 (Lends (the_row A.row A.Allocator) (Array u8 0) self.entry
             result (with_bytes self.old)) }
-        ensures value { result.now ≡ self.old.slot.memory.bytes }
+        ensures value { result.now ≡ first_region self.old.slot.memory }
+        ensures inside { Inside self.old.slot.memory self.old.slot.memory.base (length result.now) }
     {
         self.slot.memory_mut()
     }

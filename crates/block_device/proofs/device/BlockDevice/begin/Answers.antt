@@ -42,5 +42,5 @@ returns-in_default g c = record {
     },
     refl,
   );
-  range = record { base = refl; size = refl };
+  range = record { base = refl; size = refl; gaps = refl };
 }
