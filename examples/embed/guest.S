@@ -111,7 +111,7 @@ _start:
         mv      t3, s8
         jal     t1, copy                        # t1: what follows
         .asciz  "hello from "
-        .balign 4
+        .balign 4, 0                            # with a fill: without one GNU as takes the text for aligned
 copy:
         lbu     t0, 0(t1)
         sb      t0, 0(t3)
