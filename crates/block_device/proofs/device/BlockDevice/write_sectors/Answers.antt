@@ -15,8 +15,8 @@ loop-done-init g c = (
   omega arith,
 )
 
-pub loop-done-preserved-then : goal.loop-done-preserved-then
-loop-done-preserved-then g c =
+pub loop-done-preserved-then-run-gt0 : goal.loop-done-preserved-then-run-gt0
+loop-done-preserved-then-run-gt0 g c =
     let n = c.write_run-run.result in
     let count = c.args.count in
     let done = c.loop-done.done in
