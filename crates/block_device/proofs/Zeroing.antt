@@ -90,7 +90,7 @@ stopped-failures sectors old new s =
 -- a sector written is a run of one sector
 written-filled_once : (disk : Disk) (sector : ℕ) (new : List ℕ) → length new ≡ 512 → written sector new disk ≡ filled sector new disk
 written-filled_once disk sector new whole =
-    same_disk disk.sector_count disk.failures _ _ true _ (same_told disk.told) (marked-chunk [] new disk.mark whole)
+    same_disk disk.sector_count disk.failures _ _ true _ (same_told disk.told) (marked-chunk [] new disk.mark (omega (arith, whole)))
   where
     same_told : (told : Option (List ℕ)) → option_map (λ bytes. with_sector bytes sector new) told ≡ option_map (λ bytes. with_sectors bytes sector new) told
     same_told None = refl

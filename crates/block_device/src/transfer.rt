@@ -7,7 +7,7 @@ ghost use Rattle.std.specs.Prelude.{◌+◌, ◌*◌, ◌^◌, ◌<◌, ◌≤�
 ghost use Rattle.std.specs.List.{range_with_len};
 ghost use Rattle.guest_memory.specs.Memory.{SameRange};
 ghost use Rattle.chain.specs.Buffers.{Within};
-ghost use Rattle.chain.specs.Bytes.{readable_of, readable_rest, writable_of};
+ghost use Rattle.chain.specs.Bytes.{readable_of, writable_of};
 ghost use Rattle.sector_cache.specs.Disk.{written_from};
 ghost use Rattle.sector_cache.specs.Stop.{TouchesFrom, TouchesNothing, TouchesSectors};
 ghost use Rattle.block_device.specs.declared.request.Request.TheVariants.{Read, Write};
@@ -141,12 +141,13 @@ impl BlockDevice {
         while done < count {
             let place = HEADER_LEN + SECTOR_LEN * done;
             let first = self.extent.start + sector + done;
-            let run = write_run(mem, chain, cache, place, first, count - done);
+            let part = chain.read_part(mem, place);
+            let run = write_run(cache, first, part, count - done);
             if run > 0 {
                 done += run;
                 continue;
             }
-            let bytes = sector_at(mem, chain, place, &mut gathered);
+            let bytes = sector_at(mem, chain, place, part, &mut gathered);
             match cache.write(first, bytes) {
                 Ok(()) => done += 1,
                 Err(_) => return Done::FAILED,
@@ -159,30 +160,25 @@ impl BlockDevice {
     }
 }
 
-// Writes the sectors from `first` on, at most so many, that lie whole in one segment from a place of the readable list on,
-// where the image is in memory. Answers how many these are.
-fn write_run<I: Image, M: Allocator, C: Allocator + Copy>(
-    mem: &GuestMemory<M>,
-    chain: &Chain,
+// Writes the whole sectors of a part of the readable list from sector `first` on, at most so many, where the image is in
+// memory. Answers how many these are.
+fn write_run<I: Image, C: Allocator + Copy>(
     cache: &mut SectorCache<I, C>,
-    place: u64,
     first: u64,
+    part: &[u8],
     most: u64,
 ) -> u64
-    requires inside { All (Within mem.now) chain.now }
-    requires in_list { place < length (readable_of mem.now chain.now) }
     requires lies { first + most ≤ (I.disk cache.old).sector_count }
     requires fits { sector_len * most < 2 ^ 64 }
     ensures few { result ≤ most }
-    ensures count { result ≡ (if I.lends cache.old then
-        min most ((readable_rest chain.now place).len / sector_len) else 0) }
+    ensures within { sector_len * result ≤ length part.now }
+    ensures count { result ≡ (if I.lends cache.old then min most (length part.now / sector_len) else 0) }
     ensures none { result ≡ 0 → cache.new ≡ cache.old }
-    ensures written { 0 < result → I.disk cache.new ≡ written_from first
-        (take (sector_len * result) (drop place (readable_of mem.now chain.now))) (I.disk cache.old) }
+    ensures written { 0 < result → I.disk cache.new ≡
+        written_from first (take (sector_len * result) part.now) (I.disk cache.old) }
     ensures touches { 0 < result → TouchesFrom I.moment I.may_leave I.left_since
         first (sector_len * result) cache.old cache.new }
 {
-    let part = chain.read_part(mem, place);
     let count = most.min(part.len() as u64 / SECTOR_LEN);
     if count == 0 {
         return 0;
@@ -193,19 +189,21 @@ fn write_run<I: Image, M: Allocator, C: Allocator + Copy>(
     count
 }
 
-// The 512 readable bytes from a place on: where they lie in memory where that is one segment, and else gathered.
+// The 512 readable bytes from a place on, of which this is a part: where they lie in memory where that is one segment, and
+// else gathered.
 fn sector_at<'a, M: Allocator>(
     mem: &'a GuestMemory<M>,
     chain: &Chain,
     place: u64,
+    part: &'a [u8],
     gathered: &'a mut [u8; SECTOR_LEN as usize],
 ) -> &'a [u8; SECTOR_LEN as usize]
     requires inside { All (Within mem.now) chain.now }
     requires range { place + sector_len ≤ length (readable_of mem.now chain.now) }
     requires fits { place + sector_len < 2 ^ 64 }
+    requires listed { part.now ≡ take (length part.now) (drop place (readable_of mem.now chain.now)) }
     ensures { result.now ≡ take sector_len (drop place (readable_of mem.now chain.now)) }
 {
-    let part = chain.read_part(mem, place);
     if let Some(bytes) = part.first_chunk() {
         return bytes;
     }

@@ -25,9 +25,9 @@ loop-done-init g c = (
 pub loop-done-preserved : goal.loop-done-preserved
 loop-done-preserved g c =
     let whole : length c.in-Ok.bytes.now ≡ 512 = omega arith in (
-      reading_more c.args.chain.now c.args.mem.now c.loop-done.mem c.write_at.new.mem (g.I.Image.disk c.args.cache.now) (g.I.Image.disk c.loop-done.cache) (g.I.Image.disk c.lend.follows.lender-at-none)
+      reading_more c.args.chain.now c.args.mem.now c.loop-done.mem c.write_at-in-Ok.new.mem (g.I.Image.disk c.args.cache.now) (g.I.Image.disk c.loop-done.cache) (g.I.Image.disk c.lend.follows.lender-at-none)
           (c.args.self.now.extent.start + c.args.sector) c.loop-done.done (512 * c.loop-done.done) c.in-Ok.bytes.now
-          c.loop-done.invariant.0 whole c.in-Ok.ensures.read (after_lent c.lend.result _ _ _ c.in-Ok.is c.lend.follows.holds-at-none.0) c.write_at.ensures.written refl c.write_at.ensures.same_range,
+          c.loop-done.invariant.0 whole c.in-Ok.ensures.read (after_lent c.lend.result _ _ _ c.in-Ok.is c.lend.follows.holds-at-none.0) c.write_at-in-Ok.ensures.written refl c.write_at-in-Ok.ensures.same_range,
       touches_more 0 0 c.loop-done.invariant.1 c.lend.follows.holds-at-none.1,
     )
 

@@ -1,7 +1,8 @@
-use Rattle.std.proofs.Common.{◌≡◌, ◌+◌, ◌*◌, ◌<◌, ◌≤◌, refl, sym, subst, arith}
+use Rattle.std.proofs.Common.{◌≡◌, ◌∙◌, ◌+◌, ◌*◌, ◌<◌, ◌≤◌, ℕ, List, refl, sym, ap, subst, arith}
 use Rattle.std.specs.List.{range_with_len}
 use Rattle.chain.specs.Bytes.{readable_of}
-use Rattle.block_device.proofs.Transfers.{IsWriting, writing_start, writing_more, writing_run, writing_done, writing_fails, writing_unflushed}
+use Rattle.block_device.proofs.Transfers.{IsWriting, front_listed, writing_start, writing_more, writing_run, writing_done, writing_fails, writing_unflushed}
+use Rattle.sector_cache.specs.Disk.{written_from}
 use Rattle.sector_cache.specs.Stop.{TouchesSectors}
 use Rattle.block_device.specs.Request.{payload_of}
 use Rattle.block_device.specs.Touching.{on_image}
@@ -15,8 +16,8 @@ loop-done-init g c = (
   omega arith,
 )
 
-pub loop-done-preserved-then : goal.loop-done-preserved-then
-loop-done-preserved-then g c =
+pub loop-done-preserved-then-run-gt0 : goal.loop-done-preserved-then-run-gt0
+loop-done-preserved-then-run-gt0 g c =
     let n = c.write_run-run.result in
     let count = c.args.count in
     let done = c.loop-done.done in
@@ -25,7 +26,11 @@ loop-done-preserved-then g c =
     let within : done + n ≤ count = omega arith in (
       writing_run (g.I.Image.disk c.args.cache.now) (g.I.Image.disk c.loop-done.cache) (g.I.Image.disk c.write_run-run.new.cache) first
           count done n (readable_of c.args.mem.now c.args.chain.now) (g.met.I.Image.whole c.args.cache.now) c.loop-done.invariant.0
-          some within c.requires.payload (omega arith) (c.write_run-run.ensures.written some),
+          some within c.requires.payload (omega arith)
+          (c.write_run-run.ensures.written some
+          ∙ ap (λ (bytes : List ℕ). written_from (first + done) bytes (g.I.Image.disk c.loop-done.cache))
+          (front_listed c.read_part-part.result.now (readable_of c.args.mem.now c.args.chain.now) (16 + 512 * done) (512 * n)
+          c.read_part-part.ensures.listed c.write_run-run.ensures.within)),
       written_run c.args.self.now.extent (range_with_len c.args.sector count) (c.args.sector + done) (first + done) n (512 * n)
           c.loop-done.invariant.1 (range_has_run c.args.sector count done n within) (omega arith) refl
           (c.write_run-run.ensures.touches some),
