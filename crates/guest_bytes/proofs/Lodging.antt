@@ -54,9 +54,16 @@ Good v = T (has_ty (layout Lent) v) × WT v
 
 module _ {M : Type 1} {𝓤 : Ura M} {𝓛 : Logic 𝓤} {K : Type 0} {Γ : List (Item 𝓤)} {G : Goal 𝓤 𝓛.H} where
   -- what is owned is one machine value, of its type
-  pub tells : K → (x : Lent.Denot) (v : Val) → ((u : Val) → v ∷ [] ≡ u ∷ [] → Good u → Seq K 𝓛 (‵ (Lent.own_val x (u ∷ [])) ∷ Γ) G)
+  pub tells : K → (x : Lent.Denot) (v : Val)
+      → ((u : Val) → v ∷ [] ≡ u ∷ [] → Good u → Seq K 𝓛 (‵ (Lent.own_val x (u ∷ [])) ∷ Γ) G)
       → Seq K 𝓛 (‵ (Lent.own_val x (v ∷ [])) ∷ Γ) G
-  tells t x v = handle_tells (record { row = Lent; laws = lent-laws; g = record { dealloc_token = λ a τ p. ftrue }; d = dict_at 0; drops = dict_at 0 }) t x (v ∷ [])
+  tells t x v = handle_tells (record {
+    row = Lent;
+    laws = lent-laws;
+    g = record { dealloc_token = λ a τ p. ftrue };
+    d = dict_at 0;
+    drops = dict_at 0;
+  }) t x (v ∷ [])
 
 has : (c : ℕ) → 0 < c → has_block c ≡ true
 has c h = not_from_false _ (ne_eqb c 0 (λ e. omega arith))
@@ -69,11 +76,13 @@ module _ {M : Type 1} {𝓤 : Ura M} (𝓛 : Logic 𝓤) (b o : ℕ) where
       qed 𝓛 (‵ (lies_at (Array u8 n) full_share (block_ptr b o) xs) ∷ []) ∵
       use1 𝓛 (‵ (fsep (feq ℕ (length xs) n) (bytes full_share xs b o))) (bytes_apart 𝓛 full_share n xs b o) $
       fsplit ! $ feq_l ! (λ e. check ! e $ feq_i ! ℕ (length xs) n e $ fjoin ! $
-      use1 𝓛 (‵ (lies_at (Array u8 n) full_share (block_ptr b o) xs)) (bytes_whole 𝓛 full_share n xs b o) $ done !)
+      use1 𝓛 (‵ (lies_at (Array u8 n) full_share (block_ptr b o) xs))
+      (bytes_whole 𝓛 full_share n xs b o) $ done !)
 
   -- they are what a `Vec` lodges that is full
   pub lodges : (n : ℕ) (xs : List ℕ) → n < 2 ^ 63
-      → ent 𝓤 (sem 𝓛 (lies_at (Array u8 n) full_share (block_ptr b o) xs)) (sem 𝓛 (lodged u8 (block_ptr b o) n n xs))
+      → ent 𝓤 (sem 𝓛 (lies_at (Array u8 n) full_share (block_ptr b o) xs))
+      (sem 𝓛 (lodged u8 (block_ptr b o) n n xs))
   lodges zero xs small =
       qed 𝓛 (‵ (lies_at (Array u8 0) full_share (block_ptr b o) xs) ∷ []) ∵
       keep ! [] $ nothing ! $ flt_i ! 0 (2 ^ 63) (lit< tt) $ fjoin ! $ done !
@@ -81,41 +90,60 @@ module _ {M : Type 1} {𝓤 : Ura M} (𝓛 : Logic 𝓤) (b o : ℕ) where
       let n : ℕ = suc k in
       let none_spare : 0 ≡ n - n = omega arith in
       qed 𝓛 (‵ (lies_at (Array u8 n) full_share (block_ptr b o) xs) ∷ []) ∵
-      nothing ! $ use0 𝓛 (‵ (froom (ty_array (ty_int w8) 0) b (o + n * 1))) (𝓛.laws.room_nil (ty_int w8) b (o + n * 1)) $
+      nothing ! $
+      use0 𝓛 (‵ (froom (ty_array (ty_int w8) 0) b (o + n * 1))) (𝓛.laws.room_nil (ty_int w8) b (o + n * 1)) $
       rewrite ! 0 (λ j. ‵ (froom (ty_array (ty_int w8) j) b (o + n * 1))) none_spare refl $
       move ! (2 ∷ 0 ∷ 1 ∷ []) $ fjoin3 ! $
-      rewrite ! 0 (λ y. ‵ (owns_if y (block_with_items (λ _ _. ftrue) u8 (block_ptr b o) n n xs))) (sym (has n (omega arith))) refl $
+      rewrite ! 0 (λ y. ‵ (owns_if y (block_with_items (λ _ _. ftrue) u8 (block_ptr b o) n n xs)))
+      (sym (has n (omega arith))) refl $
       flt_i ! (n * 1) (2 ^ 63) (omega arith) $ fjoin ! $ done !
 
-module _ {M : Type 1} {𝓤 : Ura M} (𝓛 : Logic 𝓤) (at_mem : Memory → SProp 𝓤) (run : Routine → Fun 𝓤) (b o n : ℕ) (xs : List ℕ) where
-  open 𝓛 use {H}
-
+module _ {M : Type 1} {𝓤 : Ura M} (𝓛 : Logic 𝓤) (at_mem : Memory → SProp 𝓤) (run : Routine → Fun 𝓤) where
   abbrev pub Lodges : Contract 𝓤
   Lodges = triple_of 𝓛 (LG.signature u8) (LG.spec u8 𝓛 at_mem run)
 
-  abbrev pub at_lodge : Lodges.Ghost
-  at_lodge = ((([], tt), (full_share, tt), tt, (block_ptr b o, (n, (n, tt))), (vptr b o ∷ [], (vint w64 n ∷ [], (vint w64 n ∷ [], tt)))), xs)
+  module _ (b o n : ℕ) (xs : List ℕ) where
+    open 𝓛 use {H}
 
-  abbrev pub IsLodged : Vec ℕ Lodged → Type 0
-  IsLodged r = (r.items ≡ xs) × (r.len ≡ n) × (r.cap ≡ n) × (r.ptr ≡ block_ptr b o)
+    abbrev pub at_lodge : Lodges.Ghost
+    at_lodge = (
+      (
+        ([], tt),
+        (full_share, tt),
+        tt,
+        (block_ptr b o, (n, (n, tt))),
+        (vptr b o ∷ [], (vint w64 n ∷ [], (vint w64 n ∷ [], tt))),
+      ),
+      xs,
+    )
 
-  pub lodge_goes : length xs ≡ n → n < 2 ^ 63 → ent 𝓤 (sem 𝓛 (lodged u8 (block_ptr b o) n n xs)) (Lodges.pre at_lodge)
-  lodge_goes long small =
-      let Asked : Type 0 = (n ≡ length xs) × (n ≤ n) × (n < 2 ^ 63) in
-      qed 𝓛 (‵ (lodged u8 (block_ptr b o) n n xs) ∷ []) ∵
-      use0 𝓛 (raw (fact 𝓤 Asked)) (fact_i 𝓤 Asked (emp 𝓤) (sym long, omega arith, small)) $ join ! $
-      use0 𝓛 (raw (fact 𝓤 ([] ⊑ []))) (fact_i 𝓤 ([] ⊑ []) (emp 𝓤) (⊑_refl [])) $ join ! $
-      nothing ! $ flt_i ! n (2 ^ 64) (omega arith) $ feq_i ! (List Val) (vint w64 n ∷ []) (vint w64 n ∷ []) refl $ fjoin ! $ fjoin ! $
-      flt_i ! n (2 ^ 64) (omega arith) $ feq_i ! (List Val) (vint w64 n ∷ []) (vint w64 n ∷ []) refl $ fjoin ! $ fjoin ! $
-      feq_i ! (List Val) (vptr b o ∷ []) (vptr b o ∷ []) refl $ fjoin ! $
-      nothing ! $ use0 𝓛 (‵ (flft [] full_share)) (𝓛.lfts.lft-nil full_share) $ join ! $ join ! $ done !
+    abbrev pub IsLodged : Vec ℕ Lodged → Type 0
+    IsLodged r = (r.items ≡ xs) × (r.len ≡ n) × (r.cap ≡ n) × (r.ptr ≡ block_ptr b o)
 
-  pub lodge_gives : (v : Val) → ent 𝓤 (Lodges.post at_lodge v)
-      (H.⇛ (ex 𝓤 (λ (r : Vec ℕ Lodged). guard 𝓤 (IsLodged r) (sem 𝓛 (Lent.own_val r (v ∷ []))))))
-  lodge_gives v =
-      qed 𝓛 (raw (Lodges.post at_lodge v) ∷ []) ∵ updating ! $
-      use1 𝓛 (later (some (λ (r : Vec ℕ Lodged). ((‵ (flft [] full_share) ⊛ ‵ ftrue) ⊛ ‵ (Lent.own_val r (v ∷ [])))
-      ⊛ some (λ (ws : Unit {0} × (Unit {0} × (Unit {0} × Unit {0}))). ‵ (fsep ftrue (fsep ftrue (fsep ftrue ftrue))) ⊛ raw (fact 𝓤 (IsLodged r))))))
-      (id⊢ 𝓤 _) $ await ! tt $ pick ! (λ r. split ! $ move ! (1 ∷ []) $ pick ! (λ ws. split ! $ drop ! $ heard ! (IsLodged r) (λ is.
-      split ! $ drop ! $ now ! $
-      show ! (λ (z : Vec ℕ Lodged). guard 𝓤 (IsLodged z) (sem 𝓛 (Lent.own_val z (v ∷ [])))) r $ check ! is $ done !)))
+    pub lodge_goes : length xs ≡ n → n < 2 ^ 63
+        → ent 𝓤 (sem 𝓛 (lodged u8 (block_ptr b o) n n xs)) (Lodges.pre at_lodge)
+    lodge_goes long small =
+        let Asked : Type 0 = (n ≡ length xs) × (n ≤ n) × (n < 2 ^ 63) in
+        qed 𝓛 (‵ (lodged u8 (block_ptr b o) n n xs) ∷ []) ∵
+        use0 𝓛 (raw (fact 𝓤 Asked)) (fact_i 𝓤 Asked (emp 𝓤) (sym long, omega arith, small)) $ join ! $
+        use0 𝓛 (raw (fact 𝓤 ([] ⊑ []))) (fact_i 𝓤 ([] ⊑ []) (emp 𝓤) (⊑_refl [])) $ join ! $
+        nothing ! $ flt_i ! n (2 ^ 64) (omega arith) $
+        feq_i ! (List Val) (vint w64 n ∷ []) (vint w64 n ∷ []) refl $ fjoin ! $ fjoin ! $
+        flt_i ! n (2 ^ 64) (omega arith) $
+        feq_i ! (List Val) (vint w64 n ∷ []) (vint w64 n ∷ []) refl $ fjoin ! $ fjoin ! $
+        feq_i ! (List Val) (vptr b o ∷ []) (vptr b o ∷ []) refl $ fjoin ! $
+        nothing ! $ use0 𝓛 (‵ (flft [] full_share)) (𝓛.lfts.lft-nil full_share) $ join ! $ join ! $ done !
+
+    pub lodge_gives : (v : Val) → ent 𝓤 (Lodges.post at_lodge v)
+        (H.⇛ (ex 𝓤 (λ (r : Vec ℕ Lodged). guard 𝓤 (IsLodged r) (sem 𝓛 (Lent.own_val r (v ∷ []))))))
+    lodge_gives v =
+        qed 𝓛 (raw (Lodges.post at_lodge v) ∷ []) ∵ updating ! $
+        use1 𝓛 (later (some (λ (r : Vec ℕ Lodged).
+        ((‵ (flft [] full_share) ⊛ ‵ ftrue) ⊛ ‵ (Lent.own_val r (v ∷ [])))
+        ⊛ some (λ (ws : Unit {0} × (Unit {0} × (Unit {0} × Unit {0}))).
+        ‵ (fsep ftrue (fsep ftrue (fsep ftrue ftrue))) ⊛ raw (fact 𝓤 (IsLodged r))))))
+        (id⊢ 𝓤 _) $ await ! tt $
+        pick ! (λ r. split ! $ move ! (1 ∷ []) $ pick ! (λ ws. split ! $ drop ! $ heard ! (IsLodged r) (λ is.
+        split ! $ drop ! $ now ! $
+        show ! (λ (z : Vec ℕ Lodged). guard 𝓤 (IsLodged z) (sem 𝓛 (Lent.own_val z (v ∷ [])))) r $
+        check ! is $ done !)))

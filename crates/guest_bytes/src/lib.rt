@@ -1,7 +1,7 @@
 //! The bytes of one region of a guest's memory: the library's own, or a host's.
 //!
-//! A guest's memory may be larger than a library should copy or clear, and a host often has it already, as a mapping that its
-//! processors run on. The layers above see one type for both: they slice, write and drop, and learn the bytes alone.
+//! A guest's memory may be larger than a library should copy or clear, and a host often has it already, as a
+//! mapping that a guest runs on. The layers above see one type for both: they slice, write and drop.
 #![tactic(auto)]
 
 mod bytes;

@@ -54,33 +54,40 @@ module _ {M : Type 1} {𝓤 : Ura M} (𝓛 : Logic 𝓤) (at_mem : Memory → SP
   held = F.clauses 𝓛 at_mem run
 
   module _ (C : Calls 𝓤 H) (Λ : Loops 𝓤 H) (framed : FmC 𝓤 H 𝓛.laws C)
-      (called : (b o n : ℕ) (xs : List ℕ) → Triple 𝓤 (C key) (Lodges 𝓛 at_mem run b o n xs))
-      (z : (walk_of 𝓛 F.ended stayed held).Ghost) where
+      (called : Triple 𝓤 (C key) (Lodges 𝓛 at_mem run)) (z : (walk_of 𝓛 F.ended stayed held).Ghost) where
     abbrev Post : Val → SProp 𝓤
     Post = (walk_of 𝓛 F.ended stayed held).post z
 
-    walks : ent 𝓤 ((walk_of 𝓛 F.ended stayed held).pre z) (WpFn 𝓤 H C Λ code.function ((walk_of 𝓛 F.ended stayed held).args z) Post)
+    walks : ent 𝓤 ((walk_of 𝓛 F.ended stayed held).pre z)
+        (WpFn 𝓤 H C Λ code.function ((walk_of 𝓛 F.ended stayed held).args z) Post)
     walks =
         let vss = z.0.4 in
         let p = z.0.3.0 in
         let n = z.0.3.1.0 in
         let xs = z.1 in
-        qed 𝓛 ((raw (alive 𝓛 F.ended.signature z.0.0 z.0.1) ⊛ ‵ (owns (types_at F.ended.signature.params z.0.0) z.0.3 vss))
+        qed 𝓛 ((raw (alive 𝓛 F.ended.signature z.0.0 z.0.1)
+        ⊛ ‵ (owns (types_at F.ended.signature.params z.0.0) z.0.3 vss))
         ∷ (‵ (lies_at (Array u8 n) full_share p xs) ⊛ raw (fact 𝓤 (n < 2 ^ 63))) ∷ []) ∵
-        split ! $ move ! (1 ∷ []) $ fsplit ! $ feq_l ! (λ is₀. fsplit ! $ fsplit ! $ feq_l ! (λ is₁. flt_l ! (λ fits. drop ! $
+        split ! $ move ! (1 ∷ []) $ fsplit ! $ feq_l ! (λ is₀.
+        fsplit ! $ fsplit ! $ feq_l ! (λ is₁. flt_l ! (λ fits. drop ! $
         -- [the tokens; the bytes]
         move ! (1 ∷ []) $ split ! $ move ! (1 ∷ []) $ heard ! (n < 2 ^ 63) (λ small.
         in_a_block ! p (λ r. lies_at (Array u8 n) full_share r xs) (id⊢ 𝓤 (never 𝓤)) (λ b o at.
         let y = at_lodge 𝓛 at_mem run b o n xs in
-        regoal ! (λ (us : List Val). prop (WpFn 𝓤 H C Λ code.function (us ++ (vss.1.0 ++ [])) Post)) (is₀ ∙ ap (λ r. ptr_val r ∷ []) at) refl $
-        regoal ! (λ (us : List Val). prop (WpFn 𝓤 H C Λ code.function ((vptr b o ∷ []) ++ (us ++ [])) Post)) is₁ refl $
+        regoal ! (λ (us : List Val). prop (WpFn 𝓤 H C Λ code.function (us ++ (vss.1.0 ++ [])) Post))
+        (is₀ ∙ ap (λ r. ptr_val r ∷ []) at) refl $
+        regoal ! (λ (us : List Val). prop (WpFn 𝓤 H C Λ code.function ((vptr b o ∷ []) ++ (us ++ [])) Post))
+        is₁ refl $
         enter ! C Λ code.function (vptr b o ∷ vint w64 n ∷ []) Post $
         alloc_all ! (λ l. pass_all ! refl ((tt, tt), ((tt, record { fits = fits }), tt)) $
-        use1 𝓛 (given (length xs ≡ n) (‵ (lies_at (Array u8 n) full_share (block_ptr b o) xs))) (counted 𝓛 b o n xs) $ learn ! (λ long.
+        use1 𝓛 (given (length xs ≡ n) (‵ (lies_at (Array u8 n) full_share (block_ptr b o) xs)))
+        (counted 𝓛 b o n xs) $ learn ! (λ long.
         use1 𝓛 (‵ (lodged u8 (block_ptr b o) n n xs)) (lodges 𝓛 b o n xs small) $
-        use1 𝓛 (raw ((Lodges 𝓛 at_mem run b o n xs).pre y)) (lodge_goes 𝓛 at_mem run b o n xs long small) $
-        calls_at ! framed (Lodges 𝓛 at_mem run b o n xs) (called b o n xs) y (and_then ! (get ! refl) (and_then ! (get ! refl) (and_then ! (get ! refl) (no_more !)))) (λ v.
-        use1 𝓛 (later (some (λ (r : Vec ℕ Lodged). given (IsLodged 𝓛 at_mem run b o n xs r) (‵ (Lent.own_val r (v ∷ [])))))) (lodge_gives 𝓛 at_mem run b o n xs v) $
+        use1 𝓛 (raw ((Lodges 𝓛 at_mem run).pre y)) (lodge_goes 𝓛 at_mem run b o n xs long small) $
+        calls_at ! framed (Lodges 𝓛 at_mem run) called y
+        (and_then ! (get ! refl) (and_then ! (get ! refl) (and_then ! (get ! refl) (no_more !)))) (λ v.
+        use1 𝓛 (later (some (λ (r : Vec ℕ Lodged). given (IsLodged 𝓛 at_mem run b o n xs r)
+        (‵ (Lent.own_val r (v ∷ [])))))) (lodge_gives 𝓛 at_mem run b o n xs v) $
         await ! tt $ pick ! (λ r. learn ! (λ is. tells ! r v (λ u same good.
         let fine = subst Good (sym (ap only same)) good in
         rewrite ! 0 (λ w. ‵ (Lent.own_val r (w ∷ []))) (sym (ap only same)) refl $ lands_as ! refl refl fine $
@@ -88,16 +95,22 @@ module _ {M : Type 1} {𝓤 : Ura M} (𝓛 : Logic 𝓤) (at_mem : Memory → SP
         suffices ! _ (ends_at 𝓛 F.ended stayed held z v r (tt, (tt, tt)) (tt, (tt, tt))) $ says ! is.0 $
         nothing ! $ nothing ! $ fjoin ! $ nothing ! $ fjoin ! $ move ! (2 ∷ 0 ∷ 1 ∷ []) $ done !)))))))))))
 
-  meets : (𝓣 : Tables 𝓤 H) → ((b o n : ℕ) (xs : List ℕ) → Triple 𝓤 (𝓣.C key) (Lodges 𝓛 at_mem run b o n xs))
+  meets : (𝓣 : Tables 𝓤 H) → Triple 𝓤 (𝓣.C key) (Lodges 𝓛 at_mem run)
       → Meets 𝓛 F.ended.signature (WpFn 𝓤 H 𝓣.C 𝓣.Λ code.function) (closing 𝓛 F.ended held)
   meets 𝓣 called =
-      walk_Meets 𝓛 F.ended stayed (Goes-blank 𝓛 0 (plain (λ _. RawPtr)) yes (λ κs x f. tt), (Goes-blank 𝓛 0 (plain (λ _. usize)) yes (λ κs x f. tt), tt)) held
-      (WpFn 𝓤 H 𝓣.C 𝓣.Λ code.function) (WpFn-mono 𝓤 H 𝓛.laws 𝓣 code.function) (walks 𝓣.C 𝓣.Λ (fm_of 𝓤 H 𝓛.laws 𝓣) called)
+      walk_Meets 𝓛 F.ended stayed (
+        Goes-blank 𝓛 0 (plain (λ _. RawPtr)) yes (λ κs x f. tt),
+        (Goes-blank 𝓛 0 (plain (λ _. usize)) yes (λ κs x f. tt), tt),
+      ) held
+      (WpFn 𝓤 H 𝓣.C 𝓣.Λ code.function) (WpFn-mono 𝓤 H 𝓛.laws 𝓣 code.function)
+      (walks 𝓣.C 𝓣.Λ (fm_of 𝓤 H 𝓛.laws 𝓣) called)
 
 pub lend_spec : {M : Type 1} → stated.statement M
 unfolding tables_of
 lend_spec 𝓤 𝓛 𝓜 𝓡 wired =
     let 𝓣 : Tables 𝓤 𝓛.H = tables_of 𝓤 𝓛.H 𝓜 (tables 𝓤 𝓛.H 𝓜 𝓡 𝓡.env) in
-    entered 𝓤 𝓛.H (triple_of 𝓛 F.ended.signature (closing 𝓛 F.ended (held 𝓛 𝓜.mem 𝓡.returns))) 𝓣.C 𝓣.Λ #self code.function
+    entered 𝓤 𝓛.H (triple_of 𝓛 F.ended.signature (closing 𝓛 F.ended (held 𝓛 𝓜.mem 𝓡.returns)))
+    𝓣.C 𝓣.Λ #self code.function
     (code.unfolded 𝓤 𝓛.H 𝓜 𝓡 wired)
-    (meets 𝓛 𝓜.mem 𝓡.returns 𝓣 (λ b o n xs. callee.met 𝓤 𝓛 𝓜 𝓡 (code.calls-std_alloc::vec::lodge 𝓡.env wired) u8 byte_laws))
+    (meets 𝓛 𝓜.mem 𝓡.returns 𝓣
+    (callee.met 𝓤 𝓛 𝓜 𝓡 (code.calls-std_alloc::vec::lodge 𝓡.env wired) u8 byte_laws))
