@@ -36,3 +36,4 @@ pub mod HostedSeats
 pub mod HostedAccess
 pub mod HostedSaving
 pub mod Honest
+pub mod Reading

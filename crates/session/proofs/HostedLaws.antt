@@ -4,7 +4,7 @@ use Rattle.std.specs.Prelude.{⊤, MatchOption, slice_set, unwrap_or}
 use Rattle.std.specs.List.{slice_get}
 use Rattle.std.specs.Option.{option_and_then}
 use Rattle.std.proofs.lemmas.Bool.Decides.{eqb_tells}
-use Rattle.guest_memory.specs.Memory.{Memory}
+use Rattle.guest_memory.specs.Memory.{Inside, Memory}
 use Rattle.guest_memory.proofs.Ranges.{is_inside-tells}
 use Rattle.block_device.specs.declared.operation.Verdict.{Verdict}
 use Rattle.board.specs.declared.event.EventKind.{EventKind}

@@ -22,5 +22,9 @@ pub returns : goal.returns
 returns g c =
     let found = there c.self.inside.slots.items c.args.slot _ c.index_mut-found.result.now c.requires (ap (λ b. length b.slots) c.self.view_is) c.index_mut-found.ensures.value in (
       (refl, λ w. rw (← c.self.view_is, found) refl),
-      record { writes_back = tt; value = rw (← c.self.view_is, found) c.memory_mut.ensures.value },
+      record {
+        writes_back = tt;
+        value = rw (← c.self.view_is, found) c.memory_mut.ensures.value;
+        inside = rw (← c.self.view_is, found) c.memory_mut.ensures.inside;
+      },
     )
