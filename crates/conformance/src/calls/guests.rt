@@ -121,8 +121,12 @@ impl<B: Allocator> Subject for Guests<'_, B> {
 // An image of so many bytes, of which each of sector k is 10 + k.
 fn image_of(alloc: Global, len: u32) -> Result<Vec<u8>, AllocError> {
     let mut image = Vec::new(alloc);
+    let mut byte = 0x0fu8;
     for at in 0..len {
-        image.push(0x10 + (at / 512 % 0xf0) as u8)?;
+        if at % 512 == 0 {
+            byte = byte.wrapping_add(1);
+        }
+        image.push(byte)?;
     }
     Ok(image)
 }
