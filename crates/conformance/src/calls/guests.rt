@@ -16,6 +16,24 @@ use sector_cache::ScriptedImage;
 use std::alloc::{AllocError, Allocator, Global};
 use trace::event_of_line;
 
+/// What a driver writes that accepts VERSION_1 alone (3.1.1): offsets and values.
+static NEGOTIATED: [(u16, u32); 5] = [
+    (0x070, 0x1),
+    (0x070, 0x3),
+    (0x024, 1),
+    (0x020, 1),
+    (0x070, 0xb),
+];
+
+/// What it writes to make the queue ready that it selected (4.2.3.2).
+static READY: [(u16, u32); 5] = [
+    (0x080, 0x8000_1000),
+    (0x090, 0x8000_2000),
+    (0x0a0, 0x8000_3000),
+    (0x044, 1),
+    (0x070, 0xf),
+];
+
 /// A board or a session, and what the next one is asked for.
 #[derive(Drop)]
 pub(crate) struct Guests<'h, B: Allocator> {
@@ -85,11 +103,20 @@ impl<'h, B: Allocator> Guests<'h, B> {
     // A driver brings a device of a slot up with one queue, of so many entries.
     fn bring_up(&mut self, words: &mut Words<'_>, answer: &mut String) -> Result<(), Stuck> {
         let (slot, window) = (words.word(), words.word());
-        for (offset, value) in &bring_up(words.u32(), words.u32()) {
+        let queue = [(0x030, words.u32()), (0x038, words.u32())];
+        self.write_all(slot, window, &NEGOTIATED)?;
+        self.write_all(slot, window, &queue)?;
+        self.write_all(slot, window, &READY)?;
+        put_word(answer, "ok")
+    }
+
+    // Writes registers of a window: offsets and values.
+    fn write_all(&mut self, slot: &str, window: &str, writes: &[(u16, u32)]) -> Result<(), Stuck> {
+        for (offset, value) in writes {
             let line = format!(in self.alloc; "w {slot} {window} {offset:03x} 4 {value:08x}")?;
             self.event(line.as_str(), &mut String::new(self.alloc))?;
         }
-        put_word(answer, "ok")
+        Ok(())
     }
 
     /// The call of an event, of the session or the board.
@@ -121,8 +148,12 @@ impl<B: Allocator> Subject for Guests<'_, B> {
 // An image of so many bytes, of which each of sector k is 10 + k.
 fn image_of(alloc: Global, len: u32) -> Result<Vec<u8>, AllocError> {
     let mut image = Vec::new(alloc);
+    let mut byte = 0x0fu8;
     for at in 0..len {
-        image.push(0x10 + (at / 512 % 0xf0) as u8)?;
+        if at % 512 == 0 {
+            byte = byte.wrapping_add(1);
+        }
+        image.push(byte)?;
     }
     Ok(image)
 }
@@ -134,24 +165,6 @@ fn numbers_of(alloc: Global, bytes: &[u8]) -> Result<Vec<u64>, AllocError> {
         numbers.push(u64::from(*byte))?;
     }
     Ok(numbers)
-}
-
-// What a driver writes that accepts VERSION_1 alone and makes a queue ready (3.1.1, 4.2.3.2): offsets and values.
-fn bring_up(queue: u32, size: u32) -> [(u16, u32); 12] {
-    [
-        (0x070, 0x1),
-        (0x070, 0x3),
-        (0x024, 1),
-        (0x020, 1),
-        (0x070, 0xb),
-        (0x030, queue),
-        (0x038, size),
-        (0x080, 0x8000_1000),
-        (0x090, 0x8000_2000),
-        (0x0a0, 0x8000_3000),
-        (0x044, 1),
-        (0x070, 0xf),
-    ]
 }
 
 // A slot by four words: where its memory begins and how long it is, its first sector, and how many it has.
