@@ -14,8 +14,8 @@ ghost use Rattle.board_ffi.specs.Create.{AreSized, IsMade, IsNotMade, budget_of,
 use crate::any_session::AnySession;
 use crate::codes::{BAD_SIZE, DONE, HAS_BOARD, NO_BOARD, NO_MEMORY, of_fault};
 use crate::handle::Handle;
-use session::{Budget, Extent, GuestSpec, Session, SessionFault, SlotSpec};
 use sector_cache::are_whole_sectors;
+use session::{Budget, Extent, GuestSpec, Session, SessionFault, SlotSpec};
 use std::alloc::{AllocError, Global};
 
 /// How many bytes of a console's output may wait at most.

@@ -51,6 +51,7 @@ one_gap g a n = (told, holds)
           ]
           | inr before ↦ inl before
         ]
+
     holds : (a + n ≤ g.start) ⊎ (g.end ≤ a) → (nat_le (a + n) g.start || nat_le g.end a) ≡ true
     holds (inl before) = grind (arith, nat_tests)
     holds (inr behind) = grind (arith, nat_tests)
@@ -69,7 +70,7 @@ misses_all-true [] a n h = misses_all-nil a n
 misses_all-true (g ∷ gs) a n h =
     misses_all-cons g gs a n
     ∙ and_from (nat_le (a + n) g.start || nat_le g.end a) (misses_all gs a n)
-      ((one_gap g a n).1 (misses-first g gs a n h)) (misses_all-true gs a n (misses-rest g gs a n h))
+    ((one_gap g a n).1 (misses-first g gs a n h)) (misses_all-true gs a n (misses-rest g gs a n h))
 
 -- what passes the test misses each gap
 pub true-misses_all : (gs : List Gap) (a n : ℕ) → misses_all gs a n ≡ true → MissesAll gs a n
@@ -103,8 +104,8 @@ up_to_gap-all [] a bs h = up_to_gap-none a bs
 up_to_gap-all (g ∷ gs) a bs h =
     elim (cases_lt a g.end) [
       | inl under ↦
-        let fits : a + length bs ≤ g.start = elim (misses-first g gs a (length bs) h) [ inl before ↦ before | inr behind ↦ absurd (omega arith) ] in
-        up_to_gap-before g gs a bs under ∙ take_all (g.start - a) bs (omega arith)
+          let fits : a + length bs ≤ g.start = elim (misses-first g gs a (length bs) h) [ inl before ↦ before | inr behind ↦ absurd (omega arith) ] in
+          up_to_gap-before g gs a bs under ∙ take_all (g.start - a) bs (omega arith)
       | inr behind ↦ up_to_gap-behind g gs a bs behind ∙ up_to_gap-all gs a bs (misses-rest g gs a (length bs) h)
     ]
 

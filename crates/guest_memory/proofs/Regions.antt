@@ -30,8 +30,12 @@ length-head_of r m apart = omega (arith, length-append r.bytes (replicate (m.bas
 length-in_front : (r : Region) (m : Memory) → end_of r ≤ m.base → r.base + length (in_front r m).bytes ≡ m.base + length m.bytes
 unfolding in_front
 length-in_front r m apart =
-    omega (arith, length-append r.bytes (replicate (m.base - end_of r) 0 ++ m.bytes), length-append (replicate (m.base - end_of r) 0) m.bytes,
-      length-replicate {A = ℕ} (m.base - end_of r) 0)
+    omega (
+      arith,
+      length-append r.bytes (replicate (m.base - end_of r) 0 ++ m.bytes),
+      length-append (replicate (m.base - end_of r) 0) m.bytes,
+      length-replicate {A = ℕ} (m.base - end_of r) 0,
+    )
 
 -- a range behind the region lies in the memory that follows it
 later_inside : (r : Region) (m : Memory) (a n : ℕ) → end_of r ≤ m.base → m.base ≤ a → Inside (in_front r m) a n → Inside m a n
@@ -39,7 +43,7 @@ unfolding in_front
 later_inside r m a n apart above h = record {
   above = above;
   below = omega (arith, h.below, length-in_front r m apart);
-  clear = misses-rest _ _ a n h.clear
+  clear = misses-rest _ _ a n h.clear;
 }
 
 inside_later : (r : Region) (m : Memory) (a n : ℕ) → end_of r ≤ m.base → Inside m a n → Inside (in_front r m) a n
@@ -47,7 +51,7 @@ unfolding in_front
 inside_later r m a n apart h = record {
   above = omega (arith, h.above);
   below = omega (arith, h.below, length-in_front r m apart);
-  clear = misses-more _ m.gaps a n (inr h.above) h.clear
+  clear = misses-more _ m.gaps a n (inr h.above) h.clear;
 }
 
 -- a list behind another, from a place in it on
@@ -74,9 +78,9 @@ put_later r m a bs apart above =
     let ws = up_to_gap m.gaps a bs in
     ap (λ (ws : List ℕ). record (in_front r m) { bytes = put_at (in_front r m).bytes (a - r.base) ws }) (up_to_gap-behind _ m.gaps a bs above)
     ∙ ap (λ (xs : List ℕ). record (in_front r m) { bytes = xs })
-      (ap (λ (xs : List ℕ). put_at xs (a - r.base) ws) (sym (append_assoc r.bytes (replicate (m.base - end_of r) 0) m.bytes))
-      ∙ put_at_behind (head_of r m) m.bytes (a - r.base) (a - m.base) ws (omega (arith, length-head_of r m apart))
-      ∙ append_assoc r.bytes (replicate (m.base - end_of r) 0) (put_at m.bytes (a - m.base) ws))
+    (ap (λ (xs : List ℕ). put_at xs (a - r.base) ws) (sym (append_assoc r.bytes (replicate (m.base - end_of r) 0) m.bytes))
+    ∙ put_at_behind (head_of r m) m.bytes (a - r.base) (a - m.base) ws (omega (arith, length-head_of r m apart))
+    ∙ append_assoc r.bytes (replicate (m.base - end_of r) 0) (put_at m.bytes (a - m.base) ws))
 
 -- the region is the first of the memory that it stands in front of
 first_front : (r : Region) (m : Memory) → end_of r < m.base → first_region (in_front r m) ≡ r.bytes
@@ -108,14 +112,14 @@ put_first r m a bs apart above below =
     let same : length (put_at r.bytes (a - r.base) bs) ≡ length r.bytes = length-put_at r.bytes (a - r.base) bs in
     let room : end_of r - a ≡ length r.bytes - (a - r.base) = omega arith in
     ap (λ (ws : List ℕ). record (in_front r m) { bytes = put_at (in_front r m).bytes (a - r.base) ws })
-      (up_to_gap-before _ m.gaps a bs (omega arith) ∙ ap (λ (k : ℕ). take k bs) room)
+    (up_to_gap-before _ m.gaps a bs (omega arith) ∙ ap (λ (k : ℕ). take k bs) room)
     ∙ ap (λ (xs : List ℕ). record (in_front r m) { bytes = xs })
-      (put_at_front r.bytes (replicate (m.base - end_of r) 0 ++ m.bytes) (a - r.base) bs (omega arith))
+    (put_at_front r.bytes (replicate (m.base - end_of r) 0 ++ m.bytes) (a - r.base) bs (omega arith))
     ∙ ap (λ (k : ℕ). record {
-        base = r.base;
-        bytes = put_at r.bytes (a - r.base) bs ++ (replicate (m.base - (r.base + k)) 0 ++ m.bytes);
-        gaps = record { start = r.base + k; end = m.base } ∷ m.gaps
-      }) (sym same)
+      base = r.base;
+      bytes = put_at r.bytes (a - r.base) bs ++ (replicate (m.base - (r.base + k)) 0 ++ m.bytes);
+      gaps = record { start = r.base + k; end = m.base } ∷ m.gaps;
+    }) (sym same)
 
 -- what the words compute to
 one_region_is : (r : Region) → memory_of (r ∷ []) ≡ record { base = r.base; bytes = r.bytes; gaps = [] }
@@ -168,8 +172,10 @@ ends r (s ∷ rs) h =
     let a = apart_more r s rs h in
     let b = first_base s rs in
     let e = ends s rs a.1 in
-    rw more_regions_are (omega (arith, a.0, b, e.0, length-in_front r (memory_of (s ∷ rs)) (omega (arith, a.0, b))),
-      omega (arith, a.0, b, e.1, length-in_front r (memory_of (s ∷ rs)) (omega (arith, a.0, b))))
+    rw more_regions_are (
+      omega (arith, a.0, b, e.0, length-in_front r (memory_of (s ∷ rs)) (omega (arith, a.0, b))),
+      omega (arith, a.0, b, e.1, length-in_front r (memory_of (s ∷ rs)) (omega (arith, a.0, b))),
+    )
 
 -- a range that ends by the end of the first region ends before each gap
 ends_before : (r : Region) (rs : List Region) (a n : ℕ) → AreApart (r ∷ rs) → a + n ≤ end_of r → MissesAll (memory_of (r ∷ rs)).gaps a n
@@ -177,7 +183,7 @@ ends_before r [] a n h below = rw one_region_is (misses-none a n)
 ends_before r (s ∷ rs) a n h below =
     let apart = apart_more r s rs h in
     rw (more_regions_are, in_front_gaps)
-      (misses-more _ (memory_of (s ∷ rs)).gaps a n (inl below) (ends_before s rs a n apart.1 (omega (arith, apart.0, below))))
+    (misses-more _ (memory_of (s ∷ rs)).gaps a n (inl below) (ends_before s rs a n apart.1 (omega (arith, apart.0, below))))
 
 -- the regions begin no lower than the first
 begins_above : (r : Region) (rs : List Region) (i : ℕ) (d : Region) → AreApart (r ∷ rs) → i < length (r ∷ rs) → r.base ≤ (get_or (r ∷ rs) i d).base
@@ -207,7 +213,7 @@ inside_region (r ∷ (s ∷ rs)) (suc i) d a n h within above below inside =
     let begins = begins_above s rs i d apart.1 (omega arith) in
     let rest : Inside (memory_of (s ∷ rs)) a n =
     later_inside r (memory_of (s ∷ rs)) a n (omega (arith, apart.0, base)) (omega (arith, base, begins, above))
-      (subst (λ (m : Memory). Inside m a n) (more_regions_are r s rs) inside) in
+    (subst (λ (m : Memory). Inside m a n) (more_regions_are r s rs) inside) in
     inside_region (s ∷ rs) i d a n apart.1 (omega arith) above below rest
 
 pub region_inside : (rs : List Region) (i : ℕ) (d : Region) (a n : ℕ) → AreApart rs → i < length rs → IsIn (get_or rs i d) a n → Inside (memory_of rs) a n
@@ -221,7 +227,7 @@ region_inside (r ∷ (s ∷ rs)) (suc i) d a n h within isin =
     let apart = apart_more r s rs h in
     let base = first_base s rs in
     subst (λ (m : Memory). Inside m a n) (sym (more_regions_are r s rs))
-      (inside_later r (memory_of (s ∷ rs)) a n (omega (arith, apart.0, base)) (region_inside (s ∷ rs) i d a n apart.1 (omega arith) isin))
+    (inside_later r (memory_of (s ∷ rs)) a n (omega (arith, apart.0, base)) (region_inside (s ∷ rs) i d a n apart.1 (omega arith) isin))
 
 -- all regions end by 2^64
 pub region_fits : (rs : List Region) (i : ℕ) (d : Region) → AreApart rs → i < length rs → end_of (get_or rs i d) ≤ 2 ^ 64
@@ -320,9 +326,9 @@ inside_some (r ∷ (s ∷ rs)) a n h inside =
     let above : r.base ≤ a = omega (arith, here.above, in_front_base r m) in
     elim (cases_lt (end_of r) a) [
       | inl over ↦
-        let behind : m.base ≤ a = elim (misses-first _ m.gaps a n gaps) [ inl before ↦ absurd (omega (arith, before, over)) | inr behind ↦ behind ] in
-        let rest = later_inside r m a n (omega (arith, apart.0, first_base s rs)) behind here in
-        found_later a r (s ∷ rs) over (inside_some (s ∷ rs) a n apart.1 rest)
+          let behind : m.base ≤ a = elim (misses-first _ m.gaps a n gaps) [ inl before ↦ absurd (omega (arith, before, over)) | inr behind ↦ behind ] in
+          let rest = later_inside r m a n (omega (arith, apart.0, first_base s rs)) behind here in
+          found_later a r (s ∷ rs) over (inside_some (s ∷ rs) a n apart.1 rest)
       | inr within ↦ found_here a r (s ∷ rs) above within
     ]
 
@@ -356,13 +362,14 @@ pub found_holds : (rs : List Region) (a n i room : ℕ) (x : Region) (m : Memory
     → position (touches a) rs ≡ Some i → x ≡ get_or rs i x → a + room ≡ end_of x → IsTrue (nat_le n room) ↔ Inside m a n
 found_holds rs a n i room x m same h found is rest =
     let at = found_touches rs a i x found in
-    let above : x.base ≤ a = rw is at.1 in
-    (λ test. subst (λ (m : Memory). Inside m a n) same (region_inside rs i x a n h at.0
-        (subst (λ (r : Region). IsIn r a n) is (record { above = above; below = grind (arith, nat_tests) }))),
-     λ inside.
-        let lies = inside_region rs i x a n h at.0 at.1 at.2 (subst (λ (m : Memory). Inside m a n) (sym same) inside) in
-        let here : IsIn x a n = subst (λ (r : Region). IsIn r a n) (sym is) lies in
-        grind (arith, nat_tests, here.below))
+    let above : x.base ≤ a = rw is at.1 in (
+      λ test. subst (λ (m : Memory). Inside m a n) same (region_inside rs i x a n h at.0
+          (subst (λ (r : Region). IsIn r a n) is (record { above = above; below = grind (arith, nat_tests) }))),
+      λ inside.
+          let lies = inside_region rs i x a n h at.0 at.1 at.2 (subst (λ (m : Memory). Inside m a n) (sym same) inside) in
+          let here : IsIn x a n = subst (λ (r : Region). IsIn r a n) (sym is) lies in
+          grind (arith, nat_tests, here.below),
+    )
 
 -- a region was found: the address lies in it, or is its end
 pub found_region : (rs : List Region) (a i : ℕ) (x : Region) → position (touches a) rs ≡ Some i → x ≡ get_or rs i x → (i < length rs) × (touches a x ≡ true)
@@ -400,7 +407,7 @@ pub apart-put_in : (rs : List Region) (i a : ℕ) (x : Region) (bs : List ℕ) �
     → AreApart (set rs i (with_put x a bs))
 apart-put_in rs i a x bs h within is =
     rw is (apart-with_bytes rs i x (put_at (get_or rs i x).bytes (a - (get_or rs i x).base) bs) h within
-      (length-put_at (get_or rs i x).bytes (a - (get_or rs i x).base) bs))
+    (length-put_at (get_or rs i x).bytes (a - (get_or rs i x).base) bs))
 
 pub regions-put_in : (rs : List Region) (i a n : ℕ) (x : Region) (bs : List ℕ) → AreRegions rs → i < length rs → IsIn (get_or rs i x) a n
     → x ≡ get_or rs i x → AreRegions (set rs i (with_put x a bs))
@@ -423,7 +430,7 @@ zeroed_regions rs base len is fits spans =
     let size = length-replicate {A = ℕ} len 0 in
     record {
       apart = subst AreApart (sym is) (one_apart (record { base = base; bytes = replicate len 0 }) (omega (arith, fits, size)));
-      spans = omega (arith, spans, size, ap (λ (m : Memory). length m.bytes) (zeroed_region rs base len is))
+      spans = omega (arith, spans, size, ap (λ (m : Memory). length m.bytes) (zeroed_region rs base len is));
     }
 
 -- the place that was found, in the same list under another name
@@ -462,10 +469,11 @@ region_above (r ∷ rs) i d h within = omega (arith, first_base r rs, begins_abo
 -- so the last region tells how many addresses the memory spans
 pub last_region : (rs : List Region) (x : Region) (i : ℕ) (m : Memory) → memory_of rs ≡ m → AreRegions rs → suc i ≡ length rs → x ≡ get_or rs i x
     → (end_of x ≡ m.base + length m.bytes) × (m.base ≤ x.base) × (length m.bytes < 2 ^ 64)
-last_region rs x i m same h last is =
-    (ap end_of is ∙ ends_last rs i x h.apart last ∙ ap (λ (m : Memory). m.base + length m.bytes) same,
-      omega (arith, ap (λ (y : Region). y.base) is, region_above rs i x h.apart (omega (arith, last)), ap (λ (m : Memory). m.base) same),
-      omega (arith, h.spans, ap (λ (m : Memory). length m.bytes) same))
+last_region rs x i m same h last is = (
+  ap end_of is ∙ ends_last rs i x h.apart last ∙ ap (λ (m : Memory). m.base + length m.bytes) same,
+  omega (arith, ap (λ (y : Region). y.base) is, region_above rs i x h.apart (omega (arith, last)), ap (λ (m : Memory). m.base) same),
+  omega (arith, h.spans, ap (λ (m : Memory). length m.bytes) same),
+)
 
 -- the first region
 pub first_is : (rs : List Region) (x : Region) (m : Memory) → memory_of rs ≡ m → AreApart rs → x ≡ get_or rs 0 x
@@ -475,15 +483,16 @@ first_is rs x m same h is =
     let base : x.base ≡ m.base = begins rs x m same h is in
     let none : x.base - x.base ≡ 0 = omega arith in
     let all : take (length x.bytes) (drop (x.base - x.base) x.bytes) ≡ x.bytes =
-    ap (λ (k : ℕ). take (length x.bytes) (drop k x.bytes)) none ∙ take_all (length x.bytes) x.bytes (omega arith) in
-    (ap (λ (r : Region). r.bytes) is ∙ sym first ∙ ap first_region same,
+    ap (λ (k : ℕ). take (length x.bytes) (drop k x.bytes)) none ∙ take_all (length x.bytes) x.bytes (omega arith) in (
+      ap (λ (r : Region). r.bytes) is ∙ sym first ∙ ap first_region same,
       sym all
-      ∙ part_in rs 0 x.base (length x.bytes) x m same h (some_region rs h) (subst (λ (r : Region). IsIn r x.base (length x.bytes)) is (record { above = omega arith; below = omega arith })) is
-      ∙ ap (λ (b : ℕ). part_of m b (length x.bytes)) base,
+          ∙ part_in rs 0 x.base (length x.bytes) x m same h (some_region rs h) (subst (λ (r : Region). IsIn r x.base (length x.bytes)) is (record { above = omega arith; below = omega arith })) is
+          ∙ ap (λ (b : ℕ). part_of m b (length x.bytes)) base,
       subst (λ (b : ℕ). Inside m b (length x.bytes)) base
-        (subst (λ (m : Memory). Inside m x.base (length x.bytes)) same
+          (subst (λ (m : Memory). Inside m x.base (length x.bytes)) same
           (region_inside rs 0 x x.base (length x.bytes) h (some_region rs h)
-            (subst (λ (r : Region). IsIn r x.base (length x.bytes)) is (record { above = omega arith; below = omega arith })))))
+          (subst (λ (r : Region). IsIn r x.base (length x.bytes)) is (record { above = omega arith; below = omega arith })))),
+    )
   where
     cut : (rs : List Region) (d : Region) → AreApart rs → first_region (memory_of rs) ≡ (get_or rs 0 d).bytes
     cut [] d h = absurd (omega (arith, some_region [] h))

@@ -16,7 +16,7 @@ unfoldable pub in_front : Region → Memory → Memory
 in_front r m = record {
   base = r.base;
   bytes = r.bytes ++ (replicate (m.base - end_of r) 0 ++ m.bytes);
-  gaps = record { start = end_of r; end = m.base } ∷ m.gaps
+  gaps = record { start = end_of r; end = m.base } ∷ m.gaps;
 }
 
 -- the memory of these regions

@@ -48,7 +48,11 @@ fn place_inside<A: Allocator>(regions: &[Region<A>], addr: u64, n: u64) -> usize
 }
 
 /// The one region of a memory that has no gaps.
-fn one_region<A: Allocator + Copy>(alloc: A, base: u64, len: u64) -> Result<Vec<Region<A>, A>, AllocError>
+fn one_region<A: Allocator + Copy>(
+    alloc: A,
+    base: u64,
+    len: u64,
+) -> Result<Vec<Region<A>, A>, AllocError>
     requires { base + len ≤ 2 ^ 64 }
     ensures { IfOk result (λ regions. regions.items ≡ record { base = base; bytes = replicate len 0 } ∷ []) }
 {
@@ -78,7 +82,6 @@ impl<A: Allocator + Copy> GuestMemory<A> {
             Err(_) => Err(MemoryFault::NoMemory),
         }
     }
-
 }
 
 impl<A: Allocator> GuestMemory<A> {

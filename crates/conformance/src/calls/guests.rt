@@ -9,10 +9,10 @@ use crate::calls::answer::{put_number, put_word};
 use crate::calls::subject::{Stuck, Subject};
 use crate::calls::words::Words;
 use board::{Board, Event, Extent, SlotSpec};
-use session::{Budget, GuestSpec, Session};
 use linked_list_allocator::LocalHeap;
 use refusing::RefusingHeap;
 use sector_cache::ScriptedImage;
+use session::{Budget, GuestSpec, Session};
 use std::alloc::{AllocError, Allocator, Global};
 use trace::event_of_line;
 

@@ -5,8 +5,8 @@ use crate::calls::answer::{put_bytes, put_number, put_result, put_word, written}
 use crate::calls::subject::Stuck;
 use crate::calls::words::Words;
 use board::{Event, EventKind};
-use session::{Budget, GuestSpec, Progress, Refusal, Session, SessionFault, Typed};
 use refusing::RefusingHeap;
+use session::{Budget, GuestSpec, Progress, Refusal, Session, SessionFault, Typed};
 use std::alloc::{Allocator, Global};
 
 /// How many bytes of a room for output an answer shows.

@@ -9,7 +9,7 @@ returns-clause-value g c =
     let place = c.place_inside-place.result in
     let region : Region = c.index.result.now in
     let at = place_in c.deref.result.now items place c.args.addr c.args.n region c.deref.ensures.value c.place_inside-place.ensures.place
-      (c.place_inside-place.ensures.region region) in
+    (c.place_inside-place.ensures.region region) in
     c.slice.ensures.value
     ∙ part_in items place c.args.addr c.args.n region c.args.self.now c.self.view_is c.self.invariant.apart at.0 at.1 c.index.ensures
 
@@ -19,5 +19,5 @@ returns-clause-fits g c =
     let place = c.place_inside-place.result in
     let region : Region = c.index.result.now in
     let at = place_in c.deref.result.now items place c.args.addr c.args.n region c.deref.ensures.value c.place_inside-place.ensures.place
-      (c.place_inside-place.ensures.region region) in
+    (c.place_inside-place.ensures.region region) in
     omega (arith, region_fits items place region c.self.invariant.apart at.0, at.1.below)

@@ -8,7 +8,7 @@ pub returns-then-lies_in-clause-value : goal.returns-then-lies_in-clause-value
 returns-then-lies_in-clause-value g c =
     let setup = setup_of c.args.n c.args.desc c.args.driver c.args.device c.args.indirect c.args.event_idx in
     let passes = usable c.args.mem.now setup (c.is_queue_size.ensures.0 c.if-not-is_queue_size.false) (c.is_aligned.ensures.0 c.if-is_aligned.true)
-      (c.lies_in.ensures.0 c.if-lies_in.true) in
+    (c.lies_in.ensures.0 c.if-lies_in.true) in
     rw passes refl
 
 pub returns-else-is_aligned-clause-value : goal.returns-else-is_aligned-clause-value
