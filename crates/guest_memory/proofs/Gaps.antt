@@ -1,7 +1,6 @@
 -- What the gaps of a memory are to a range: the test of them, a part of a range that misses them, and the bytes of a write.
-use Rattle.std.proofs.Common.{◌≡◌, ◌↔◌, ◌⊎◌, inl, inr, ℕ, ◌+◌, ◌-◌, ◌≤◌, ◌<◌, List, [], ◌∷◌, ◌++◌, length, take, refl, sym, ◌∙◌, ap, arith, length-append, Bool, true, false}
-use Rattle.std.specs.Prelude.{IsTrue, nat_le, ◌&&◌, ◌||◌, if◌then◌else◌}
-use Rattle.std.specs.List.{All}
+use Rattle.std.proofs.Common.{◌≡◌, ◌↔◌, ◌⊎◌, inl, inr, ℕ, ◌+◌, ◌-◌, ◌≤◌, ◌<◌, List, [], ◌∷◌, length, take, refl, sym, ◌∙◌, ap, arith, Bool, true, false}
+use Rattle.std.specs.Prelude.{nat_le, ◌&&◌, ◌||◌, if◌then◌else◌}
 use Rattle.std.proofs.lemmas.Bool.{cases_lt, and_parts, and_from}
 use Rattle.std.proofs.lemmas.Bool.Decides.{nat_tests}
 use Rattle.std.proofs.lemmas.List.{take_all}
@@ -14,12 +13,14 @@ unfolding MissesAll
 misses-none a n = All-nil (λ g. Misses g a n)
 
 -- one gap more
-pub misses-more : (g : Gap) (gs : List Gap) (a n : ℕ) → (a + n ≤ g.start) ⊎ (g.end ≤ a) → MissesAll gs a n → MissesAll (g ∷ gs) a n
+pub misses-more : (g : Gap) (gs : List Gap) (a n : ℕ) → (a + n ≤ g.start) ⊎ (g.end ≤ a) → MissesAll gs a n
+    → MissesAll (g ∷ gs) a n
 unfolding MissesAll
 misses-more g gs a n first rest = All-cons (λ g. Misses g a n) g gs (record { apart = first }) rest
 
 -- the first gap
-pub misses-first : (g : Gap) (gs : List Gap) (a n : ℕ) → MissesAll (g ∷ gs) a n → (a + n ≤ g.start) ⊎ (g.end ≤ a)
+pub misses-first : (g : Gap) (gs : List Gap) (a n : ℕ) → MissesAll (g ∷ gs) a n
+    → (a + n ≤ g.start) ⊎ (g.end ≤ a)
 unfolding MissesAll
 misses-first g gs a n h = (All-head (λ g. Misses g a n) g gs h).apart
 
@@ -32,14 +33,16 @@ misses-rest g gs a n h = All-tail (λ g. Misses g a n) g gs h
 pub misses_part : (gs : List Gap) (a n b k : ℕ) → a ≤ b → b + k ≤ a + n → MissesAll gs a n → MissesAll gs b k
 misses_part [] a n b k above below h = misses-none b k
 misses_part (g ∷ gs) a n b k above below h =
-    misses-more g gs b k (apart (misses-first g gs a n h)) (misses_part gs a n b k above below (misses-rest g gs a n h))
+    misses-more g gs b k (apart (misses-first g gs a n h))
+    (misses_part gs a n b k above below (misses-rest g gs a n h))
   where
     apart : (a + n ≤ g.start) ⊎ (g.end ≤ a) → (b + k ≤ g.start) ⊎ (g.end ≤ b)
     apart (inl before) = inl (omega arith)
     apart (inr behind) = inr (omega arith)
 
 -- the test of one gap says that it is missed
-one_gap : (g : Gap) (a n : ℕ) → ((nat_le (a + n) g.start || nat_le g.end a) ≡ true) ↔ ((a + n ≤ g.start) ⊎ (g.end ≤ a))
+one_gap : (g : Gap) (a n : ℕ)
+    → ((nat_le (a + n) g.start || nat_le g.end a) ≡ true) ↔ ((a + n ≤ g.start) ⊎ (g.end ≤ a))
 one_gap g a n = (told, holds)
   where
     told : (nat_le (a + n) g.start || nat_le g.end a) ≡ true → (a + n ≤ g.start) ⊎ (g.end ≤ a)
@@ -60,7 +63,8 @@ misses_all-nil : (a n : ℕ) → misses_all [] a n ≡ true
 unfolding misses_all
 misses_all-nil a n = refl
 
-misses_all-cons : (g : Gap) (gs : List Gap) (a n : ℕ) → misses_all (g ∷ gs) a n ≡ ((nat_le (a + n) g.start || nat_le g.end a) && misses_all gs a n)
+misses_all-cons : (g : Gap) (gs : List Gap) (a n : ℕ)
+    → misses_all (g ∷ gs) a n ≡ ((nat_le (a + n) g.start || nat_le g.end a) && misses_all gs a n)
 unfolding misses_all
 misses_all-cons g gs a n = refl
 
@@ -76,7 +80,8 @@ misses_all-true (g ∷ gs) a n h =
 pub true-misses_all : (gs : List Gap) (a n : ℕ) → misses_all gs a n ≡ true → MissesAll gs a n
 true-misses_all [] a n h = misses-none a n
 true-misses_all (g ∷ gs) a n h =
-    let parts = and_parts (nat_le (a + n) g.start || nat_le g.end a) (misses_all gs a n) (sym (misses_all-cons g gs a n) ∙ h) in
+    let parts = and_parts (nat_le (a + n) g.start || nat_le g.end a) (misses_all gs a n)
+    (sym (misses_all-cons g gs a n) ∙ h) in
     misses-more g gs a n ((one_gap g a n).0 parts.0) (true-misses_all gs a n parts.1)
 
 -- where there is no gap, the whole of what is written is put in place
@@ -85,28 +90,34 @@ unfolding up_to_gap
 up_to_gap-none a bs = refl
 
 -- a gap that ends at the address or before it cuts nothing off
-pub up_to_gap-behind : (g : Gap) (gs : List Gap) (a : ℕ) (bs : List ℕ) → g.end ≤ a → up_to_gap (g ∷ gs) a bs ≡ up_to_gap gs a bs
+pub up_to_gap-behind : (g : Gap) (gs : List Gap) (a : ℕ) (bs : List ℕ) → g.end ≤ a
+    → up_to_gap (g ∷ gs) a bs ≡ up_to_gap gs a bs
 unfolding up_to_gap
 up_to_gap-behind g gs a bs behind =
     let test : nat_le g.end a ≡ true = grind (arith, nat_tests) in
     ap (λ (t : Bool). if t then up_to_gap gs a bs else take (g.start - a) bs) test
 
 -- one that ends above it cuts off what would reach into it
-pub up_to_gap-before : (g : Gap) (gs : List Gap) (a : ℕ) (bs : List ℕ) → a < g.end → up_to_gap (g ∷ gs) a bs ≡ take (g.start - a) bs
+pub up_to_gap-before : (g : Gap) (gs : List Gap) (a : ℕ) (bs : List ℕ) → a < g.end
+    → up_to_gap (g ∷ gs) a bs ≡ take (g.start - a) bs
 unfolding up_to_gap
 up_to_gap-before g gs a bs before =
     let test : nat_le g.end a ≡ false = grind (arith, nat_tests) in
     ap (λ (t : Bool). if t then up_to_gap gs a bs else take (g.start - a) bs) test
 
 -- a range that misses each gap is written whole
-pub up_to_gap-all : (gs : List Gap) (a : ℕ) (bs : List ℕ) → MissesAll gs a (length bs) → up_to_gap gs a bs ≡ bs
+pub up_to_gap-all : (gs : List Gap) (a : ℕ) (bs : List ℕ) → MissesAll gs a (length bs)
+    → up_to_gap gs a bs ≡ bs
 up_to_gap-all [] a bs h = up_to_gap-none a bs
 up_to_gap-all (g ∷ gs) a bs h =
     elim (cases_lt a g.end) [
       | inl under ↦
-          let fits : a + length bs ≤ g.start = elim (misses-first g gs a (length bs) h) [ inl before ↦ before | inr behind ↦ absurd (omega arith) ] in
+          let fits : a + length bs ≤ g.start =
+          elim (misses-first g gs a (length bs) h)
+          [ inl before ↦ before | inr behind ↦ absurd (omega arith) ] in
           up_to_gap-before g gs a bs under ∙ take_all (g.start - a) bs (omega arith)
-      | inr behind ↦ up_to_gap-behind g gs a bs behind ∙ up_to_gap-all gs a bs (misses-rest g gs a (length bs) h)
+      | inr behind ↦ up_to_gap-behind g gs a bs behind
+          ∙ up_to_gap-all gs a bs (misses-rest g gs a (length bs) h)
     ]
 
 -- of no bytes none is cut off

@@ -1,6 +1,6 @@
 -- A memory as its regions: runs of bytes in ascending order, with a gap between each two.
-use Rattle.std.specs.Prelude.{◌≡◌, ℕ, ◌+◌, ◌-◌, ◌<◌, ◌≤◌, ◌^◌, nat_le, Bool, ◌&&◌, List, [], ◌∷◌, ◌++◌, length, replicate}
-use Rattle.guest_memory.specs.Memory.{Memory, Gap}
+use Rattle.std.specs.Prelude.{ℕ, ◌+◌, ◌-◌, ◌<◌, ◌≤◌, ◌^◌, nat_le, Bool, ◌&&◌, List, [], ◌∷◌, ◌++◌, length, replicate}
+use Rattle.guest_memory.specs.Memory.{Memory}
 
 -- the first address, and the byte at each address from there on
 pub record Region : Type 0 where

@@ -44,6 +44,9 @@ fn place_inside<A: Allocator>(regions: &[Region<A>], addr: u64, n: u64) -> usize
     ensures place { result < length regions.now }
     ensures region { (d : _) → IsIn (slice_index_or regions.now result d) addr n }
 {
+    if regions.len() == 1 {
+        return 0;
+    }
     place_of(regions, addr).unwrap_or(0)
 }
 

@@ -1,6 +1,10 @@
-use Rattle.std.proofs.Common.{[]}
-use Rattle.guest_memory.proofs.Regions.{found_inside}
+use Rattle.std.proofs.Common.{[], arith}
+use Rattle.guest_memory.proofs.Regions.{found_inside, only_inside}
 use Rattle.guest_memory.proofs.memory.place_inside.Goals as goal
+
+pub returns-then-regions-eq1-clause-region : goal.returns-then-regions-eq1-clause-region
+returns-then-regions-eq1-clause-region g c = λ d.
+    only_inside c.args.regions.now c.args.addr c.args.n d c.requires.apart c.requires.inside (omega arith)
 
 pub returns-clause-place : goal.returns-clause-place
 returns-clause-place g c =

@@ -1,5 +1,4 @@
-use Rattle.std.proofs.Common.{List, arith, sym, ap, subst, length, ◌∙◌}
-use Rattle.guest_memory.specs.Memory.{Inside, part_of}
+use Rattle.std.proofs.Common.{List, arith, ◌∙◌}
 use Rattle.guest_memory.specs.Regions.{Region}
 use Rattle.guest_memory.proofs.Regions.{some_region, first_is}
 use Rattle.guest_memory.proofs.memory.GuestMemory.first_region.Goals as goal

@@ -1,4 +1,4 @@
-use Rattle.std.proofs.Common.{List, ℕ, suc, ◌≡◌, ◌-◌, arith, length}
+use Rattle.std.proofs.Common.{List, suc, ◌≡◌, ◌-◌, arith, length}
 use Rattle.guest_memory.specs.Regions.{Region}
 use Rattle.guest_memory.proofs.Regions.{some_region, last_region}
 use Rattle.guest_memory.proofs.memory.GuestMemory.len.Goals as goal
