@@ -6,6 +6,8 @@
 
 mod bytes;
 mod lent;
+mod loan;
 
 pub use bytes::GuestBytes;
 pub use lent::lend;
+pub use loan::Loan;

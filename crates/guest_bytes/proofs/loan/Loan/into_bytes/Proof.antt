@@ -1,0 +1,111 @@
+-- `into_bytes` takes the run apart, and lends what it owns. Assumes `Logic`.
+use Rattle.std.proofs.Common.{◌≡◌, ℕ, ◌^◌, ◌<◌, List, [], ◌∷◌, ◌++◌, length, refl, sym, ap, ◌∙◌, subst, Vec}
+use seplogic.Ra.Ura.{Ura}
+use base.Fraction.{full_share}
+use base.Fml.{ftrue, fsep}
+use mir.Syntax.{Callee, w64}
+use mir.Val.{Val, vptr, vint, vstruct, of_list}
+use base.Logic.{SProp, ent, sep, emp, id⊢, never}
+use prog.Memory.{Memory}
+use prog.Routine.{Routine}
+use prog.Wp.{WpFn, Tables}
+use contract.Monad.{Fun, fact, fact_i}
+use contract.Running.{tables, tables_of}
+use sound.WpLaws.{WpFn-mono, fm_of}
+use types.Logic.{Logic, sem}
+use types.Kit.{‵, raw, ◌⊛◌, some, later, prop, at_ret, ◌$◌, ◌∵◌, !, qed, move, keep, drop, use0, use1, split, join, fsplit, fjoin, fpick, feq_l, feq_i, flt_i, regoal, rewrite, suffices, await, done, pick, flt_l}
+use types.Part.{whole, sub}
+use types.Run.{enter, returns, and_then, no_more, of_opd, stop, fld, first, blocks, exec}
+use types.ByLocal.{alloc_all, pass_all, free_all, look_at, get, get_in, sets, lands_last, env}
+use denote.Exit.{yes}
+use denote.RattleType.{owns}
+use denote.Array.{Array}
+use denote.Builtin.{u8}
+use denote.RawPtr.{ptr_val, in_a_block, block_ptr, lies_at}
+use denote.Signature.{plain, types_at}
+use denote.Steps.{nothing, heard, only}
+use denote.Triple.Call.{calls_at_last}
+use denote.Triple.Clauses.{lasts}
+use denote.Triple.Entry.{alive}
+use denote.Triple.Spec.{triple_of}
+use denote.Triple.Statement.{Contract, Triple}
+use denote.Triple.Table.{entered}
+use denote.Triple.Walked.{says, Stays, stay_dropped, walk_of, ends_at, Goes-dropped, walk_Meets}
+use Rattle.std_alloc.specs.declared.vec.lodged.Lodged.{Lodged}
+use Rattle.guest_bytes.proofs.Lodging.{Lent, Good, tells}
+use Rattle.guest_bytes.specs.contracts.lent.lend as G
+use Rattle.guest_bytes.specs.contracts.lent.lend.Key.{name as callee_name}
+use Rattle.guest_bytes.proofs.lent.lend.Met as callee
+use Rattle.guest_bytes.specs.contracts.loan.Loan as R
+use Rattle.guest_bytes.specs.contracts.loan.Loan.into_bytes as F
+use Rattle.guest_bytes.specs.contracts.loan.Loan.into_bytes.Key.{name as #self}
+use Rattle.guest_bytes.proofs.loan.Loan.into_bytes.Statement as stated
+use Rattle.guest_bytes.proofs.loan.Loan.into_bytes.Code as code
+
+abbrev key : Callee
+key = callee_name
+
+abbrev stayed : Stays F.ended.signature.params F.ended.kept
+stayed = (stay_dropped (plain (λ _. R.the_row)) yes, tt)
+
+abbrev word : ℕ → ℕ → ℕ → Val
+word b o n = vstruct (of_list (vptr b o ∷ vint w64 n ∷ []))
+
+module _ {M : Type 1} {𝓤 : Ura M} (𝓛 : Logic 𝓤) (at_mem : Memory → SProp 𝓤) (run : Routine → Fun 𝓤) where
+  abbrev Lends : Contract 𝓤
+  Lends = triple_of 𝓛 G.signature (G.spec 𝓛 at_mem run)
+
+  abbrev at_lend : ℕ → ℕ → ℕ → List ℕ → Lends.Ghost
+  at_lend b o n xs = ((tt, tt, tt, (block_ptr b o, (n, tt)), (vptr b o ∷ [], (vint w64 n ∷ [], tt))), xs)
+
+  lend_goes : (b o n : ℕ) (xs : List ℕ) → n < 2 ^ 64 → n < 2 ^ 63 → ent 𝓤 (sem 𝓛 (lies_at (Array u8 n) full_share (block_ptr b o) xs)) (Lends.pre (at_lend b o n xs))
+  lend_goes b o n xs fits small =
+      qed 𝓛 (‵ (lies_at (Array u8 n) full_share (block_ptr b o) xs) ∷ []) ∵
+      use0 𝓛 (raw (fact 𝓤 (n < 2 ^ 63))) (fact_i 𝓤 (n < 2 ^ 63) (emp 𝓤) small) $ move ! (1 ∷ 0 ∷ []) $ join ! $
+      nothing ! $ flt_i ! n (2 ^ 64) fits $ feq_i ! (List Val) (vint w64 n ∷ []) (vint w64 n ∷ []) refl $ fjoin ! $ fjoin ! $
+      feq_i ! (List Val) (vptr b o ∷ []) (vptr b o ∷ []) refl $ fjoin ! $ nothing ! $ join ! $ join ! $ done !
+
+module _ {M : Type 1} {𝓤 : Ura M} (𝓛 : Logic 𝓤) (at_mem : Memory → SProp 𝓤) (run : Routine → Fun 𝓤) (𝓣 : Tables 𝓤 𝓛.H)
+    (called : Triple 𝓤 (𝓣.C key) (Lends 𝓛 at_mem run)) (z : (walk_of 𝓛 F.ended stayed (F.clauses 𝓛 at_mem run)).Ghost) where
+  open 𝓛 use {H}
+
+  abbrev Post : Val → SProp 𝓤
+  Post = (walk_of 𝓛 F.ended stayed (F.clauses 𝓛 at_mem run)).post z
+
+  abbrev d : (R.the_row).Denot
+  d = z.0.3.0
+
+  walk : ent 𝓤 ((walk_of 𝓛 F.ended stayed (F.clauses 𝓛 at_mem run)).pre z) (WpFn 𝓤 H 𝓣.C 𝓣.Λ code.function (z.0.4.0 ++ []) Post)
+  walk =
+      let n = d.len in let xs = d.items in
+      qed 𝓛 ((‵ ftrue ⊛ ‵ (fsep ((R.the_row).own_val d z.0.4.0) ftrue)) ∷ raw (emp 𝓤) ∷ []) ∵ split ! $ drop ! $ fsplit ! $
+      fsplit ! $ fpick ! (λ vss. fsplit ! $ feq_l ! (λ ev. fsplit ! $ feq_l ! (λ ep. fsplit ! $ fsplit ! $ feq_l ! (λ el. flt_l ! (λ fits. drop ! $
+      keep ! (0 ∷ []) $ in_a_block ! d.ptr (λ r. lies_at (Array u8 n) full_share r xs) (id⊢ 𝓤 (never 𝓤)) (λ b o at.
+      let y = at_lend 𝓛 at_mem run b o n xs in
+      let is : z.0.4.0 ≡ word b o n ∷ [] = ev ∙ ap (λ ps. vstruct (of_list (ps ++ (vss.1.0 ++ []))) ∷ []) ep
+      ∙ ap (λ ws. vstruct (of_list ((ptr_val d.ptr ∷ []) ++ (ws ++ []))) ∷ []) el ∙ ap (λ p. vstruct (of_list (ptr_val p ∷ vint w64 n ∷ [])) ∷ []) at in
+      regoal ! (λ (us : List Val). prop (WpFn 𝓤 H 𝓣.C 𝓣.Λ code.function (us ++ []) Post)) is refl $
+      enter ! 𝓣.C 𝓣.Λ code.function (word b o n ∷ []) Post $ alloc_all ! (λ l. pass_all ! refl ((tt, (tt, (record { fits = fits }, tt))), tt) $
+      sets ! (of_opd ! (get_in ! (fld ! refl (stop !)) (sub ! 0 refl (whole !)))) refl (tt, tt) $
+      sets ! (of_opd ! (get_in ! (fld ! refl (stop !)) (sub ! 1 refl (whole !)))) refl (tt, record { fits = fits }) $
+      first ! $ blocks ! $ use1 𝓛 (raw ((Lends 𝓛 at_mem run).pre y)) (lend_goes 𝓛 at_mem run b o n xs fits d.small) $
+      calls_at_last ! (fm_of 𝓤 H 𝓛.laws 𝓣) (Lends 𝓛 at_mem run) called y (and_then ! (get ! refl) (and_then ! (get ! refl) (no_more !))) (λ v.
+      use1 𝓛 (later (some (λ (r : Vec ℕ Lodged). (‵ ftrue ⊛ ‵ (Lent.own_val r (v ∷ [])))
+      ⊛ some (λ (ws : Unit {0} × (Unit {0} × Unit {0})). ‵ (lasts G.ended tt (block_ptr b o, (n, tt)) ws) ⊛ raw (fact 𝓤 (r.items ≡ xs)))))) (id⊢ 𝓤 _) $
+      await ! tt $ pick ! (λ r. split ! $ split ! $ drop ! $ move ! (1 ∷ []) $ pick ! (λ ws. split ! $ drop ! $ heard ! (r.items ≡ xs) (λ same.
+      tells ! r v (λ u one good.
+      let fine = subst Good (sym (ap only one)) good in
+      rewrite ! 0 (λ w. ‵ (Lent.own_val r (w ∷ []))) (sym (ap only one)) refl $ lands_last ! refl fine $
+      exec ! 𝓣.C 𝓣.Λ (env code.function.locals l) code.Mir.t-4 (at_ret (env code.function.locals l) Post) $
+      sets ! (of_opd ! (get ! refl)) refl fine $ returns ! (look_at ! 0 refl) $ free_all ! refl $
+      suffices ! _ (ends_at 𝓛 F.ended stayed (F.clauses 𝓛 at_mem run) z v r (tt, tt) (tt, tt)) $ says ! same $
+      nothing ! $ nothing ! $ fjoin ! $ join ! $ nothing ! $ join ! $ done !))))))))))))
+
+pub into_bytes_spec : {M : Type 1} → stated.statement M
+unfolding tables_of
+into_bytes_spec 𝓤 𝓛 𝓜 𝓡 wired =
+    let 𝓣 : Tables 𝓤 𝓛.H = tables_of 𝓤 𝓛.H 𝓜 (tables 𝓤 𝓛.H 𝓜 𝓡 𝓡.env) in
+    entered 𝓤 𝓛.H (triple_of 𝓛 F.signature (F.spec 𝓛 𝓜.mem 𝓡.returns)) 𝓣.C 𝓣.Λ #self code.function (code.unfolded 𝓤 𝓛.H 𝓜 𝓡 wired)
+    (walk_Meets 𝓛 F.ended stayed (Goes-dropped 𝓛 0 (plain (λ _. R.the_row)) yes (λ κs x f. refl), tt) (F.clauses 𝓛 𝓜.mem 𝓡.returns)
+    (WpFn 𝓤 𝓛.H 𝓣.C 𝓣.Λ code.function) (WpFn-mono 𝓤 𝓛.H 𝓛.laws 𝓣 code.function)
+    (walk 𝓛 𝓜.mem 𝓡.returns 𝓣 (callee.met 𝓤 𝓛 𝓜 𝓡 (code.calls-guest_bytes::lent::lend 𝓡.env wired))))
