@@ -1,9 +1,9 @@
 -- Whether bytes are digits, judged without a branch.
-use Rattle.std.proofs.Common.{◌≡◌, ℕ, ◌+◌, ◌-◌, ◌<◌, ◌≤◌, Bool, true, false, ◌&&◌, ◌||◌, leb, List, All, IsTrue, ◌↔◌, ◌⊎◌, inl, inr, length, get_or, take, refl, subst, arith, length-take}
-use Rattle.std.proofs.Math.Seq.{take-take}
+use Rattle.std.proofs.Common.{◌≡◌, ℕ, ◌+◌, ◌-◌, ◌<◌, ◌≤◌, Bool, true, false, ◌&&◌, ◌||◌, leb, List, All, IsTrue, ◌↔◌, ◌⊎◌, inl, inr, length, get_or, take, drop, refl, sym, subst, arith, length-take}
+use Rattle.std.proofs.Math.Seq.{take-add, take-take}
 use Rattle.std.proofs.lemmas.Bool.{leb-true, le-leb}
 use Rattle.std.proofs.lemmas.List.{get_or-take}
-use Rattle.std.proofs.lemmas.List.Elements.{All-more, All-take}
+use Rattle.std.proofs.lemmas.List.Elements.{All-append, All-more, All-nil, All-take}
 use Rattle.hexadecimal.specs.Fields.{IsDigit}
 use Rattle.hexadecimal.proofs.Digits.{digit_cases, digit_high, digit_low}
 
@@ -65,3 +65,23 @@ judged_more xs i all here lt so_far this = (
       let last = subst IsDigit (get_or-take (i + 1) xs i 0 (omega arith)) (h i 0 (omega (arith, length-take (i + 1) xs))) in
       rw (so_far.1 front, this.1 last) refl,
 )
+
+-- so many digits more
+pub digits_more : (xs : List ℕ) (i n : ℕ) → All IsDigit (take i xs) → All IsDigit (take n (drop i xs)) → All IsDigit (take (i + n) xs)
+digits_more xs i n front block = subst (All IsDigit) (sym (take-add i n xs)) (All-append IsDigit (take i xs) (take n (drop i xs)) front block)
+
+-- the bytes before the nth are digits
+pub record DigitsBefore (xs : List ℕ) (n : ℕ) : Type 0 where
+  pub within : n ≤ length xs
+  pub digits : All IsDigit (take n xs)
+
+pub none_before : (xs : List ℕ) → DigitsBefore xs 0
+none_before xs = record { within = omega arith; digits = All-nil IsDigit }
+
+pub block_more : (xs : List ℕ) (n : ℕ) (all : Bool) → DigitsBefore xs n → n + 16 ≤ length xs → all ≡ true → (IsTrue all ↔ All IsDigit (take (n + 16 - n) (drop n xs))) → DigitsBefore xs (n + 16)
+block_more xs n all before room held test =
+    let same : n + 16 - n ≡ 16 = omega arith in
+    record { within = room; digits = digits_more xs n 16 before.digits (subst (λ (k : ℕ). All IsDigit (take k (drop n xs))) same (test.0 held)) }
+
+pub one_more : (xs : List ℕ) (n : ℕ) (here : Bool) → DigitsBefore xs n → n < length xs → here ≡ true → (IsTrue here ↔ IsDigit (get_or xs n 0)) → DigitsBefore xs (n + 1)
+one_more xs n here before lt held test = record { within = omega arith; digits = All-more IsDigit xs n 0 lt before.digits (test.0 held) }

@@ -1,9 +1,28 @@
 //! Fields that spell bytes.
 
-ghost use Rattle.std.specs.Prelude.{◌≡◌, ◌/◌, ◌∷◌, [], ◌↔◌, All, IsTrue, IfNone, IfSome, length};
+ghost use Rattle.std.specs.Prelude.{◌≡◌, ◌/◌, ◌<◌, ◌≤◌, ◌∷◌, [], ◌↔◌, All, IsTrue, IfNone, IfSome, length, slice_index_or, take};
 ghost use Rattle.hexadecimal.specs.Fields.{ArePairs, IsBytesField, IsDigit, SpellsBytes};
 
 use crate::pairs::read_pairs;
+
+/// How many bytes are judged at once.
+const BLOCK: usize = 16;
+
+/// How many digits stand at the front of a text.
+pub fn digits_len(text: &[u8]) -> usize
+    ensures within { result ≤ length text.now }
+    ensures digits { All IsDigit (take result text.now) }
+    ensures all { result < length text.now → ¬ IsDigit (slice_index_or text.now result 0) }
+{
+    let mut n = 0;
+    while text.len() - n >= BLOCK && are_digits(&text[n..n + BLOCK]) {
+        n += BLOCK;
+    }
+    while n < text.len() && is_digit(text[n]) {
+        n += 1;
+    }
+    n
+}
 
 /// Whether all bytes are lower case digits.
 pub fn are_digits(field: &[u8]) -> bool

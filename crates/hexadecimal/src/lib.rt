@@ -9,7 +9,7 @@ mod number_field;
 mod pairs;
 mod push;
 
-pub use byte_field::{are_bytes, are_digits, read_bytes, spelled_len};
+pub use byte_field::{are_bytes, are_digits, digits_len, read_bytes, spelled_len};
 pub use digit::{digit_of, value_of};
 pub use number_field::{fixed_number, number, number_u8, number_u16, number_u32};
 pub use pairs::{read_pairs, spell};

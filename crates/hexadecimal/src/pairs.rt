@@ -9,7 +9,7 @@ ghost use Rattle.hexadecimal.specs.Fields.{IsDigit};
 use crate::digit::digit_of;
 
 /// Up to so many bytes go by `hex`. It takes one after another, and a long field would take it three times as long.
-const FEW: usize = 64;
+const FEW: usize = 32;
 
 /// Writes bytes by two digits each.
 pub fn spell(bytes: &[u8], digits: &mut [u8])

@@ -13,13 +13,13 @@ use Rattle.trace.specs.declared.read.said.Said.{Said}
 use Rattle.trace.specs.declared.word.Word.{Word}
 use Rattle.trace.specs.Cuts.{fields_of, lines_of}
 use Rattle.trace.specs.Faults.{IsFault, IsCleanBefore}
-use Rattle.trace.specs.Judging.{HaveRoom, IsJudged, JudgesLine, Judgement, bytes_len, said_len}
+use Rattle.trace.specs.Judging.{HaveRoom, IsJudged, JudgesFirst, JudgesLine, Judgement, RefusesFirst, begun_before, bytes_len, said_len}
 use Rattle.trace.specs.Refusals.{IsFineSlot, RefusesLine, SaysEvent, SaysSlot, with_event, with_slot}
 use Rattle.trace.specs.Reading.{IsTraceFault}
-use Rattle.trace.specs.Said.{IsFineSaid, said_fields}
+use Rattle.trace.specs.Said.{IsFineSaid, said_fields, said_line}
 use Rattle.trace.specs.Text.{Content, event_fields, event_line, joined, slot_fields, word_for}
-use Rattle.trace.specs.Words.{IsWordOf}
-use Rattle.trace.proofs.Saying.{meant}
+use Rattle.trace.specs.Words.{IsInEach, IsWordOf}
+use Rattle.trace.proofs.Saying.{cut_said, meant}
 use Rattle.trace.proofs.Signs.{line-fields_of}
 use Rattle.trace.proofs.Sofar.{Sofar, all_read, clean, event_read, is_cut, is_refused, length_joined, slot_read, taken}
 use Rattle.trace.proofs.Unique.{no_fault, one_trace, text_clean}
@@ -51,6 +51,16 @@ event_judged A begun line after n s old new is fine of numbered counted =
           let le = ltb-false old.longest (said_len s) same in
           counted_as A begun line after old.longest old.longest_line s old new is fine of le (omega arith) (λ h. h) (rw same at counted)
     ]
+
+-- the same of the first line of what is left, which says an event in each version
+pub first_event_judged : {A : Type 0} (rest after : List ℕ) (n : ℕ) (s : Said A) (old new : Judgement) → rest ≡ said_line s ++ 10 ∷ after → IsFineSaid s
+    → IsInEach (word_for s.event.what) → 1 ≤ n → new ≡ (if nat_lt old.longest (said_len s) then record old { longest = said_len s; longest_line = n } else old)
+    → JudgesFirst A rest after old new
+first_event_judged {A = A} rest after n s old new ended fine each numbered counted = record {
+  line = said_line s;
+  ended = ended;
+  judged = event_judged A (begun_before old rest) (said_line s) after n s old new (cut_said s fine) fine (each old.version) numbered counted;
+}
 
 -- the lines so far are those of a trace, of which this is kept
 pub record JudgedSofar (A : Type 0) (whole : List ℕ) (j : Judgement) (k : ℕ) (rest : List ℕ) : Type 0 where
@@ -142,6 +152,13 @@ judged_more A whole j new k rest l after begun s cut test (inr judges) =
     subst (λ (n : Judgement). JudgedSofar A whole n (k + 1) after) (sym judges.is)
     (event_more A whole j k new.longest new.longest_line rest l after judges.event s cut judges.said judges.fits judges.longer (judges.numbered s.numbered))
 
+pub first_more : (A : Type 0) (whole : List ℕ) (j new : Judgement) (k : ℕ) (rest after : List ℕ) → JudgedSofar A whole j k rest → JudgesFirst A rest after j new
+    → JudgedSofar A whole new (k + 1) after
+first_more A whole j new k rest after s h = judged_more A whole j new k rest h.line after (begun_before j rest) s h.ended refl h.judged
+
+pub first_shortens : {A : Type 0} (rest after : List ℕ) (old new : Judgement) → JudgesFirst A rest after old new → length after < length rest
+first_shortens rest after old new h = omega (arith, ap length h.ended, length-append h.line (10 ∷ after))
+
 -- ---- what is answered
 
 -- a fault of the text, which is then no trace's
@@ -178,6 +195,14 @@ is_refused_now A whole j k rest l after begun fault s cut test h known =
     (λ so. some_events A whole j k rest s (λ e. absurd (true_not_false (sym so ∙ test ∙ ap not (eq-eqb (length j.events) (length rest) e)))))
     (λ no'. no_events A whole j k rest s (eqb-true (length j.events) (length rest) (not_false (length j.events == length rest) (sym test ∙ no'))))
     (subst (λ (v : ℕ). RefusesLine v begun l fault) (sym s.version) h) known
+
+-- the same, or it isn't ended
+pub first_refused : (A : Type 0) (whole : List ℕ) (j : Judgement) (k : ℕ) (rest : List ℕ) (fault : FaultKind) → JudgedSofar A whole j k rest
+    → length rest ≢ 0 → RefusesFirst j rest fault → fault ≢ kind.NoMemory → IsFault whole k fault
+first_refused A whole j k rest fault s some (inl cut) known =
+    subst (λ (f : FaultKind). IsFault whole k f) (sym cut.named) (is_cut_off A whole j k rest s cut.last some)
+first_refused A whole j k rest fault s some (inr next) known =
+    is_refused_now A whole j k rest next.line next.after (begun_before j rest) fault s next.cut refl next.refused known
 
 -- nothing is left
 pub judged_whole : (A : Type 0) (whole : List ℕ) (j : Judgement) (k : ℕ) (rest : List ℕ) → JudgedSofar A whole j k rest → length rest ≡ 0 → IsJudged A whole j

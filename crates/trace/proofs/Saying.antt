@@ -1,17 +1,21 @@
 -- The event that a line says, and its fields.
-use Rattle.std.proofs.Common.{◌≡◌, ℕ, ◌/◌, List, length, refl, sym, ap, ◌∙◌}
+use Rattle.std.proofs.Common.{◌≡◌, ℕ, ◌/◌, List, ◌∷◌, ◌++◌, length, refl, sym, ap, subst, ◌∙◌}
 use Rattle.board.specs.declared.event.Event.{Event}
 use Rattle.board.specs.declared.event.EventKind.{EventKind}
 use Rattle.board.specs.declared.event.EventKind.TheVariants as event
 use Rattle.trace.specs.declared.read.said.Said.{Said}
-use Rattle.trace.specs.Cuts.{fields_of}
+use Rattle.trace.specs.Cuts.{fields_of, lines_of}
+use Rattle.trace.specs.Events.{TakesEvent}
 use Rattle.trace.specs.Judging.{bytes_len, said_len}
 use Rattle.trace.specs.Printable.{IsPrintableKind, KindInRange}
 use Rattle.trace.specs.Refusals.{IsFine}
 use Rattle.trace.specs.Said.{IsFineSaid, IsFineWhat, IsPlain, said_fields, said_line, what_said}
 use Rattle.trace.specs.Text.{event_fields, event_line, line, what_fields, word_for}
 use Rattle.hexadecimal.proofs.ByteFields.{spelled_len}
-use Rattle.trace.proofs.Entries.{cut_event}
+use Rattle.trace.specs.Words.{IsInEach, IsWordOf}
+use Rattle.trace.specs.declared.word.Word.{Word}
+use Rattle.trace.proofs.Entries.{cut_event, entered_event}
+use Rattle.trace.proofs.Signs.{Above, lines_of-line}
 
 -- an event with these fields, and as many bytes as are still spelled
 pub record Meant {A : Type 0} (fields : List (List ℕ)) (s : Said A) : Type 0 where
@@ -70,3 +74,22 @@ unfolding said_line event_line
 cut_said s h =
     let it = meant s h in
     ap (λ (fs : List (List ℕ)). fields_of (line fs)) (sym it.fields_are) ∙ cut_event it.event it.fine ∙ it.fields_are
+
+-- no line feed stands in it
+unbroken_said : {A : Type 0} (s : Said A) → IsFineSaid s → IsInEach (word_for s.event.what) → Above 10 (said_line s)
+unfolding said_line event_line
+unbroken_said s h each =
+    let it = meant s h in
+    let of : IsWordOf 3 (word_for it.event.what) = subst (λ (w : Word). IsWordOf 3 w) (sym it.word) (each 3) in
+    subst (λ (fs : List (List ℕ)). Above 10 (line fs)) it.fields_are (entered_event 3 it.event it.fine of).entry.unbroken
+
+-- the line was taken off a text
+pub taken_said : {A : Type 0} (s : Said A) (text after : List ℕ) → IsFineSaid s → IsInEach (word_for s.event.what)
+    → text ≡ said_line s ++ 10 ∷ after → TakesEvent text s after
+taken_said s text after fine each is = record {
+  line = said_line s;
+  ended = is;
+  lines = ap lines_of is ∙ lines_of-line (said_line s) after (unbroken_said s fine each);
+  fields = cut_said s fine;
+  fine = fine;
+}

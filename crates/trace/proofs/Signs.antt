@@ -94,6 +94,11 @@ lines_of-joined (l ∷ ls) rest h =
     let regrouped : flat_map ended (l ∷ ls) ++ rest ≡ l ++ 10 ∷ (flat_map ended ls ++ rest) = append_assoc (l ++ 10 ∷ []) (flat_map ended ls) rest ∙ append_assoc l (10 ∷ []) (flat_map ended ls ++ rest) in
     ap (slice_split is_line_feed) regrouped ∙ slice_split_at is_line_feed l 10 (flat_map ended ls ++ rest) (without 10 l h.0) refl ∙ ap (λ (xs : List (List ℕ)). l ∷ xs) (lines_of-joined ls rest h.1)
 
+-- a text is cut behind a line without a line feed
+pub lines_of-line : (l after : List ℕ) → Above 10 l → lines_of (l ++ 10 ∷ after) ≡ l ∷ lines_of after
+unfolding lines_of
+lines_of-line l after h = slice_split_at is_line_feed l 10 after (without 10 l h) refl
+
 pub joined_push : (ls : List (List ℕ)) (l : List ℕ) → joined (ls ++ l ∷ []) ≡ joined ls ++ ended l
 unfolding joined
 joined_push [] l = append-nil (ended l)

@@ -1,13 +1,16 @@
 -- A text that was judged whole: what is kept of it is what stands before its events, and their lines.
-use Rattle.std.specs.Prelude.{◌≡◌, ◌⊎◌, ℕ, ◌/◌, ◌≤◌, Bool, List, [], ◌∷◌, ◌++◌, All, length, map}
+use Rattle.std.specs.Prelude.{◌≡◌, ◌==◌, ◌⊎◌, ℕ, ◌/◌, ◌≤◌, Bool, not, List, [], ◌∷◌, ◌++◌, All, length, map}
 use Rattle.board.specs.declared.event.Event.{Event}
 use Rattle.board.specs.declared.event.EventKind.{EventKind}
 use Rattle.board.specs.declared.event.EventKind.TheVariants as event
 use Rattle.board.specs.declared.spec.SlotSpec.{SlotSpec}
 use Rattle.trace.specs.declared.disks.Disks.{Disks}
+use Rattle.trace.specs.declared.fault.FaultKind.{FaultKind}
+use Rattle.trace.specs.declared.fault.FaultKind.TheVariants as kind
+use Rattle.trace.specs.Cuts.{lines_of}
 use Rattle.trace.specs.declared.read.judging.Judged.{Judged}
 use Rattle.trace.specs.declared.read.said.Said.{Said}
-use Rattle.trace.specs.Refusals.{IsFine, SaysEvent, SaysSlot}
+use Rattle.trace.specs.Refusals.{IsFine, RefusesLine, SaysEvent, SaysSlot}
 use Rattle.trace.specs.Reading.{IsTraceOf}
 use Rattle.trace.specs.Text.{Content, event_line, joined}
 
@@ -87,3 +90,27 @@ pub record JudgesEvent (A : Type 0) (line : List ℕ) (old new : Judgement) : Ty
 
 abbrev pub JudgesLine : Type 0 → Bool → List ℕ → List ℕ → Judgement → Judgement → Type 0
 JudgesLine A begun line after old new = JudgesSlot begun line after old new ⊎ JudgesEvent A line old new
+
+-- whether events may have begun before what is left of a text: their lines begin before it
+abbrev pub begun_before : Judgement → List ℕ → Bool
+begun_before j rest = not (length j.events == length rest)
+
+-- the first line of what is left of a text was judged, and this follows it
+pub record JudgesFirst (A : Type 0) (rest after : List ℕ) (old new : Judgement) : Type 0 where
+  pub line : List ℕ
+  pub ended : rest ≡ line ++ 10 ∷ after
+  pub judged : JudgesLine A (begun_before old rest) line after old new
+
+-- it is refused, or isn't ended
+pub record RefusesNext (j : Judgement) (rest : List ℕ) (fault : FaultKind) : Type 0 where
+  pub line : List ℕ
+  pub after : List ℕ
+  pub cut : lines_of rest ≡ line ∷ lines_of after
+  pub refused : RefusesLine j.version (begun_before j rest) line fault
+
+pub record IsCutOff (rest : List ℕ) (fault : FaultKind) : Type 0 where
+  pub last : lines_of rest ≡ rest ∷ []
+  pub named : fault ≡ kind.Cut
+
+abbrev pub RefusesFirst : Judgement → List ℕ → FaultKind → Type 0
+RefusesFirst j rest fault = IsCutOff rest fault ⊎ RefusesNext j rest fault

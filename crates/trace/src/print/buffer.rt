@@ -3,7 +3,7 @@
 //! Its room is reserved once. The writer is passed along with each call, so that what it holds stays in its
 //! owner's sight.
 
-ghost use Rattle.std.specs.Prelude.{◌≡◌, ◌⊎◌, ◌↔◌, ◌++◌, [], Some, None, IfOk, IsTrue, if◌then◌else◌};
+ghost use Rattle.std.specs.Prelude.{◌≡◌, ◌⊎◌, ◌↔◌, ◌++◌, [], Some, None, IfOk, IsTrue, false, if◌then◌else◌};
 ghost use Rattle.trace.specs.Sends.{Sends, waiting};
 
 use crate::no_memory::NoMemory;
@@ -59,13 +59,24 @@ impl<A: Allocator> Buffer<A> {
         })
     }
 
-    /// Adds bytes to those that wait. What finds no room goes out, after all that waits.
+    /// Adds bytes to those that wait. What finds no room goes out, after all that waits. It is read into its caller, who mostly
+    /// knows how many bytes these are.
+    #[inline(always)]
     pub fn put<W: Write>(&mut self, out: &mut W, bytes: &[u8])
         ensures { Sends (W.contents out.old) (W.contents out.new) (waiting self.old) bytes.now (waiting self.new) }
     {
         if self.is_broken || self.keep(bytes) {
             return;
         }
+        self.put_full(out, bytes);
+    }
+
+    // The same of bytes that found no room.
+    #[inline(never)]
+    fn put_full<W: Write>(&mut self, out: &mut W, bytes: &[u8])
+        requires { self.old.is_broken ≡ false }
+        ensures { Sends (W.contents out.old) (W.contents out.new) (waiting self.old) bytes.now (waiting self.new) }
+    {
         self.flush(out);
         if self.is_broken || self.keep(bytes) {
             return;
@@ -74,6 +85,7 @@ impl<A: Allocator> Buffer<A> {
     }
 
     // Adds the bytes where there is room for them, and answers whether there was.
+    #[inline(always)]
     fn keep(&mut self, bytes: &[u8]) -> bool
         ensures items { self.new.bytes.items ≡ (if result then self.old.bytes.items ++ bytes.now else self.old.bytes.items) }
         ensures state { self.new.is_broken ≡ self.old.is_broken }

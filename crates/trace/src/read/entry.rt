@@ -11,7 +11,6 @@ use crate::fault::FaultKind;
 use crate::read::at_fault::fault_in;
 use crate::read::cut::take_field;
 use crate::read::fields::{event_of, slot_of};
-use crate::read::frequent::frequent;
 use crate::read::said::Said;
 use crate::word::{Word, word_in};
 use board::SlotSpec;
@@ -25,25 +24,7 @@ pub(crate) enum Entry<'a, A: Allocator> {
 }
 
 /// The slot or the event that a line is in a version, where events may have `begun` before it.
-pub(crate) fn entry_of<A: Allocator + Copy>(
-    alloc: A,
-    version: u8,
-    line: &[u8],
-    begun: bool,
-) -> Result<Entry<'_, A>, FaultKind>
-    requires { IsVersion version }
-    ensures ok { IfOk result (λ entry. fields_of line.now ≡ entry_fields version entry) }
-    ensures fine { IfOk result (IsFineEntry version begun) }
-    ensures err { IfErr result (λ fault. RefusesLine version begun line.now fault) }
-{
-    match frequent(alloc, line) {
-        Some(said) => Ok(Entry::Event(said)),
-        None => by_fields(alloc, version, line, begun),
-    }
-}
-
-/// The same of any line, field by field.
-pub(crate) fn by_fields<A: Allocator>(
+pub(crate) fn entry_of<A: Allocator>(
     alloc: A,
     version: u8,
     line: &[u8],

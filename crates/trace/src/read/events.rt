@@ -8,8 +8,8 @@ ghost use Rattle.trace.specs.Refusals.{RefusesLine};
 ghost use Rattle.trace.specs.Said.{IsFineSaid, said_fields};
 
 use crate::read::cut::take_line;
-use crate::read::entry::{Entry, by_fields};
-use crate::read::frequent::frequent;
+use crate::read::entry::{Entry, entry_of};
+use crate::read::frequent::take_frequent;
 use crate::read::said::Said;
 use crate::version::VERSION_3;
 use std::alloc::Allocator;
@@ -19,6 +19,9 @@ pub fn take_event<A: Allocator + Copy>(alloc: A, rest: &[u8]) -> (Said<'_, A>, &
     requires { BeginsWithEvent rest.now }
     ensures { TakesEvent rest.now result.0 result.1.now }
 {
+    if let Some(taken) = take_frequent(alloc, rest) {
+        return taken;
+    }
     let Some((line, after)) = take_line(rest) else {
         unreachable!()
     };
@@ -31,10 +34,7 @@ fn event_of<A: Allocator + Copy>(alloc: A, line: &[u8]) -> Said<'_, A>
     ensures fields { fields_of line.now ≡ said_fields result }
     ensures fine { IsFineSaid result }
 {
-    if let Some(said) = frequent(alloc, line) {
-        return said;
-    }
-    match by_fields(alloc, VERSION_3, line, true) {
+    match entry_of(alloc, VERSION_3, line, true) {
         Ok(Entry::Event(said)) => said,
         _ => unreachable!(),
     }

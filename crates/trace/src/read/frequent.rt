@@ -1,104 +1,131 @@
-//! The lines that come most often: accesses to registers and to memory.
+//! The lines that come most often: accesses to registers and to memory, and console input.
 //!
-//! Each is read from its front to its end, and no fault is looked for. What isn't spelled so is `None` here, and
-//! `entry` reads it field by field: it may have a fault, or be a line of another kind.
+//! Each is read from the front of a text to its line feed, and no fault is looked for. What isn't spelled so is `None` here,
+//! and `entry` reads it field by field: it may have a fault, or be a line of another kind.
 
 ghost use Rattle.std.specs.Prelude.{◌≡◌, ◌++◌, ◌∷◌, ◌^◌, ◌<◌, IfSome};
 ghost use Rattle.trace.specs.Said.{IsFineSaid, said_line};
 ghost use Rattle.hexadecimal.specs.Spelling.{fixed, num};
 ghost use Rattle.trace.specs.Spelling.{width_digit, window};
 ghost use Rattle.trace.specs.Text.{word_for};
-ghost use Rattle.trace.specs.Words.{IsInEach, IsWidth, spelled};
+ghost use Rattle.trace.specs.Words.{Bytes as ByBytes, IsInEach, IsWidth, Says, spelled};
 
 use crate::read::choice::{width_of, window_of};
+use crate::read::cut::take_line;
 use crate::read::number::take_number;
 use crate::read::offset::offset_of;
 use crate::read::said::Said;
 use crate::word::Word;
 use board::{DeviceKind, EventKind};
-use hexadecimal::{are_bytes, fixed_number, number_u8, number_u32};
+use hexadecimal::{digits_len, fixed_number, number_u32, value_of};
 use std::alloc::Allocator;
 
-/// The event of a line that is spelled so.
-pub(crate) fn frequent<A: Allocator>(alloc: A, line: &[u8]) -> Option<Said<'_, A>>
-    ensures line { IfSome result (λ e. line.now ≡ said_line e) }
-    ensures fine { IfSome result IsFineSaid }
-    ensures each { IfSome result (λ e. IsInEach (word_for e.event.what)) }
+/// The event of a text's first line, where that is spelled so, and what follows it. It is read into its caller, who may want a
+/// part of the event alone.
+#[inline(always)]
+pub(crate) fn take_frequent<A: Allocator>(alloc: A, text: &[u8]) -> Option<(Said<'_, A>, &[u8])>
+    ensures line { IfSome result (λ x. text.now ≡ said_line x.0 ++ 10 ∷ x.1.now) }
+    ensures fine { IfSome result (λ x. IsFineSaid x.0) }
+    ensures each { IfSome result (λ x. IsInEach (word_for x.0.event.what)) }
 {
-    match line {
+    match text {
         [b'r', b' ', rest @ ..] => read_in(rest),
         [b'w', b' ', rest @ ..] => write_in(rest),
-        [b'm', b'r', b' ', rest @ ..] => mem_read_in(rest),
         [b'm', b'w', b' ', rest @ ..] => mem_write_in(alloc, rest),
+        [b'm', b'r', b' ', rest @ ..] => mem_read_in(rest),
+        [b'i', b'n', b' ', rest @ ..] => input_in(alloc, rest),
         _ => None,
     }
 }
 
 // The event that these bytes after its word and a space say.
+#[inline(always)]
 #[tactic(auto, unfolding(crate::specs::Said::said_line))]
-fn read_in<A: Allocator>(rest: &[u8]) -> Option<Said<'_, A>>
-    ensures line { IfSome result (λ e. spelled Word.Read ++ 32 ∷ rest.now ≡ said_line e) }
-    ensures fine { IfSome result IsFineSaid }
-    ensures each { IfSome result (λ e. IsInEach (word_for e.event.what)) }
+fn read_in<A: Allocator>(rest: &[u8]) -> Option<(Said<'_, A>, &[u8])>
+    ensures line { IfSome result (λ x. spelled Word.Read ++ 32 ∷ rest.now ≡ said_line x.0 ++ 10 ∷ x.1.now) }
+    ensures fine { IfSome result (λ x. IsFineSaid x.0) }
+    ensures each { IfSome result (λ x. IsInEach (word_for x.0.event.what)) }
 {
     let (slot, window, offset, width, rest) = access(rest)?;
-    if !rest.is_empty() {
+    let [b'\n', after @ ..] = rest else {
         return None;
-    }
+    };
     let what = EventKind::Read {
         window,
         offset,
         width,
     };
-    Some(Said::plain(slot, what))
+    Some((Said::plain(slot, what), after))
 }
 
+#[inline(always)]
 #[tactic(auto, unfolding(crate::specs::Said::said_line))]
-fn write_in<A: Allocator>(rest: &[u8]) -> Option<Said<'_, A>>
-    ensures line { IfSome result (λ e. spelled Word.Write ++ 32 ∷ rest.now ≡ said_line e) }
-    ensures fine { IfSome result IsFineSaid }
-    ensures each { IfSome result (λ e. IsInEach (word_for e.event.what)) }
+fn write_in<A: Allocator>(rest: &[u8]) -> Option<(Said<'_, A>, &[u8])>
+    ensures line { IfSome result (λ x. spelled Word.Write ++ 32 ∷ rest.now ≡ said_line x.0 ++ 10 ∷ x.1.now) }
+    ensures fine { IfSome result (λ x. IsFineSaid x.0) }
+    ensures each { IfSome result (λ x. IsInEach (word_for x.0.event.what)) }
 {
     let (slot, window, offset, width, rest) = access(rest)?;
-    let [b' ', value @ ..] = rest else {
+    let [b' ', rest @ ..] = rest else {
         return None;
     };
-    let value = fixed_number(value, 2 * width as usize)?;
+    let digits = 2 * width as usize;
+    let (value, rest) = rest.split_at_checked(digits)?;
+    let [b'\n', after @ ..] = rest else {
+        return None;
+    };
+    let value = fixed_number(value, digits)?;
     let what = EventKind::Write {
         window,
         offset,
         width,
         value,
     };
-    Some(Said::plain(slot, what))
+    Some((Said::plain(slot, what), after))
 }
 
+#[inline(always)]
 #[tactic(auto, unfolding(crate::specs::Said::said_line))]
-fn mem_read_in<A: Allocator>(rest: &[u8]) -> Option<Said<'_, A>>
-    ensures line { IfSome result (λ e. spelled Word.MemRead ++ 32 ∷ rest.now ≡ said_line e) }
-    ensures fine { IfSome result IsFineSaid }
-    ensures each { IfSome result (λ e. IsInEach (word_for e.event.what)) }
+fn mem_read_in<A: Allocator>(rest: &[u8]) -> Option<(Said<'_, A>, &[u8])>
+    ensures line { IfSome result (λ x. spelled Word.MemRead ++ 32 ∷ rest.now ≡ said_line x.0 ++ 10 ∷ x.1.now) }
+    ensures fine { IfSome result (λ x. IsFineSaid x.0) }
+    ensures each { IfSome result (λ x. IsInEach (word_for x.0.event.what)) }
 {
-    let (slot, addr, len) = place(rest)?;
+    let (slot, rest) = take_slot(rest)?;
+    let (addr, rest) = take_number(rest)?;
+    let (len, after) = take_line(rest)?;
     let len = number_u32(len)?;
-    Some(Said::plain(slot, EventKind::MemRead { addr, len }))
+    Some((Said::plain(slot, EventKind::MemRead { addr, len }), after))
 }
 
+#[inline(always)]
 #[tactic(auto, unfolding(crate::specs::Said::said_line))]
-fn mem_write_in<A: Allocator>(alloc: A, rest: &[u8]) -> Option<Said<'_, A>>
-    ensures line { IfSome result (λ e. spelled Word.MemWrite ++ 32 ∷ rest.now ≡ said_line e) }
-    ensures fine { IfSome result IsFineSaid }
-    ensures each { IfSome result (λ e. IsInEach (word_for e.event.what)) }
+fn mem_write_in<A: Allocator>(alloc: A, rest: &[u8]) -> Option<(Said<'_, A>, &[u8])>
+    ensures line { IfSome result (λ x. spelled Word.MemWrite ++ 32 ∷ rest.now ≡ said_line x.0 ++ 10 ∷ x.1.now) }
+    ensures fine { IfSome result (λ x. IsFineSaid x.0) }
+    ensures each { IfSome result (λ x. IsInEach (word_for x.0.event.what)) }
 {
-    let (slot, addr, bytes) = place(rest)?;
-    if !are_bytes(bytes) {
-        return None;
-    }
-    Some(Said::mem_write(alloc, slot, addr, bytes))
+    let (slot, rest) = take_slot(rest)?;
+    let (addr, rest) = take_number(rest)?;
+    let (bytes, after) = take_bytes(rest)?;
+    Some((Said::mem_write(alloc, slot, addr, bytes), after))
+}
+
+#[inline(always)]
+#[tactic(auto, unfolding(crate::specs::Said::said_line))]
+fn input_in<A: Allocator>(alloc: A, rest: &[u8]) -> Option<(Said<'_, A>, &[u8])>
+    ensures line { IfSome result (λ x. spelled Word.Input ++ 32 ∷ rest.now ≡ said_line x.0 ++ 10 ∷ x.1.now) }
+    ensures fine { IfSome result (λ x. IsFineSaid x.0) }
+    ensures each { IfSome result (λ x. IsInEach (word_for x.0.event.what)) }
+{
+    let (slot, rest) = take_slot(rest)?;
+    let (bytes, after) = take_bytes(rest)?;
+    Some((Said::input(alloc, slot, bytes), after))
 }
 
 /// The slot, the window, the offset and the width of a register access, of which the last three stand in fixed
 /// columns, and what follows the width.
+#[inline(always)]
 fn access(line: &[u8]) -> Option<(u8, DeviceKind, u16, u8, &[u8])>
     ensures line { IfSome result (λ x. line.now ≡ num x.0 ++ 32 ∷ window x.1 ++ 32 ∷ fixed 3 x.2 ++ 32 ∷ width_digit x.3 ++ x.4.now) }
     ensures offset { IfSome result (λ x. x.2 < 16 ^ 3) }
@@ -114,24 +141,33 @@ fn access(line: &[u8]) -> Option<(u8, DeviceKind, u16, u8, &[u8])>
     Some((slot, window, offset, width, &line[7..]))
 }
 
-/// The slot and the address of an access to memory, and the field after them.
-fn place(line: &[u8]) -> Option<(u8, u64, &[u8])>
-    ensures { IfSome result (λ x. line.now ≡ num x.0 ++ 32 ∷ num x.1 ++ 32 ∷ x.2.now) }
+/// The digits at the front of a text, two for each of some bytes, and what follows the line feed after them.
+#[inline(always)]
+fn take_bytes(text: &[u8]) -> Option<(&[u8], &[u8])>
+    ensures ended { IfSome result (λ x. text.now ≡ x.0.now ++ 10 ∷ x.1.now) }
+    ensures says { IfSome result (λ x. Says ByBytes x.0.now) }
 {
-    let (slot, line) = take_slot(line)?;
-    let (addr, rest) = take_number(line)?;
-    Some((slot, addr, rest))
+    let len = digits_len(text);
+    let (field, rest) = text.split_at(len);
+    match rest {
+        [b'\n', after @ ..] if len > 0 && len % 2 == 0 => Some((field, after)),
+        _ => None,
+    }
 }
 
 /// The slot at the front of a line, and what follows the space after it.
+#[inline(always)]
 fn take_slot(line: &[u8]) -> Option<(u8, &[u8])>
     ensures { IfSome result (λ x. line.now ≡ num x.0 ++ 32 ∷ x.1.now) }
 {
-    let digits = match line {
-        [_, b' ', ..] => 1,
-        [_, _, b' ', ..] => 2,
-        _ => return None,
+    if let [low, b' ', rest @ ..] = line {
+        return Some((value_of(*low)?, rest));
+    }
+    let [high, low, b' ', rest @ ..] = line else {
+        return None;
     };
-    let slot = number_u8(&line[..digits])?;
-    Some((slot, &line[digits + 1..]))
+    if *high == b'0' {
+        return None;
+    }
+    Some((value_of(*high)? * 16 + value_of(*low)?, rest))
 }

@@ -1,7 +1,7 @@
 //! Judging a whole text, line after line. No event is kept.
 
 ghost use Rattle.std.specs.Prelude.{◌≡◌, ◌≢◌, ◌≤◌, nat_lt, if◌then◌else◌, IfOk, IfErr, OnOk};
-ghost use Rattle.trace.specs.Judging.{IsJudged, JudgesLine, judgement};
+ghost use Rattle.trace.specs.Judging.{IsJudged, JudgesFirst, JudgesLine, RefusesFirst, judgement};
 ghost use Rattle.trace.specs.Refusals.{RefusesLine};
 ghost use Rattle.trace.specs.Reading.{IsTraceFault};
 ghost use Rattle.trace.specs.Version.{IsVersion};
@@ -9,8 +9,8 @@ ghost use Rattle.trace.specs.Version.{IsVersion};
 use crate::disks::Disks;
 use crate::fault::{FaultKind, TraceFault};
 use crate::read::cut::take_line;
-use crate::read::entry::{Entry, by_fields};
-use crate::read::frequent::frequent;
+use crate::read::entry::{Entry, entry_of};
+use crate::read::frequent::take_frequent;
 use crate::read::{after_disks, after_header};
 use board::SlotSpec;
 use std::alloc::{Allocator, Global};
@@ -51,15 +51,10 @@ pub fn judge<A: Allocator + Copy>(alloc: A, text: &[u8]) -> Result<Judged<'_, A>
     };
     let mut line = 3;
     while !rest.is_empty() {
-        let Some((this, after)) = take_line(rest) else {
-            let kind = FaultKind::Cut;
-            return Err(TraceFault { line, kind });
-        };
-        let begun = judged.events.len() != rest.len();
-        if let Err(kind) = judged.judge_line(alloc, line, begun, this, after) {
-            return Err(TraceFault { line, kind });
+        match judged.judge_first(alloc, line, rest) {
+            Ok(after) => rest = after,
+            Err(kind) => return Err(TraceFault { line, kind }),
         }
-        rest = after;
         line += 1;
     }
     Ok(judged)
@@ -75,6 +70,25 @@ impl<'a, A: Allocator + Copy> Judged<'a, A> {
             line: self.longest_line,
             kind: FaultKind::NoMemory,
         }
+    }
+
+    // Judges the first line of what is left of the text, and answers what follows it.
+    fn judge_first(&mut self, alloc: A, line: u64, text: &'a [u8]) -> Result<&'a [u8], FaultKind>
+        requires version { IsVersion self.old.version }
+        requires numbered { 1 ≤ line }
+        ensures ok { IfOk result (λ after. JudgesFirst A text.now after.now (judgement self.old) (judgement self.new)) }
+        ensures err { IfErr result (λ fault. fault ≢ FaultKind.NoMemory → RefusesFirst (judgement self.old) text.now fault) }
+    {
+        if let Some((said, after)) = take_frequent(alloc, text) {
+            self.count(line, said.spelled_len());
+            return Ok(after);
+        }
+        let Some((this, after)) = take_line(text) else {
+            return Err(FaultKind::Cut);
+        };
+        let begun = self.events.len() != text.len();
+        self.judge_line(alloc, line, begun, this, after)?;
+        Ok(after)
     }
 
     // Judges a line, where events may have `begun` before it and this stands after it. After an error nothing has
@@ -93,11 +107,7 @@ impl<'a, A: Allocator + Copy> Judged<'a, A> {
         ensures err { IfErr result (λ fault. fault ≢ FaultKind.NoMemory →
             RefusesLine self.old.version begun this.now fault) }
     {
-        if let Some(said) = frequent(alloc, this) {
-            self.count(line, said.spelled_len());
-            return Ok(());
-        }
-        match by_fields(alloc, self.version, this, begun) {
+        match entry_of(alloc, self.version, this, begun) {
             Ok(Entry::Slot(slot)) => {
                 if self.slots.push(slot).is_err() {
                     return Err(FaultKind::NoMemory);

@@ -1,10 +1,14 @@
-use Rattle.std.proofs.Common.{ap, ◌∙◌}
-use Rattle.trace.specs.Cuts.{fields_of}
-use Rattle.trace.proofs.Saying.{cut_said}
+use Rattle.std.proofs.Common.{◌≡◌, ◌∙◌, ◌∷◌, ℕ, Bool, true, false, List, ap, arith}
+use Rattle.std.specs.Option.{option_copied}
+use Rattle.trace.specs.Cuts.{fields_left}
+use Rattle.trace.proofs.Refused.{refused_after}
 use Rattle.trace.proofs.read.entry.entry_of.Goals as goal
 
-pub returns-in-Some-clause-ok : goal.returns-in-Some-clause-ok
-returns-in-Some-clause-ok g c = ap fields_of c.in-Some.ensures.line ∙ cut_said c.in-Some.said c.in-Some.ensures.fine
+not_begun : (begun : Bool) → begun ≡ false → begun ≡ true → ⊥
+not_begun begun is other = absurd cc
 
-pub returns-in-Some-clause-fine : goal.returns-in-Some-clause-fine
-returns-in-Some-clause-fine g c = (c.in-Some.ensures.fine, c.in-Some.ensures.each c.args.version)
+pub returns-in-Slot-2-clause-err : goal.returns-in-Slot-2-clause-err
+returns-in-Slot-2-clause-err g c =
+    let fields = fields_left (option_copied c.take_field.result.1) in
+    refused_after c.args.version c.args.begun c.args.line.now c.in-Some.word c.fault_in.result fields (rw c.in-Slot-2.is (omega arith)) c.in-Some.ensures.of_version
+    (c.take_field.ensures ∙ ap (λ (first : List ℕ). first ∷ fields) c.in-Some.ensures.some) (λ begun slot. not_begun c.args.begun c.if-begun.false begun) c.fault_in.ensures

@@ -2,7 +2,7 @@ use Rattle.std.proofs.Common.{List, length, refl, sym, subst, arith}
 use Rattle.std.proofs.lemmas.Bool.{eqb-false, eqb-true}
 use Rattle.board.specs.declared.spec.SlotSpec.{SlotSpec}
 use Rattle.trace.proofs.Heads.{head_clean, head_fault, nothing_before, second_fault}
-use Rattle.trace.proofs.Judgements.{JudgedSofar, fault_later, is_cut_off, is_fault, is_refused_now, judged_first, judged_more, judged_whole}
+use Rattle.trace.proofs.Judgements.{JudgedSofar, fault_later, first_more, first_refused, is_fault, judged_first, judged_whole}
 use Rattle.trace.proofs.Sofar.{begun_so, numbered}
 use Rattle.trace.proofs.read.judging.judge.Goals as goal
 
@@ -27,16 +27,12 @@ loop-rest-init g c =
     (judged_first g.row.A.Denot c.args.text.now c.in-Ok.found.0 c.in-Ok-after_disks.found.0 rest
     (begun_so c.args.text.now c.in-Ok.found.0 c.in-Ok-after_disks.found.0 c.in-Ok.found.1.now second.line rest first.one_of second.of_version first.ended second.ended second.fields second.fits))
 
-pub returns-in_default-clause-fault : goal.returns-in_default-clause-fault
-returns-in_default-clause-fault g c =
-    fault_later g.row.A.Denot c.args.text.now _ c.loop-rest.line c.loop-rest.rest.now _ c.loop-rest.invariant refl
-    (λ known. is_cut_off g.row.A.Denot c.args.text.now _ c.loop-rest.line c.loop-rest.rest.now c.loop-rest.invariant c.in_default.ensures.none (eqb-false (length c.loop-rest.rest.now) 0 (sym c.loop-rest-test.ensures)))
-
-pub returns-in-Err-judge_line-clause-fault : goal.returns-in-Err-judge_line-clause-fault
-returns-in-Err-judge_line-clause-fault g c =
-    fault_later g.row.A.Denot c.args.text.now _ c.loop-rest.line c.loop-rest.rest.now _ c.loop-rest.invariant refl
-    (λ known. is_refused_now g.row.A.Denot c.args.text.now _ c.loop-rest.line c.loop-rest.rest.now c.in-Some.this.now c.in-Some.after.now _ c.in-Err-judge_line.kind c.loop-rest.invariant c.in-Some.ensures.lines refl
-    (c.in-Err-judge_line.ensures.err known) known)
+pub returns-in-Err-judge_first-clause-fault : goal.returns-in-Err-judge_first-clause-fault
+returns-in-Err-judge_first-clause-fault g c =
+    let rest = c.loop-rest.rest.now in
+    fault_later g.row.A.Denot c.args.text.now _ c.loop-rest.line rest _ c.loop-rest.invariant refl
+    (λ known. first_refused g.row.A.Denot c.args.text.now _ c.loop-rest.line rest c.in-Err-judge_first.kind c.loop-rest.invariant
+    (eqb-false (length rest) 0 (sym c.loop-rest-test.ensures)) (c.in-Err-judge_first.ensures.err known) known)
 
 pub overflow_add-line : goal.overflow_add-line
 overflow_add-line g c =
@@ -46,7 +42,7 @@ overflow_add-line g c =
 
 pub loop-rest-preserved : goal.loop-rest-preserved
 loop-rest-preserved g c =
-    judged_more g.row.A.Denot c.args.text.now _ _ c.loop-rest.line c.loop-rest.rest.now c.in-Some.this.now c.in-Some.after.now _ c.loop-rest.invariant c.in-Some.ensures.ended refl c.in_default-judge_line.ensures.ok
+    first_more g.row.A.Denot c.args.text.now _ _ c.loop-rest.line c.loop-rest.rest.now c.in-Ok-judge_first.after.now c.loop-rest.invariant c.in-Ok-judge_first.ensures.ok
 
 pub returns-clause-ok : goal.returns-clause-ok
 returns-clause-ok g c =

@@ -1,16 +1,7 @@
-use Rattle.std.proofs.Common.{ap, ◌∙◌}
-use Rattle.trace.specs.Cuts.{fields_of}
 use Rattle.trace.proofs.Judgements.{event_judged}
-use Rattle.trace.proofs.Saying.{cut_said}
 use Rattle.trace.proofs.read.judging.Judged.judge_line.Goals as goal
-
-pub returns-in-Some-clause-ok : goal.returns-in-Some-clause-ok
-returns-in-Some-clause-ok g c =
-    event_judged _ c.args.begun c.args.this.now c.args.after.now c.args.line c.in-Some.said _ _
-    (ap fields_of c.in-Some.ensures.line ∙ cut_said c.in-Some.said c.in-Some.ensures.fine) c.in-Some.ensures.fine (c.in-Some.ensures.each _) c.requires.numbered
-    (rw c.spelled_len.ensures at c.count.ensures)
 
 pub returns-in-Ok-Event-clause-ok : goal.returns-in-Ok-Event-clause-ok
 returns-in-Ok-Event-clause-ok g c =
     event_judged _ c.args.begun c.args.this.now c.args.after.now c.args.line c.in-Ok-Event.said _ _ (rw c.in-Ok-Event.field-0-is at c.in-Ok-Event.ensures.ok) (rw c.in-Ok-Event.field-0-is at c.in-Ok-Event.ensures.fine).0 (rw c.in-Ok-Event.field-0-is at c.in-Ok-Event.ensures.fine).1 c.requires.numbered
-    (rw c.spelled_len-in-Ok-Event.ensures at c.count-in-Ok-Event.ensures)
+    (rw c.spelled_len.ensures at c.count.ensures)
