@@ -4,7 +4,7 @@
 //! that is available, `give` puts it back as used, and `close` tells the driver that all was seen and whether
 //! it is to be notified. A device calls them through its window's queue and never sees a descriptor or a wrap
 //! counter.
-#![tactic(auto, using(guest_memory::proofs::Ranges::inside_part, guest_memory::proofs::Ranges::inside_same))]
+#![tactic(auto)]
 
 mod laws;
 mod ring;

@@ -140,6 +140,7 @@ impl PackedRing {
         self.place < self.size
     }
 
+    #[tactic(auto, using(guest_memory::proofs::Ranges::inside_part, guest_memory::proofs::Ranges::inside_same))]
     /// Whether the descriptor at the ring's place is available (2.8.1).
     fn is_available<A: Allocator>(&self, mem: &GuestMemory<A>) -> bool
         requires { LiesIn mem.now self.now.setup }
@@ -151,6 +152,7 @@ impl PackedRing {
         (flags & AVAIL != 0) == self.wrap_counter() && (flags & USED != 0) != self.wrap_counter()
     }
 
+    #[tactic(auto, using(guest_memory::proofs::Ranges::inside_part, guest_memory::proofs::Ranges::inside_same))]
     /// The buffer id of the descriptor at a position (2.8.13).
     fn id<A: Allocator>(&self, mem: &GuestMemory<A>, position: u16) -> u16
         requires lies { LiesIn mem.now self.now.setup }
@@ -162,6 +164,7 @@ impl PackedRing {
         mem.read_u16(self.desc + offset + 12)
     }
 
+    #[tactic(auto, using(guest_memory::proofs::Ranges::inside_part, guest_memory::proofs::Ranges::inside_same))]
     /// Writes len, buffer id and flags into the descriptor at the ring's place (2.8.4).
     fn put_used<A: Allocator>(&self, mem: &mut GuestMemory<A>, id: u16, len: u32, wrote: bool)
         requires { LiesIn mem.old self.now.setup }

@@ -62,6 +62,7 @@ pub(crate) fn append_list<A: Allocator>(
     Err(Fault::Loop)
 }
 
+#[tactic(auto, using(guest_memory::proofs::Ranges::inside_part, guest_memory::proofs::Ranges::inside_same))]
 /// The descriptor at a position of the ring (2.8.13). One with NEXT goes on at the next position, and behind
 /// the last at the first.
 fn read_descriptor<A: Allocator>(mem: &GuestMemory<A>, table: Table, index: u16) -> Descriptor

@@ -3,7 +3,7 @@
 //! A service of a queue is four calls: `open` fixes what is on offer, `take` resolves the next chain, `give`
 //! puts it into the used ring, and `close` tells the driver that all was seen and whether it is to be
 //! notified. A device calls them through its window's queue and never sees a descriptor or an idx.
-#![tactic(auto, using(guest_memory::proofs::Ranges::inside_part, guest_memory::proofs::Ranges::inside_same))]
+#![tactic(auto)]
 
 mod laws;
 mod ring;

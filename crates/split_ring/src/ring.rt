@@ -122,6 +122,7 @@ impl SplitRing {
         mem.read_u16(self.driver + 4 + entry)
     }
 
+    #[tactic(auto, using(guest_memory::proofs::Ranges::inside_part, guest_memory::proofs::Ranges::inside_same))]
     /// Writes the used entry of the ring's place, and then the used idx (2.7.8).
     fn put_used<A: Allocator>(&self, mem: &mut GuestMemory<A>, head: u16, len: u32, next: u16)
         requires lies { LiesIn mem.old self.now.setup }
@@ -137,6 +138,7 @@ impl SplitRing {
         mem.write_u16(self.device + 2, next);
     }
 
+    #[tactic(auto, using(guest_memory::proofs::Ranges::inside_part, guest_memory::proofs::Ranges::inside_same))]
     /// Writes used flags of 0 and, where VIRTIO_F_EVENT_IDX was negotiated, avail_event (2.7.10).
     fn put_closing<A: Allocator>(&self, mem: &mut GuestMemory<A>)
         requires { LiesIn mem.old self.now.setup }
@@ -167,6 +169,7 @@ impl Virtqueue for SplitRing {
 
     ghost made_as = { λ ring. new_ring ring.setup };
 
+    #[tactic(auto, using(guest_memory::proofs::Ranges::inside_part, guest_memory::proofs::Ranges::inside_same))]
     /// On offer are the heads that the driver has put into the available ring by now (2.7.13). More than the
     /// queue has descriptors are a `Jump`.
     fn open<A: Allocator>(&mut self, mem: &GuestMemory<A>) -> Result<(), Fault> {

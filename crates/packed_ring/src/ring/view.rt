@@ -44,6 +44,7 @@ impl PackedRing {
         self.head()
     }
 
+    #[tactic(auto, using(guest_memory::proofs::Ranges::inside_part, guest_memory::proofs::Ranges::inside_same))]
     /// The driver's event suppression structure (2.8.14): the place, as offset and wrap counter, and the flags.
     pub fn driver_events<A: Allocator>(&self, mem: &GuestMemory<A>) -> (u16, u16)
         requires { LiesIn mem.now self.now.setup }
@@ -61,6 +62,7 @@ impl PackedRing {
         self.event_idx
     }
 
+    #[tactic(auto, using(guest_memory::proofs::Ranges::inside_part, guest_memory::proofs::Ranges::inside_same))]
     /// The buffer, the id and the flags of the descriptor at a position (2.8.13). There is none outside the ring.
     pub fn descriptor<A: Allocator>(
         &self,

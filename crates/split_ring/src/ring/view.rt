@@ -34,6 +34,7 @@ impl SplitRing {
         self.place
     }
 
+    #[tactic(auto, using(guest_memory::proofs::Ranges::inside_part, guest_memory::proofs::Ranges::inside_same))]
     /// The idx of the available ring (2.7.6).
     pub fn available_idx<A: Allocator>(&self, mem: &GuestMemory<A>) -> u16
         requires { LiesIn mem.now self.now.setup }
@@ -43,6 +44,7 @@ impl SplitRing {
         mem.read_u16(self.driver + 2)
     }
 
+    #[tactic(auto, using(guest_memory::proofs::Ranges::inside_part, guest_memory::proofs::Ranges::inside_same))]
     /// The idx of the used ring (2.7.8).
     pub fn used_idx<A: Allocator>(&self, mem: &GuestMemory<A>) -> u16
         requires { LiesIn mem.now self.now.setup }
@@ -52,6 +54,7 @@ impl SplitRing {
         mem.read_u16(self.device + 2)
     }
 
+    #[tactic(auto, using(guest_memory::proofs::Ranges::inside_part, guest_memory::proofs::Ranges::inside_same))]
     /// The flags of the available ring (2.7.6), of which bit 0 says that no notification is wanted.
     pub fn available_flags<A: Allocator>(&self, mem: &GuestMemory<A>) -> u16
         requires { LiesIn mem.now self.now.setup }
@@ -61,6 +64,7 @@ impl SplitRing {
         mem.read_u16(self.driver)
     }
 
+    #[tactic(auto, using(guest_memory::proofs::Ranges::inside_part, guest_memory::proofs::Ranges::inside_same))]
     /// The place of the used ring from which on a notification is wanted, where EVENT_IDX was negotiated (2.7.7).
     pub fn used_event<A: Allocator>(&self, mem: &GuestMemory<A>) -> u16
         requires { LiesIn mem.now self.now.setup }
@@ -90,6 +94,7 @@ impl SplitRing {
         (mem.read_u32(entry), mem.read_u32(entry + 4))
     }
 
+    #[tactic(auto, using(guest_memory::proofs::Ranges::inside_part, guest_memory::proofs::Ranges::inside_same))]
     /// The descriptor at an index of the table (2.7.5). There is none at an index outside it.
     pub fn descriptor<A: Allocator>(&self, mem: &GuestMemory<A>, index: u16) -> Option<Descriptor>
         requires { LiesIn mem.now self.now.setup }
