@@ -71,7 +71,7 @@ uninstall:
 	@DESTDIR="$(DESTDIR)" LIBDIR="$(LIBDIR)" INCLUDEDIR="$(INCLUDEDIR)" packaging/install --remove "$(PREFIX)"
 
 # Packs what is built, the suite and the pages into an archive in packaging/out, for users without the toolchain. make
-# library, make prove and make vshow build what it needs; without vshow it is left out.
+# library, make prove and make vshow build what it needs; vshow is left out if it isn't built.
 dist:
 	@packaging/release dist
 
