@@ -11,18 +11,18 @@ PREFIX ?= /usr/local
 LIBDIR ?= $(PREFIX)/lib
 INCLUDEDIR ?= $(PREFIX)/include
 
-# Replays a trace by the proved program, or without a proof where none is there. TRACE=FILE names another, IMAGE=FILE an image
-# to replay it over, and SAVE=FILE what the image's bytes are saved to; SAVE wants the proved program.
+# Replays TRACE=FILE over IMAGE=FILE, by the proved program if it is built, else without a proof. SAVE=FILE gets the image's bytes
+# afterwards; it needs the proved program. Without IMAGE there are eight sectors of zeros.
 run:
 	@packaging/replay "$(TRACE)" "$(IMAGE)" "$(SAVE)"
 
-# Proves what the program stands on, builds it, and replays the trace by it. The first call takes
+# Proves what the program stands on, builds it, and replays TRACE by it. The first call takes
 # some 50 minutes of processor time, a later one seconds; it shows how far it is.
 prove:
 	@packaging/replay --prove "$(TRACE)" "$(IMAGE)" "$(SAVE)"
 
-# Says in the standard's words what happens in a trace, and what its drivers do wrong. TRACE=FILE names it, IMAGE=FILE an image to replay it over, and
-# PAGE=FILE has it as one page to look at.
+# Says in the standard's words what happens in TRACE, and what its drivers do wrong; PAGE=FILE gets it as a page. IMAGE=FILE is an
+# image to replay it over.
 show: vshow
 	@crates/show/out/vshow "$(TRACE)" $(if $(IMAGE),"$(IMAGE)") $(if $(PAGE),--page "$(PAGE)")
 
@@ -45,7 +45,7 @@ show-check: vshow
 	@crates/show/look/rules crates/show/out/vshow
 	@crates/show/look/check --fuzz $(N) --from $(FROM) crates/show/out/vshow
 
-# The gate: every proof from nothing, the must-fail edits, the tests and the programs. It shows how far it is.
+# The gate: every proof, the must-fail edits, the tests and the programs. It shows how far it is.
 test:
 	@.ci/gate
 
@@ -58,7 +58,7 @@ help:
 library:
 	@packaging/build
 
-# Builds the library for C where a source is newer, and installs it below PREFIX with its header, kalyubos.pc, pages and notices.
+# Proves and builds the library for C if a source is newer, and installs it below PREFIX with its header, kalyubos.pc and pages.
 # DESTDIR stands before each path.
 install: packaging/out/libkalyubos.a
 	@DESTDIR="$(DESTDIR)" LIBDIR="$(LIBDIR)" INCLUDEDIR="$(INCLUDEDIR)" packaging/install "$(PREFIX)"
@@ -71,7 +71,7 @@ uninstall:
 	@DESTDIR="$(DESTDIR)" LIBDIR="$(LIBDIR)" INCLUDEDIR="$(INCLUDEDIR)" packaging/install --remove "$(PREFIX)"
 
 # Packs what is built, the suite and the pages into an archive in packaging/out, for users without the toolchain. make
-# library, make prove and make vshow build what it wants; vshow is left out where it isn't built.
+# library, make prove and make vshow build what it needs; vshow is left out if it isn't built.
 dist:
 	@packaging/release dist
 
@@ -108,15 +108,15 @@ trouble:
 stops:
 	@fuzz/stops $(N) --from $(FROM)
 
-# Builds the library and the example hosts in C and Rust, runs them, and compares what they print. It leaves out the hosts whose
-# tools the machine doesn't have.
+# Builds the library and the example hosts in C and Rust, runs them, and compares what they print. It leaves out hosts whose
+# tools aren't installed.
 embed:
 	@examples/embed/run
 
-# Boots Linux on the board: two guests, their consoles side by side. GUEST=0 shows one of them, INTERACTIVE=1 gives a
-# person the console of guest 0, RECORD=FILE writes what the guests did as a trace, DISK=FILE keeps guest 0's disk,
-# IMAGE=FILE has both disks in place, DISKS=hosted has the host serve each from a file, and SAVE_GUEST=FILE saves guest 0,
-# which RESUME_GUEST=FILE goes on with.
+# Boots Linux on the board: two guests, their consoles side by side; examples/linux has more ways. GUEST=0 shows one of them,
+# INTERACTIVE=1 gives a person the console of guest 0, RECORD=FILE writes what the guests did as a trace, DISK=FILE keeps
+# guest 0's disk, IMAGE=FILE has both disks in place, DISKS=hosted has the host serve each from a file, and SAVE_GUEST=FILE
+# saves guest 0, which RESUME_GUEST=FILE goes on with.
 linux:
 	@examples/linux/run
 
