@@ -3,7 +3,7 @@ use Rattle.std.proofs.Common.{◌≡◌, ℕ, zero, suc, ◌+◌, Bool, false, L
 use Rattle.guest_memory.specs.Memory.{Memory}
 use Rattle.chain.specs.declared.segment.Buffer.{Buffer}
 use Rattle.chain.specs.Bytes.{readable_of, writable_of}
-use Rattle.chain.specs.Service.{Course, Device, Does, Given, Served, ServesAll, Site, after}
+use Rattle.chain.specs.Service.{Course, Does, Given, Served, ServesAll, Site, after}
 use Rattle.mmio_window.specs.declared.queue.Queue.{Queue}
 use Rattle.mmio_window.specs.Queue.{queue_kind}
 use Rattle.sector_cache.specs.Disk.{Disk}

@@ -68,16 +68,15 @@ clear_on device readable w disk d d' written rises clears gives = λ e clear.
     gives_clear device (extent_disk device.extent d) readable w _ gives (e ∙ sym before) (clears before clear)
 
 -- one more chain is taken, answered and given back
-pub course_more : (device : BlockDevice) (budget left left' : Budget) (start m answered m' : Memory) (first queue taken queue' : Queue) (disk d d' : Disk) (failed more both : Bool) (buffers : List Buffer) (entry : Entry) (len : ℕ) (any : Bool)
+pub course_more : (device : BlockDevice) (budget left left' : Budget) (start m answered m' : Memory) (first queue taken queue' : Queue) (disk d d' : Disk) (failed more : Bool) (buffers : List Buffer) (entry : Entry) (len : ℕ) (any : Bool)
     → IsInCourse device budget left start m first queue disk d failed → ¬ IsSpent left → left' ≡ less_chain left buffers
     → queue_kind.offers m queue ≡ true → queue_kind.Offers m queue buffers entry → taken ≡ queue
     → Does (block_device device) m answered buffers (extent_disk device.extent d) (extent_disk device.extent d') len any
     → m' ≡ queue_kind.used answered taken entry len any → queue' ≡ queue_kind.past taken entry
     → CallsWithin device.extent more d d'
     → SameRange m answered → SameRange answered m' → LiesIn m' queue' → made_as queue' ≡ made_as taken
-    → both ≡ (failed || more)
-    → IsInCourse device budget left' start m' first queue' disk d' both
-course_more device budget left left' start m answered m' first queue taken queue' disk d d' failed more both buffers entry len any h some spends offers offered same does used past calls range range' lies made flag =
+    → IsInCourse device budget left' start m' first queue' disk d' (failed || more)
+course_more device budget left left' start m answered m' first queue taken queue' disk d d' failed more buffers entry len any h some spends offers offered same does used past calls range range' lies made =
     record {
       piece = piece_goes_on queue_kind (block_device device) budget left left' (site_of device start first disk)
           m answered m' queue queue' (extent_disk device.extent d) (extent_disk device.extent d') buffers entry len any
@@ -91,7 +90,7 @@ course_more device budget left left' start m answered m' first queue taken queue
       range = same_trans start m m' h.range (same_trans m answered m' range range');
       lies = lies;
       made = made ∙ ap made_as same ∙ h.made;
-      counted = flag ∙ counts_on failed more disk.failures d.failures d'.failures h.counted h.stays.rises calls.counted;
+      counted = counts_on failed more disk.failures d.failures d'.failures h.counted h.stays.rises calls.counted;
     }
 
 -- none is on offer
@@ -114,12 +113,3 @@ pub stops_paused : (device : BlockDevice) (budget left : Budget) (start m : Memo
     → Stops (block_device device) budget (site_of device start first disk) (site_of device m last d) Pause
 stops_paused device budget left start m first queue last disk d failed buffers entry h spent offers offered same =
     piece_pauses queue_kind (block_device device) budget left (site_of device start first disk) m queue last (extent_disk device.extent d) buffers entry h.piece spent offers offered same
-
--- a test by cases on its first part
-pub or_with_true : (a b : Bool) → a ≡ true → a ≡ (a || b)
-or_with_true true b e = refl
-or_with_true false b e = cc
-
-pub or_with_false : (a b : Bool) → a ≡ false → b ≡ (a || b)
-or_with_false true b e = cc
-or_with_false false b e = refl

@@ -1,7 +1,7 @@
 -- A look at a queue of a disk that the host serves comes out in one way, since no chain that it serves asks for the disk;
 -- and so does a completion.
-use Rattle.std.proofs.Common.{◌≡◌, ◌⊎◌, inl, inr, ◌↔◌, ℕ, zero, suc, ◌+◌, Bool, true, false, Option, Some, None, List, [], ◌∷◌, length, refl, sym, ap, subst, ◌∙◌, arith}
-use Rattle.std.specs.Prelude.{◌&&◌, IsTrue}
+use Rattle.std.proofs.Common.{◌≡◌, inl, inr, ◌↔◌, ℕ, zero, suc, ◌+◌, Bool, true, false, Option, Some, None, List, [], ◌∷◌, length, refl, sym, ap, subst, ◌∙◌, arith}
+use Rattle.std.specs.Prelude.{IsTrue}
 use Rattle.std.proofs.lemmas.Option.{same_Some}
 use Rattle.guest_memory.specs.Memory.{Memory}
 use Rattle.chain.specs.declared.budget.Budget.{Budget}
@@ -20,7 +20,7 @@ use Rattle.mmio_window.specs.declared.stage.Stage.TheVariants.{First}
 use Rattle.mmio_window.specs.Pieces.{BeginsTo, opened_at}
 use Rattle.mmio_window.specs.Queue.{IsTaken, entry_of, queue_kind}
 use Rattle.mmio_window.specs.Serving.{IsNotified, after_service}
-use Rattle.mmio_window.specs.Window.{WindowState, queue_at, with_ring}
+use Rattle.mmio_window.specs.Window.{WindowState, with_ring}
 use Rattle.mmio_window.proofs.Pieces.{never_pauses, notified_once}
 use Rattle.mmio_window.proofs.QueueKind.{has_at_most_one_chain}
 use Rattle.sector_cache.specs.Disk.{Disk}
@@ -35,8 +35,8 @@ use Rattle.block_device.specs.declared.request.Request.TheVariants.{Rejected, Re
 use Rattle.block_device.specs.Asking.{EndsUnasked, IsAsked, asks_image, unasked_device}
 use Rattle.block_device.specs.Device.{GivesBy, given_of}
 use Rattle.block_device.specs.Extent.{extent_disk}
-use Rattle.block_device.specs.Hosting.{AsksAt, AsksIn, CompletesIn, HostsTo, IfAsks, SameLook, StopsAt, at_disk, wants_stable}
-use Rattle.block_device.specs.Operation.{operation_of, runs_for}
+use Rattle.block_device.specs.Hosting.{AsksAt, AsksIn, CompletesIn, HostsTo, SameLook, StopsAt, wants_stable}
+use Rattle.block_device.specs.Operation.{operation_of}
 use Rattle.block_device.specs.Outcome.{Completes, Ends, Fails, Outcome, completed}
 use Rattle.block_device.specs.Request.{request_of, payload_of}
 use Rattle.block_device.specs.Serving.{site_of}

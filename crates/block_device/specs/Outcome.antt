@@ -1,6 +1,6 @@
 -- What becomes of a request (5.2.6), on the disk that its device shows: where no image call fails a
 -- function of what the image answers, and else the ways in which a request fails.
-use Rattle.std.specs.Prelude.{◌≡◌, ℕ, ◌+◌, ◌*◌, ◌<◌, Bool, true, List, [], ◌∷◌, ◌++◌, length, take, IfSome, ◌⊎◌}
+use Rattle.std.specs.Prelude.{◌≡◌, ℕ, ◌*◌, ◌<◌, Bool, true, List, [], ◌∷◌, ◌++◌, length, take, IfSome, ◌⊎◌}
 use Rattle.std.specs.Option.{option_map}
 pub use Rattle.sector_cache.specs.Sector.{with_sectors}
 use Rattle.sector_cache.specs.Sector.{extent_of}

@@ -22,7 +22,7 @@ use sector_cache::{Image, SectorCache};
 use std::alloc::Allocator;
 
 /// What the used entry of a chain says.
-#[derive(Clone, Copy, Debug, PartialEq, Eq)]
+#[derive(Clone, Copy)]
 pub(crate) struct Answer {
     /// How many of the first writable bytes were written without a gap.
     pub len: u32,
@@ -42,7 +42,7 @@ impl Answer {
 }
 
 /// What a chain comes to before the image is asked.
-#[derive(Clone, Copy, Debug, PartialEq, Eq)]
+#[derive(Clone, Copy)]
 pub(crate) enum Begun {
     /// It is answered.
     Answered(Answer),

@@ -35,14 +35,14 @@ pub struct Flight {
 }
 
 /// A chain that asks for the disk by this request.
-#[derive(Debug, PartialEq, Eq, Drop)]
+#[derive(Drop)]
 pub(crate) struct Asked {
     pub token: Token,
     pub request: Request,
 }
 
 /// Why no more chains are served.
-#[derive(Debug, PartialEq, Eq, Drop)]
+#[derive(Drop)]
 pub(crate) enum Halt {
     /// The chain on offer asks for the disk.
     Asks(Asked),
@@ -53,7 +53,7 @@ pub(crate) enum Halt {
 }
 
 /// How a piece leaves its queue.
-#[derive(Debug, PartialEq, Eq, Drop)]
+#[derive(Drop)]
 pub(crate) enum Leaving {
     /// Open, at a chain that asks for the disk.
     Asks(Asked),

@@ -16,7 +16,7 @@ use sector_cache::{Image, SectorCache};
 use std::alloc::Allocator;
 
 /// Why no more chains are served.
-#[derive(Clone, Copy, Debug, PartialEq, Eq)]
+#[derive(Clone, Copy)]
 pub(crate) enum Stop {
     /// The budget is spent, and a chain is on offer.
     Pause,
@@ -25,7 +25,7 @@ pub(crate) enum Stop {
 }
 
 /// How a queue is left.
-#[derive(Clone, Copy, Debug, PartialEq, Eq)]
+#[derive(Clone, Copy)]
 pub(crate) enum Left {
     /// Its service pauses.
     Open,
@@ -39,7 +39,7 @@ pub(crate) enum Left {
 }
 
 /// What came of the chains of a piece.
-#[derive(Clone, Copy, Debug, PartialEq, Eq)]
+#[derive(Clone, Copy)]
 pub(crate) struct Work {
     pub(crate) stop: Stop,
     /// Whether an image call failed.
@@ -47,7 +47,7 @@ pub(crate) struct Work {
 }
 
 /// What came of a piece.
-#[derive(Clone, Copy, Debug, PartialEq, Eq)]
+#[derive(Clone, Copy)]
 pub(crate) struct Service {
     pub(crate) left: Left,
     /// Whether an image call failed.
@@ -134,7 +134,7 @@ impl BlockDevice {
                     left.spend(chain);
                     let answer = self.answer(mem, chain, cache);
                     queue.give(mem, token, answer.len, answer.wrote);
-                    failed = failed || answer.failed;
+                    failed |= answer.failed;
                 }
                 Ok(None) => {
                     let stop = Stop::End(None);

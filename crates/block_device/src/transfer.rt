@@ -26,7 +26,7 @@ use sector_cache::{Image, SectorCache};
 use std::alloc::Allocator;
 
 /// A request that was served but for its status.
-#[derive(Clone, Copy, Debug, PartialEq, Eq)]
+#[derive(Clone, Copy)]
 pub(crate) struct Done {
     /// How many of the first writable bytes were written.
     pub len: u64,

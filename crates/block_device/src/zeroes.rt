@@ -37,7 +37,7 @@ const SEGMENT_LEN: u64 = 16;
 const FLAG_UNMAP: u32 = 1;
 
 /// A run of sectors that a request names, counted from the extent's start.
-#[derive(Clone, Copy, Debug, PartialEq, Eq)]
+#[derive(Clone, Copy)]
 pub(crate) struct WriteZeroesSegment {
     pub sector: u64,
     pub count: u32,

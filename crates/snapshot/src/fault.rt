@@ -42,7 +42,7 @@ pub enum Why {
 pub struct ShortBuffer;
 
 // What is wrong with the field that stands at the front of the bytes that are left.
-#[derive(Clone, Copy, Debug, PartialEq, Eq)]
+#[derive(Clone, Copy)]
 pub(crate) struct Stop {
     pub(crate) why: Why,
     // How many bytes are left from that field on.

@@ -3,7 +3,6 @@ use Rattle.negotiation.specs.Features.{block_flush}
 use Rattle.negotiation.specs.Negotiation.{negotiated_of}
 use Rattle.negotiation.specs.Sets.{has}
 use Rattle.mmio_window.proofs.Pieces.{queue_stands_open}
-use Rattle.block_device.specs.Device.{block_device}
 use Rattle.block_device.specs.Extent.{extent_disk}
 use Rattle.block_device.specs.Operation.{operation_of}
 use Rattle.block_device.proofs.Telling.{told_inside}

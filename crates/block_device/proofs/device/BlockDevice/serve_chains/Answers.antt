@@ -2,7 +2,7 @@ use Rattle.chain.proofs.Budgets.{piece_begins, piece_pauses, piece_runs_into, pi
 use Rattle.mmio_window.specs.Queue.{entry_of, queue_kind}
 use Rattle.block_device.specs.Serving.{site_at}
 use Rattle.block_device.specs.Touching.{device_over}
-use Rattle.block_device.proofs.Courses.{course_start, course_more, stops_spent, stops_by_fault, stops_paused, or_with_true, or_with_false}
+use Rattle.block_device.proofs.Courses.{course_start, course_more, stops_spent, stops_by_fault, stops_paused}
 use Rattle.block_device.proofs.Touching.{over_more, touched_more, untouched}
 use Rattle.block_device.proofs.device.BlockDevice.serve_chains.Goals as goal
 
@@ -15,39 +15,15 @@ loop-token-init g c = (
       c.args.cache.now),
 )
 
-pub loop-token-preserved-then-failed : goal.loop-token-preserved-then-failed
-loop-token-preserved-then-failed g c = (
-  course_more c.args.self.now c.args.budget c.loop-token.left c.spend.new.self c.args.mem.now c.loop-token.mem c.answer-answer.new.mem c.give.new.mem c.args.queue.now c.loop-token.queue c.take.new.self c.give.new.self
-      (g.I.Image.disk c.args.cache.now) (g.I.Image.disk c.loop-token.cache) (g.I.Image.disk c.answer-answer.new.cache)
-      c.loop-token.failed c.answer-answer.result.failed c.loop-token.failed c.take.new.chain (entry_of c.in-Ok-Some.token) c.answer-answer.result.len c.answer-answer.result.wrote
-      c.loop-token.invariant.0 (some_left c.loop-token.left c.is_spent.result c.is_spent.ensures c.if-is_spent.false) c.spend.ensures
-      (rw c.in-Ok-Some.field-0-is at c.in-Ok-Some.ensures.on_offer) (rw c.in-Ok-Some.field-0-is at c.in-Ok-Some.ensures.offered) c.in-Ok-Some.ensures.same
-      c.answer-answer.ensures.does c.give.ensures.used c.give.ensures.past c.answer-answer.ensures.calls
-      c.answer-answer.ensures.range c.give.ensures.range c.give.ensures.lies c.give.ensures.made
-      (or_with_true c.loop-token.failed c.answer-answer.result.failed c.if-failed.true),
-  touched_more c.args.self.now.extent c.loop-token.invariant.1 c.answer-answer.ensures.touches,
-  over_more g.I.Image.disk g.I.Image.moment g.I.Image.may_leave g.I.Image.left_since c.args.self.now
-      c.args.budget c.loop-token.left c.spend.new.self
-      (site_at c.args.mem.now c.args.queue.now c.args.cache.now)
-      c.loop-token.mem c.answer-answer.new.mem c.give.new.mem c.loop-token.queue c.take.new.self
-      c.give.new.self c.loop-token.cache c.answer-answer.new.cache
-      c.take.new.chain (entry_of c.in-Ok-Some.token) c.answer-answer.result.len c.answer-answer.result.wrote
-      c.loop-token.invariant.2 (some_left c.loop-token.left c.is_spent.result c.is_spent.ensures c.if-is_spent.false) c.spend.ensures
-      (rw c.in-Ok-Some.field-0-is at c.in-Ok-Some.ensures.on_offer)
-      (rw c.in-Ok-Some.field-0-is at c.in-Ok-Some.ensures.offered) c.in-Ok-Some.ensures.same
-      c.answer-answer.ensures.does c.answer-answer.ensures.own c.give.ensures.used c.give.ensures.past,
-)
-
 pub loop-token-preserved : goal.loop-token-preserved
 loop-token-preserved g c = (
   course_more c.args.self.now c.args.budget c.loop-token.left c.spend.new.self c.args.mem.now c.loop-token.mem c.answer-answer.new.mem c.give.new.mem c.args.queue.now c.loop-token.queue c.take.new.self c.give.new.self
       (g.I.Image.disk c.args.cache.now) (g.I.Image.disk c.loop-token.cache) (g.I.Image.disk c.answer-answer.new.cache)
-      c.loop-token.failed c.answer-answer.result.failed c.answer-answer.result.failed c.take.new.chain (entry_of c.in-Ok-Some.token) c.answer-answer.result.len c.answer-answer.result.wrote
+      c.loop-token.failed c.answer-answer.result.failed c.take.new.chain (entry_of c.in-Ok-Some.token) c.answer-answer.result.len c.answer-answer.result.wrote
       c.loop-token.invariant.0 (some_left c.loop-token.left c.is_spent.result c.is_spent.ensures c.if-is_spent.false) c.spend.ensures
       (rw c.in-Ok-Some.field-0-is at c.in-Ok-Some.ensures.on_offer) (rw c.in-Ok-Some.field-0-is at c.in-Ok-Some.ensures.offered) c.in-Ok-Some.ensures.same
       c.answer-answer.ensures.does c.give.ensures.used c.give.ensures.past c.answer-answer.ensures.calls
-      c.answer-answer.ensures.range c.give.ensures.range c.give.ensures.lies c.give.ensures.made
-      (or_with_false c.loop-token.failed c.answer-answer.result.failed c.if-failed.false),
+      c.answer-answer.ensures.range c.give.ensures.range c.give.ensures.lies c.give.ensures.made,
   touched_more c.args.self.now.extent c.loop-token.invariant.1 c.answer-answer.ensures.touches,
   over_more g.I.Image.disk g.I.Image.moment g.I.Image.may_leave g.I.Image.left_since c.args.self.now
       c.args.budget c.loop-token.left c.spend.new.self
