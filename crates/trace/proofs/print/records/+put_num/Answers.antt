@@ -1,4 +1,4 @@
-use Rattle.std.proofs.Common.{◌∷◌, [], ℕ, ap, refl, sym, ◌∙◌, arith}
+use Rattle.std.proofs.Common.{◌∷◌, [], ℕ, ap, sym, ◌∙◌, arith}
 use Rattle.std.proofs.lemmas.List.{append-nil}
 use Rattle.hexadecimal.specs.Spelling.{num}
 use Rattle.hexadecimal.proofs.Numbers.{num_digit, num_split}
