@@ -3,3 +3,4 @@ pub mod Numbers
 pub mod ByteFields
 pub mod PairSteps
 pub mod Judging
+mod Table

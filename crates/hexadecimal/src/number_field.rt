@@ -55,6 +55,7 @@ pub fn number_u8(field: &[u8]) -> Option<u8>
 }
 
 /// The number that a field of exactly `digits` digits spells.
+#[inline(always)]
 pub fn fixed_number(field: &[u8], digits: usize) -> Option<u32>
     requires { digits ≤ 8 }
     ensures some { IfSome result (λ n. IsFixed digits field.now n) }

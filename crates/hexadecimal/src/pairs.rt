@@ -6,8 +6,6 @@ ghost use Rattle.hex.specs.Hex.{encode_lower};
 ghost use Rattle.hexadecimal.specs.Spelling.{digit};
 ghost use Rattle.hexadecimal.specs.Fields.{IsDigit};
 
-use crate::digit::digit_of;
-
 /// Up to so many bytes go by `hex`. It takes one after another, and a long field would take it three times as long.
 const FEW: usize = 32;
 
@@ -44,9 +42,17 @@ fn spell_many(bytes: &[u8], digits: &mut [u8])
 {
     for i in 0..bytes.len() {
         let byte = bytes[i];
-        digits[2 * i] = digit_of(byte / 16);
-        digits[2 * i + 1] = digit_of(byte % 16);
+        digits[2 * i] = computed(byte / 16);
+        digits[2 * i + 1] = computed(byte % 16);
     }
+}
+
+// The digit of a value, without a table, so that many are taken at once.
+fn computed(d: u8) -> u8
+    requires { d < 16 }
+    ensures { result ≡ digit d }
+{
+    if d < 10 { b'0' + d } else { b'a' + (d - 10) }
 }
 
 // The same of many bytes.

@@ -26,28 +26,29 @@ slot_two n d e le lt p q =
     let small : n / 16 < 16 = omega arith in
     rw (p, q, num_split n le, num_digit (n / 16) small) refl
 
--- a line that begins with a slot's number by two digits, with the first of them left out or not
-pub numbered_one : (n : ℕ) (xs : List ℕ) → n < 16 → take 2 xs ≡ digit (n / 16) ∷ digit (n % 16) ∷ [] → drop 1 xs ≡ num n ++ drop 2 xs
-numbered_one n [] lt is = absurd cc
-numbered_one n (x ∷ []) lt is = absurd cc
-numbered_one n (x ∷ y ∷ xs) lt is =
+-- what begins with a slot's number, by one digit or by two
+pub one_digit : (n d : ℕ) (rest : List ℕ) → n < 16 → d ≡ digit (n % 16) → d ∷ rest ≡ num n ++ rest
+one_digit n d rest lt is =
     let small : n % 16 ≡ n = omega arith in
-    let last : y ≡ digit (n % 16) = cc in
-    rw (last, small, num_digit n lt) refl
+    rw (is, small, num_digit n lt) refl
 
-pub numbered_two : (n : ℕ) (xs : List ℕ) → 16 ≤ n → n < 256 → take 2 xs ≡ digit (n / 16) ∷ digit (n % 16) ∷ [] → xs ≡ num n ++ drop 2 xs
-numbered_two n [] le lt is = absurd cc
-numbered_two n (x ∷ []) le lt is = absurd cc
-numbered_two n (x ∷ y ∷ xs) le lt is =
+pub two_digits : (n d e : ℕ) (rest : List ℕ) → 16 ≤ n → n < 256 → d ≡ digit (n / 16) → e ≡ digit (n % 16) → d ∷ e ∷ rest ≡ num n ++ rest
+two_digits n d e rest le lt p q =
     let small : n / 16 < 16 = omega arith in
-    let first : x ≡ digit (n / 16) = cc in
-    let last : y ≡ digit (n % 16) = cc in
-    rw (first, last, num_split n le, num_digit (n / 16) small) refl
+    rw (p, q, num_split n le, num_digit (n / 16) small) refl
 
 -- the line of a record without output, by its bytes
 pub quiet_is : (slot : ℕ) (reply : List ℕ) (words : ℕ × ℕ) → num slot ++ 32 ∷ (reply ++ 32 ∷ 45 ∷ 32 ∷ digit words.0 ∷ 32 ∷ digit words.1 ∷ 10 ∷ []) ≡ ended (quiet_line slot reply words)
 unfolding quiet_line bytes
 quiet_is slot reply words = simp append_assoc
+
+-- the same of how many bytes were taken, put in four parts
+pub took_is : (slot count : ℕ) (words : ℕ × ℕ) → (num slot ++ 32 ∷ []) ++ (codes "took:" ++ (num count ++ 32 ∷ 45 ∷ 32 ∷ digit words.0 ∷ 32 ∷ digit words.1 ∷ 10 ∷ [])) ≡ ended (quiet_line slot (codes "took:" ++ num count) words)
+took_is slot count words =
+    let tail : List ℕ = 32 ∷ 45 ∷ 32 ∷ digit words.0 ∷ 32 ∷ digit words.1 ∷ 10 ∷ [] in
+    append_assoc (num slot) (32 ∷ []) (codes "took:" ++ (num count ++ tail))
+    ∙ ap (λ (t : List ℕ). num slot ++ 32 ∷ t) (sym (append_assoc (codes "took:") (num count) tail))
+    ∙ quiet_is slot (codes "took:" ++ num count) words
 
 -- a line without output is that line
 pub quiet_of : {A : Type 0} → (slot : ℕ) (reply : Reply A) (output : List ℕ) (words : ℕ × ℕ) (field : List ℕ) → length output ≡ 0 → reply_field reply ≡ field → ended (quiet_line slot field words) ≡ ended (record_line (entry_of slot reply output words))

@@ -62,7 +62,8 @@ fn put_record<W: Write, A: Allocator, B: Allocator>(
     );
 }
 
-/// Puts the line of a record that is told by its parts.
+/// Puts the line of a record that is told by its parts. It is read into its caller, who mostly knows which reply that is.
+#[inline(always)]
 #[tactic(auto, unfolding(crate::specs::Records::record_line))]
 pub fn put_line<W: Write, A: Allocator, B: Allocator>(
     buffer: &mut Buffer<B>,
@@ -83,6 +84,7 @@ pub fn put_line<W: Write, A: Allocator, B: Allocator>(
     match reply {
         Reply::Value(value) => put_value(buffer, out, slot, *value, words),
         Reply::Done => put_done(buffer, out, slot, words),
+        Reply::Took(count) => put_took(buffer, out, slot, *count as u64, words),
         _ => put_fields(buffer, out, slot, reply, output, words, b'\n'),
     }
 }
@@ -122,10 +124,17 @@ fn put_value<W: Write, B: Allocator>(
     let (one, two) = (digit_of(slot / 16), digit_of(slot % 16));
     let [v, colon, a, b, c, d, e, f, g, h] = value_field(value);
     let (x, y) = (digit_of(words.0), digit_of(words.1));
-    let line = [
-        one, two, b' ', v, colon, a, b, c, d, e, f, g, h, b' ', b'-', b' ', x, b' ', y, b'\n',
-    ];
-    put_numbered(buffer, out, slot, &line);
+    if slot < 16 {
+        let line = [
+            two, b' ', v, colon, a, b, c, d, e, f, g, h, b' ', b'-', b' ', x, b' ', y, b'\n',
+        ];
+        buffer.put(out, &line);
+    } else {
+        let line = [
+            one, two, b' ', v, colon, a, b, c, d, e, f, g, h, b' ', b'-', b' ', x, b' ', y, b'\n',
+        ];
+        buffer.put(out, &line);
+    }
 }
 
 // The same of `done`.
@@ -136,22 +145,36 @@ fn put_done<W: Write, B: Allocator>(buffer: &mut Buffer<B>, out: &mut W, slot: u
 {
     let (one, two) = (digit_of(slot / 16), digit_of(slot % 16));
     let (x, y) = (digit_of(words.0), digit_of(words.1));
-    let line = [
-        one, two, b' ', b'd', b'o', b'n', b'e', b' ', b'-', b' ', x, b' ', y, b'\n',
-    ];
-    put_numbered(buffer, out, slot, &line);
+    if slot < 16 {
+        let line = [
+            two, b' ', b'd', b'o', b'n', b'e', b' ', b'-', b' ', x, b' ', y, b'\n',
+        ];
+        buffer.put(out, &line);
+    } else {
+        let line = [
+            one, two, b' ', b'd', b'o', b'n', b'e', b' ', b'-', b' ', x, b' ', y, b'\n',
+        ];
+        buffer.put(out, &line);
+    }
 }
 
-// Puts a line that begins with a slot's number by two digits, and leaves out the first where it is `0`.
-fn put_numbered<W: Write, B: Allocator>(buffer: &mut Buffer<B>, out: &mut W, slot: u8, line: &[u8])
-    requires { take 2 line.now ≡ digit (slot / 16) ∷ digit (slot % 16) ∷ [] }
-    ensures { Sends (W.contents out.old) (W.contents out.new) (waiting buffer.old) (num slot ++ drop 2 line.now) (waiting buffer.new) }
+// The same of how many bytes were taken.
+fn put_took<W: Write, B: Allocator>(
+    buffer: &mut Buffer<B>,
+    out: &mut W,
+    slot: u8,
+    count: u64,
+    words: (u8, u8),
+)
+    requires block { words.0 ≤ 3 }
+    requires console { words.1 ≤ 3 }
+    ensures { Sends (W.contents out.old) (W.contents out.new) (waiting buffer.old) (ended (quiet_line slot (codes "took:" ++ num count) words)) (waiting buffer.new) }
 {
-    if slot < 16 {
-        buffer.put(out, &line[1..]);
-    } else {
-        buffer.put(out, line);
-    }
+    put_slot(buffer, out, slot);
+    buffer.put(out, b"took:");
+    put_num(buffer, out, count);
+    let (x, y) = (digit_of(words.0), digit_of(words.1));
+    buffer.put(out, &[b' ', b'-', b' ', x, b' ', y, b'\n']);
 }
 
 /// Puts the fields of the record of a read of memory, whose bytes lie where they were read, and this byte behind them.
@@ -185,6 +208,7 @@ fn put_words<W: Write, B: Allocator>(buffer: &mut Buffer<B>, out: &mut W, words:
 }
 
 // Puts a slot's number and a space.
+#[inline]
 fn put_slot<W: Write, B: Allocator>(buffer: &mut Buffer<B>, out: &mut W, slot: u8)
     ensures { Sends (W.contents out.old) (W.contents out.new) (waiting buffer.old) (num slot ++ 32 ∷ []) (waiting buffer.new) }
 {
@@ -231,8 +255,13 @@ pub(super) fn put_num<W: Write, B: Allocator>(buffer: &mut Buffer<B>, out: &mut 
         buffer.put(out, &[digit_of(n as u8)]);
         return;
     }
+    let low = digit_of((n % 16) as u8);
+    if n < 256 {
+        buffer.put(out, &[digit_of((n / 16) as u8), low]);
+        return;
+    }
     put_num(buffer, out, n / 16);
-    buffer.put(out, &[digit_of((n % 16) as u8)]);
+    buffer.put(out, &[low]);
 }
 
 // A value by eight digits, after the letter for it.

@@ -15,6 +15,7 @@ use crate::version::VERSION_3;
 use std::alloc::Allocator;
 
 /// The event of the first line, and what follows that.
+#[inline(always)]
 pub fn take_event<A: Allocator + Copy>(alloc: A, rest: &[u8]) -> (Said<'_, A>, &[u8])
     requires { BeginsWithEvent rest.now }
     ensures { TakesEvent rest.now result.0 result.1.now }

@@ -74,7 +74,10 @@ fn write_in<A: Allocator>(rest: &[u8]) -> Option<(Said<'_, A>, &[u8])>
     let [b'\n', after @ ..] = rest else {
         return None;
     };
-    let value = fixed_number(value, digits)?;
+    let value = match width {
+        4 => fixed_number(value, 8)?,
+        _ => fixed_number(value, digits)?,
+    };
     let what = EventKind::Write {
         window,
         offset,

@@ -9,6 +9,7 @@ use hexadecimal::value_of;
 const MOST_DIGITS: usize = 16;
 
 /// The number of at most 64 bits that stands before the first space of a line, and what follows that space.
+#[inline(always)]
 pub(crate) fn take_number(line: &[u8]) -> Option<(u64, &[u8])>
     ensures { IfSome result (λ x. line.now ≡ num x.0 ++ 32 ∷ x.1.now) }
 {

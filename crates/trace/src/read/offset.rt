@@ -7,6 +7,7 @@ ghost use Rattle.trace.specs.Words.{Offset, Says};
 use hexadecimal::fixed_number;
 
 /// The register offset that a field of three digits spells.
+#[inline(always)]
 pub(crate) fn offset_of(field: &[u8]) -> Option<u16>
     ensures some { IfSome result (λ n. IsFixed 3 field.now n) }
     ensures said { OnSome result (Says Offset field.now) }

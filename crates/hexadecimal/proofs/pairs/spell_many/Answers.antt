@@ -7,7 +7,7 @@ use Rattle.hexadecimal.proofs.pairs.spell_many.Goals as goal
 pub loop-i-preserved : goal.loop-i-preserved
 unfolding digit
 loop-i-preserved c =
-    encode_step lower_digits c.args.bytes.now c.loop-i.digits c.loop-i.i _ _ (omega arith) (omega arith) c.digit_of.ensures c.digit_of-in-loop-i.ensures c.loop-i.invariant
+    encode_step lower_digits c.args.bytes.now c.loop-i.digits c.loop-i.i _ _ (omega arith) (omega arith) c.computed.ensures c.computed-in-loop-i.ensures c.loop-i.invariant
 
 pub returns : goal.returns
 returns c = encode_done lower_digits c.args.bytes.now c.loop-i.digits c.loop-i.i (omega arith) (omega arith) c.loop-i.invariant
