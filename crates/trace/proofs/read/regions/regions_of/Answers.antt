@@ -14,7 +14,7 @@ returns-in_err-region_of-clause-none c =
     rw c.from_residual.ensures (bad_part _ _ _ c.loop-rest.invariant.0 _ _ _ (ap option_copied c.in-Some.is) c.cut.ensures c.in_err-region_of.ensures.none)
 
 pub returns-clause-some : goal.returns-clause-some
-returns-clause-some c = made_some _ _ _ c.new.ensures.same (rw c.as_slice.ensures (all_read _ _ _ c.loop-rest.invariant.0 (ap option_copied c.in_default.is) c.loop-rest.invariant.1 c.loop-rest.invariant.2))
+returns-clause-some c = made_some _ _ _ c.new.ensures.same (rw c.as_slice.ensures.value (all_read _ _ _ c.loop-rest.invariant.0 (ap option_copied c.in_default.is) c.loop-rest.invariant.1 c.loop-rest.invariant.2))
 
 pub returns-clause-said : goal.returns-clause-said
-returns-clause-said c = made_said _ _ _ c.new.ensures.same (rw c.as_slice.ensures (all_read _ _ _ c.loop-rest.invariant.0 (ap option_copied c.in_default.is) c.loop-rest.invariant.1 c.loop-rest.invariant.2))
+returns-clause-said c = made_said _ _ _ c.new.ensures.same (rw c.as_slice.ensures.value (all_read _ _ _ c.loop-rest.invariant.0 (ap option_copied c.in_default.is) c.loop-rest.invariant.1 c.loop-rest.invariant.2))
