@@ -9,8 +9,8 @@ use crate::wording::{
     Mistake, SHOWN, read_mistake, say_event, say_interrupts, say_place, say_value, write_mistake,
 };
 use board::{DeviceKind, Event, EventKind, Reply, SlotSpec};
-use guest_memory::RegionSpec;
 use chain::{Chain, Fault};
+use guest_memory::RegionSpec;
 use mmio_window::Queue;
 use negotiation::{Features, Flags};
 use std::alloc::{AllocError, Global};

@@ -233,8 +233,15 @@ slot_counted : (version : ℕ) (s : SlotSpec) → IsFineSlot version s → AreAs
 slot_counted version s h =
     let width = width_among (slot_rest version s) in
     let memory = memory_of version width s h in
-    omega (arith, memory.1, last_counted (version == 1) width s, length-append (memory_fields version s.regions) (behind version s),
-      length-append (memory_in version) (behind_memory version), length-map (fields_in version Slot) (shape_of width), length-map (since_version_2 version (Identity ∷ [])) (shape_of width))
+    omega (
+      arith,
+      memory.1,
+      last_counted (version == 1) width s,
+      length-append (memory_fields version s.regions) (behind version s),
+      length-append (memory_in version) (behind_memory version),
+      length-map (fields_in version Slot) (shape_of width),
+      length-map (since_version_2 version (Identity ∷ [])) (shape_of width),
+    )
 
 slot_above : (version : ℕ) (s : SlotSpec) → SlotInRange s → AllAbove 32 (slot_rest version s)
 slot_above version s h =

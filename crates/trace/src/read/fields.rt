@@ -197,10 +197,7 @@ pub(crate) fn slot_of(version: u8, rest: Option<&[u8]>) -> Option<SlotSpec>
 }
 
 // The regions that the first values of a slot say, and the values behind them.
-fn memory_of<'a, 'b>(
-    version: u8,
-    values: &'b [FieldValue<'a>],
-) -> (Regions, &'b [FieldValue<'a>])
+fn memory_of<'a, 'b>(version: u8, values: &'b [FieldValue<'a>]) -> (Regions, &'b [FieldValue<'a>])
     requires { AreOf (shapes version Word.Slot (map value_text values.now)) values.now }
     ensures fields { map value_text values.now ≡ memory_fields version result.0 ++ map value_text result.1.now }
     ensures others { AreOf (Num 64 ∷ Num 64 ∷ ByMode ∷ Num 16 ∷ Num 16 ∷ since_version_2 version (ByIdentity ∷ [])) result.1.now }
