@@ -5,12 +5,32 @@ writes down which answers its own driver relies on: that its disk gives back wha
 arrives, and that what it transmits comes out. It notes too at which event it reads the status of which request. A
 hostile guest runs the same drivers, but twists what they write into memory, and does mischief between their steps.
 """
+import random
 from collections import namedtuple
 
 from probes import Probes
-from queues import INDIRECT, PackedQueue, SplitQueue
+from queues import AREAS, INDIRECT, PackedQueue, SplitQueue
 
-Slot = namedtuple("Slot", "base length start count read_only columns rows identity")
+
+class Slot(namedtuple("Slot", "base length start count read_only columns rows identity others", defaults=[()])):
+    """A slot: base and length of a region of its memory, what stands behind them in its line, and its other regions."""
+
+    def regions(self):
+        """All regions of the memory, in ascending order."""
+        return sorted([(self.base, self.length), *self.others])
+
+    def fields(self, start=None):
+        """What the small model makes a slot of."""
+        (base, length), *others = self.regions()
+        start = self.start if start is None else start
+        mode = "ro" if self.read_only else "rw"
+        return [base, length, start, self.count, mode, self.columns, self.rows, self.identity, *others]
+
+    def ends(self):
+        """Where each region begins and ends."""
+        return [at for base, length in self.regions() for at in (base, base + length)]
+
+
 
 # What a board offers its drivers: the low word of each window's features, and the high word of both.
 Offered = namedtuple("Offered", "block console high")
@@ -49,6 +69,7 @@ class Guest:
 
     def __init__(self, dice, slot, wildness=0.0):
         self.dice, self.slot, self.wildness = dice, slot, wildness
+        self.places = random.Random(f"places {slot}")
         self.events, self.expected, self.disk = [], {}, None
         # of each block request: the event that reads its status, its type, whether it is refused, and runs of sectors with
         # what it writes to them
@@ -87,8 +108,19 @@ class Driver:
             self.high |= RING_PACKED
         kind, indirect = PackedQueue if is_packed else SplitQueue, bool(self.low & INDIRECT_DESC)
         tells_next = bool(self.high & NOTIFICATION_DATA)
-        self.queues = [kind(guest, window, number, dice.choice(kind.SIZES), guest.slot.base + place, indirect, tells_next)
+        self.queues = [kind(guest, window, number, dice.choice(kind.SIZES), self.areas_at(place), indirect, tells_next)
                        for number, place in enumerate(places)]
+        for queue, place in zip(self.queues, places):
+            self.put_apart(queue, place)
+
+    def areas_at(self, place):
+        """Where the areas of a virtqueue lie: in any region, of which each has room for all."""
+        return self.guest.places.choice(self.guest.slot.regions())[0] + place
+
+    def put_apart(self, queue, place):
+        """Gives the virtqueue's buffers another region than its areas, where there are several."""
+        queue.room = self.areas_at(place) + AREAS
+        queue.give_buffers_back()
 
     def bring_up(self):
         guest, window = self.guest, self.window
@@ -319,7 +351,7 @@ class Mischief:
         """An address, most times in the guest's memory, often in the areas of a virtqueue or at an end, now and then with one bit
         turned."""
         dice, slot, queue = self.dice, self.guest.slot, self.queue()
-        ends = [slot.base, slot.base + slot.length, slot.base + slot.length // 2, dice.choice([0, 1 << 64])]
+        ends = [*slot.ends(), slot.base + slot.length // 2, dice.choice([0, 1 << 64])]
         areas = [queue.at, queue.driver_area, queue.device_area, queue.at + dice.randrange(0x400)]
         turned = 1 << dice.randrange(64) if dice.random() < 0.1 else 0
         return (dice.choice(ends + 2 * areas) + dice.choice([0, 0, 0, -1, 1, 2, -16, 16])) % (1 << 64) ^ turned
@@ -436,7 +468,7 @@ class Mischief:
     def outside(self):
         """Memory at and past both ends."""
         slot = self.guest.slot
-        at = (self.dice.choice([slot.base, slot.base + slot.length]) + self.dice.randrange(-3, 4)) % (1 << 64)
+        at = (self.dice.choice(slot.ends()) + self.dice.randrange(-3, 4)) % (1 << 64)
         if self.dice.random() < 0.5:
             self.guest.look(at, self.dice.choice([0, 1, 2, 4, 0xFFFFFFFF]))
         else:
@@ -471,4 +503,5 @@ def live(guest, offered, disk, count):
     for window in "bc":
         for offset in (0x034, 0x044, 0x060, 0x070, 0x0FC, 0x100):
             guest.read(window, offset)
-    guest.look(guest.slot.base, guest.slot.length)
+    for base, length in guest.slot.regions():
+        guest.look(base, length)

@@ -18,9 +18,7 @@ class Host:
     """Serves one guest's disk: at once and always well, or late and not always well."""
 
     def __init__(self, guest, disk, dice, is_late):
-        slot = guest.slot
-        fields = [slot.base, slot.length, 0, slot.count, "ro" if slot.read_only else "rw", slot.columns, slot.rows, slot.identity]
-        self.board = model.hosted_board_of([fields], ())
+        self.board = model.hosted_board_of([guest.slot.fields(start=0)], ())
         self.guest, self.disk, self.dice, self.is_late, self.due = guest, bytearray(disk), dice, is_late, 0
         self.events, self.told = [], []
 

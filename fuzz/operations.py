@@ -53,8 +53,9 @@ def check_operation(slot, asked):
         raise Wrong("no operation is spelled so")
     kind, start, length = match[1].partition("-")[0], int(match[2], 16), int(match[3], 16)
     runs = [] if match[4] == "-" else [tuple(int(part, 16) for part in run.split("+")) for run in match[4].split(",")]
-    first, size = (0, 512 * slot.count) if kind == "zeroes" else (slot.base, slot.length)
-    if len(runs) > MOST_RUNS or any(count == 0 or at < first or at + count > first + size for at, count in runs):
+    ranges = [(0, 512 * slot.count)] if kind == "zeroes" else slot.regions()
+    if len(runs) > MOST_RUNS or any(count == 0 or not any(first <= at and at + count <= first + size for first, size in ranges)
+                                    for at, count in runs):
         raise Wrong("a run is empty or outside")
     moved = sum(count for _, count in runs) if kind in ("in", "out") else 0
     if length != moved or start + length > 512 * slot.count or start % 512 or length % 512 or kind == "flush" and (start or runs):

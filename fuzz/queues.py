@@ -13,7 +13,7 @@ class Queue:
     def __init__(self, guest, window, number, size, at, indirect, tells_next):
         self.guest, self.window, self.number, self.size, self.indirect = guest, window, number, size, indirect
         self.tells_next = tells_next
-        self.at, self.driver_area = at, at + DESCRIPTOR * size
+        self.at, self.driver_area, self.room = at, at + DESCRIPTOR * size, at + AREAS
         self.left = size
         self.give_buffers_back()
 
@@ -25,7 +25,7 @@ class Queue:
         return self.number | (self.guest.dice.randrange(1 << 16) if is_lie else self.next_place()) << 16
 
     def room_left(self):
-        return self.at + AREAS + BUFFERS - self.free
+        return self.room + BUFFERS - self.free
 
     def buffer(self, length):
         """An address for a buffer that nothing else lies in until the buffers are given back."""
@@ -33,7 +33,7 @@ class Queue:
         return self.free - length
 
     def give_buffers_back(self):
-        self.free = self.at + AREAS
+        self.free = self.room
 
     def pieces(self, length):
         """Buffers of `length` bytes together, as (address, length), in one piece or in some."""
@@ -89,7 +89,7 @@ class Queue:
         dice, slot = self.guest.dice, self.guest.slot
         which = dice.randrange(4)
         fields[which] = dice.choice([
-            [0, (slot.base - 1) % (1 << 64), (1 << 64) - 1, slot.base + slot.length - dice.randrange(3),
+            [0, (dice.choice(slot.ends()) - 1) % (1 << 64), (1 << 64) - 1, dice.choice(slot.ends()) - dice.randrange(3),
              slot.base + dice.randrange(slot.length), self.at, self.driver_area, self.device_area],
             [0, 1, 15, 16, 17, 32, 511, 513, 4096, 4112, 0x7FFFFFFF, 0xFFFFFFFF],
             [fields[2] ^ flag for flag in (1 << dice.randrange(16), dice.randrange(1 << 16), NEXT, WRITE, INDIRECT)],

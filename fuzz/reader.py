@@ -22,6 +22,9 @@ LINES = {
     "io": [8, "verdict"],
 }
 
+# The fields of those that have others in version 3.
+IN_VERSION_3 = {"slot": ["regions", 64, 64, "mode", 16, 16]}
+
 # The words that stand in line 2, and nowhere else.
 SECOND = ["cache", "hosted"]
 
@@ -60,7 +63,7 @@ def fault_in(text, line, had_event, version):
         return "Word"
     if word == "slot" and had_event:
         return "Order"
-    kinds = LINES[word] + (ADDED.get(word, []) if version > 1 else [])
+    kinds = (IN_VERSION_3.get(word, LINES[word]) if version == 3 else LINES[word]) + (ADDED.get(word, []) if version > 1 else [])
     if len(fields) != len(kinds):
         return "Fields"
     spelled = dict(zip(kinds, fields))
@@ -76,6 +79,10 @@ def fault_of_field(text, kind, width):
         return None if text == "-" or re.fullmatch("([0-9a-f]{2})+", text) else "Bytes"
     if kind == "identity":
         return None if re.fullmatch("[0-9a-f]{40}", text) else "Bytes"
+    if kind == "regions":
+        regions = [region.split("+") for region in text.split(",")]
+        are_regions = len(regions) <= 8 and all(len(region) == 2 for region in regions)
+        return None if are_regions and not any(fault_of_field(number, 64, None) for region in regions for number in region) else "Number"
     if kind == "off":
         digits = 3
     elif kind == "val":

@@ -9,6 +9,11 @@ CACHES = [1, 2, 3, 8, 65536]
 WILDNESS = [0, 0, 0.1, 0.4, 0.8]
 STRANGERS = ["r {} b 000 4", "w {} b 070 4 00000000", "w {} c 050 4 00000000", "mr {} 80000000 4", "mw {} 80000000 ff"]
 
+# How many regions a memory has behind its first one in a trace of version 3, how long these are, and how far from the next.
+OTHERS = [0, 0, 1, 1, 2, 7]
+OTHER_LENGTHS = [0x8000, 0x10000]
+GAPS = [0x1000, 0x1000, 0x3000, 0x100000, 0x10000000]
+
 # The share of the traces whose disks the host serves, where there may be any, and how often the host of a guest is late.
 HOSTED, LATE = 1 / 3, 0.7
 
@@ -33,6 +38,7 @@ class Scene:
             base = min(dice.choice(BASES), (1 << 64) - length)
             identity = IDENTITY_TEXT if self.version == 1 else names.randbytes(20)
             slot = Slot(base, length, start, count, dice.random() < 0.2, dice.randrange(200), dice.randrange(100), identity)
+            slot = slot._replace(others=self.others(slot, random.Random(f"regions {seed} {len(self.guests)}")))
             self.guests.append(Guest(dice, slot, dice.choice(WILDNESS)))
             start += count + dice.choice([0, 0, 1, 2])
         self.image = dice.randbytes(SECTOR * (start + dice.randrange(2)))
@@ -43,6 +49,18 @@ class Scene:
             if self.is_hosted:
                 Host(guest, disk, hosts, hosts.random() < LATE).serve()
         self.lines = list(self.interleaved(dice))
+
+    def others(self, slot, dice):
+        """The other regions of a guest's memory: above or below all that it has so far."""
+        found = []
+        for _ in range(dice.choice(OTHERS) if self.version == 3 else 0):
+            regions = sorted([(slot.base, slot.length), *found])
+            (first, _), (last, length) = regions[0], regions[-1]
+            size, gap = dice.choice(OTHER_LENGTHS), dice.choice(GAPS)
+            places = [at for at in (last + length + gap, first - gap - size) if 0 <= at and at + size <= 1 << 64]
+            if places:
+                found.append((dice.choice(places), size))
+        return tuple(found)
 
     def live(self, guest, offered, disk, count):
         """Makes a guest do about `count` events over its disk."""
@@ -88,4 +106,6 @@ class Scene:
 def slot_line(slot, version):
     mode = "ro" if slot.read_only else "rw"
     identity = f" {slot.identity.hex()}" if version > 1 else ""
-    return f"slot {slot.base:x} {slot.length:x} {slot.start:x} {slot.count:x} {mode} {slot.columns:x} {slot.rows:x}{identity}"
+    regions = [f"{base:x}+{length:x}" for base, length in slot.regions()]
+    memory = ",".join(regions) if version == 3 else f"{slot.base:x} {slot.length:x}"
+    return f"slot {memory} {slot.start:x} {slot.count:x} {mode} {slot.columns:x} {slot.rows:x}{identity}"

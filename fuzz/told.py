@@ -46,7 +46,7 @@ class Told:
 
     def __init__(self, scene):
         image = NotedImage(scene.image)
-        board = model.board_of([fields_of(guest.slot) for guest in scene.guests], scene.cache, image, ())
+        board = model.board_of([guest.slot.fields() for guest in scene.guests], scene.cache, image, ())
         self.records, self.events = [], []
         for number, (guest, what) in enumerate(scene.lines):
             word, *fields = (what if guest is None else scene.event(guest, what, guest)).split(" ")
@@ -65,11 +65,6 @@ class Told:
             if event.calls[-1] is None and event.written(event.calls[:-1]) != event.after:
                 found.append(flushes - 1)
         return found
-
-
-def fields_of(slot):
-    mode = "ro" if slot.read_only else "rw"
-    return [slot.base, slot.length, slot.start, slot.count, mode, slot.columns, slot.rows, slot.identity]
 
 
 def sector_of(image, sector):

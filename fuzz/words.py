@@ -128,6 +128,7 @@ NUMBER = "is lower case hexadecimal digits without zeros in front, of {} bits at
 BYTES = "bytes are two lower case hexadecimal digits each, as 4142, or - for none"
 IDENTITY = "an identity is 20 bytes by two lower case hexadecimal digits each, so 40 digits"
 OFFSET = "a register offset is three lower case hexadecimal digits, as 070"
+REGIONS = "a memory is one to eight regions by base and length, as 80000000+1000 or 0+1000,80000000+1000"
 NAMED = "6469736b2d300000000000000000000000000000"
 ONE_SLOT = b"vreplay 1\ncache 1\nslot 80000000 1000 0 8 rw 50 19\nr 0 c 008 4\n"
 
@@ -164,6 +165,13 @@ TEXTS = [
     (b"vreplay 2\ncache 1\nslot 0 1000 0 1 wr 50 19 -\n", 'line 3: a slot is rw or ro; found "wr"'),
     (b"vreplay 2\ncache 1\nslot 0 1000 0 1 wr 50 019 -\n", f'line 3: a number of rows {NUMBER.format(16)}; found "019"'),
     (b"vreplay 2\ncache 1\nin 0 6c7\n", f'line 3: {BYTES}; found "6c7"'),
+    # a slot line of version 3, with regions
+    (f"vreplay 3\ncache 1\nslot 0 1000 0 1 rw 50 19 {NAMED}\n".encode(),
+     f'line 3: slot has 7 fields after it, each after one space, as "slot 80000000+1000,100000000+1000 0 8 rw 50 19 {NAMED}"; '
+     'found "slot 0 1000 0 1 rw 50 19 6469736b2d30000"..'),
+    (f"vreplay 3\ncache 1\nslot 80000000 0 1 rw 50 19 {NAMED}\n".encode(), f'line 3: {REGIONS}; found "80000000"'),
+    (f"vreplay 3\ncache 1\nslot 0+1000,1000+1000 0 1 rw 50 19 {NAMED}\n".encode(),
+     "slot 0 (line 3): a guest's memory: a region doesn't begin above the end of the one before it"),
     # a restore, which version 3 alone has
     (b"vreplay 2\ncache 1\nst 0 4b\n", f'line 3: {WORDS}; found "st 0 4b"'),
     (b"vreplay 3\ncache 1\nrestore 0 4b\n", f'line 3: {WORDS_3}; found "restore 0 4b"'),
@@ -229,9 +237,10 @@ FAULTS = [
     (b"vreplay 1\ncache 1\nslot 0 1000 0 9 rw 50 19\n", "fault board ExtentOutside"),
     (b"vreplay 1\ncache 1\nslot 0 1000 0 2 rw 50 19\nslot 0 1000 1 1 rw 50 19\n", "fault board ExtentsOverlap"),
     (b"vreplay 1\ncache 0\nslot 0 1000 0 8 rw 50 19\n", "fault board BadCapacity"),
+    (f"vreplay 3\ncache 1\nslot 0+1000,1000+1000 0 8 rw 50 19 {NAMED}\n".encode(), "fault board NotApart"),
     (b"vreplay 2\nhosted\n", "fault trace 2 Word"),
     (b"vreplay 3\nhosted 1\n", "fault trace 2 Fields"),
-    (f"vreplay 3\nhosted\nslot 80000000 1000 0 8 rw 50 19 {NAMED}\nio 0 ok\n".encode(), "fault trace 4 Choice"),
+    (f"vreplay 3\nhosted\nslot 80000000+1000 0 8 rw 50 19 {NAMED}\nio 0 ok\n".encode(), "fault trace 4 Choice"),
     (b"vreplay 3\nhosted\n", "fault board NoSlots"),
-    (f"vreplay 3\nhosted\nslot 80000000 1000 0 80000000000000 rw 50 19 {NAMED}\n".encode(), "fault board ExtentOutside"),
+    (f"vreplay 3\nhosted\nslot 80000000+1000 0 80000000000000 rw 50 19 {NAMED}\n".encode(), "fault board ExtentOutside"),
 ]

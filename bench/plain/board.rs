@@ -8,6 +8,7 @@ use crate::window::{self, Window};
 
 const PAGE: u64 = 4096;
 const MOST_MEMORY: u64 = 1 << 28;
+const MOST_MEMORY_OF_VERSION_3: u64 = 1 << 32;
 const MOST_CACHE: u32 = 65536;
 const MOST_PENDING: usize = 4096;
 
@@ -61,7 +62,8 @@ impl Board {
             return Err(Refused::TooManySlots);
         }
         for (number, slot) in trace.slots.iter().enumerate() {
-            judge(slot, &trace.slots[..number], (image.len() / SECTOR) as u64)?;
+            let most_memory = if trace.version == 3 { MOST_MEMORY_OF_VERSION_3 } else { MOST_MEMORY };
+            judge(slot, &trace.slots[..number], (image.len() / SECTOR) as u64, most_memory)?;
         }
         if !(1..=MOST_CACHE).contains(&trace.capacity) {
             return Err(Refused::BadCapacity);
@@ -94,8 +96,8 @@ impl Board {
 }
 
 /// Whether a slot may stand behind these on an image of so many sectors.
-fn judge(slot: &Description, before: &[Description], sectors: u64) -> Result<(), Refused> {
-    if slot.len % PAGE != 0 || !(PAGE..=MOST_MEMORY).contains(&slot.len) {
+fn judge(slot: &Description, before: &[Description], sectors: u64, most_memory: u64) -> Result<(), Refused> {
+    if slot.len % PAGE != 0 || !(PAGE..=most_memory).contains(&slot.len) {
         return Err(Refused::BadSize);
     }
     if slot.base % PAGE != 0 || u128::from(slot.base) + u128::from(slot.len) > 1 << 64 {

@@ -19,7 +19,7 @@ pub enum Kind {
 pub enum Refused {
     /// The first line with a fault.
     Fault(usize, Kind),
-    /// A word of version 3 that this program leaves out.
+    /// A word of version 3 that this program leaves out, or a memory of several regions.
     NotServed,
 }
 
@@ -136,26 +136,32 @@ impl<'a> Trace<'a> {
             _ => judge(word, &fields, self.version),
         };
         judged.map_err(|kind| Refused::Fault(line_number, kind))?;
-        self.slots.push(Description::of(&fields).expect("a line of a slot"));
+        self.slots.push(Description::of(&fields, self.version).ok_or(Refused::NotServed)?);
         Ok(rest)
     }
 }
 
 impl Description {
-    fn of(fields: &[&[u8]]) -> Option<Description> {
+    /// What judged fields say, where the memory has one region.
+    fn of(fields: &[&[u8]], version: u8) -> Option<Description> {
+        let ((base, len), fields) = match fields {
+            [regions, others @ ..] if version == 3 => (region(regions)?, others),
+            [base, len, others @ ..] => ((number(base, 64)?, number(len, 64)?), others),
+            _ => return None,
+        };
         let number = |place: usize| number(fields[place], 64);
         let mut identity = *IDENTITY_OF_VERSION_1;
-        if let Some(digits) = fields.get(7) {
+        if let Some(digits) = fields.get(5) {
             hex::decode(digits, &mut identity);
         }
         Some(Description {
-            base: number(0)?,
-            len: number(1)?,
-            start: number(2)?,
-            count: number(3)?,
-            read_only: fields[4] == b"ro",
-            cols: number(5)? as u16,
-            rows: number(6)? as u16,
+            base,
+            len,
+            start: number(0)?,
+            count: number(1)?,
+            read_only: fields[2] == b"ro",
+            cols: number(3)? as u16,
+            rows: number(4)? as u16,
             identity,
         })
     }
@@ -268,6 +274,7 @@ impl<'a> Reader<'a> {
 #[derive(Clone, Copy)]
 enum Field {
     Num(u32),
+    Regions,
     Off,
     Val,
     Win,
@@ -289,6 +296,7 @@ fn fields_of(word: &[u8], version: u8) -> Option<&'static [Field]> {
     Some(match word {
         b"cache" => &[Num(32)],
         b"slot" if version == 1 => &[Num(64), Num(64), Num(64), Num(64), Mode, Num(16), Num(16)],
+        b"slot" if version == 3 => &[Regions, Num(64), Num(64), Mode, Num(16), Num(16), Identity],
         b"slot" => &[Num(64), Num(64), Num(64), Num(64), Mode, Num(16), Num(16), Identity],
         b"r" => &[Num(8), Win, Off, Wid],
         b"w" => &[Num(8), Win, Off, Wid, Val],
@@ -315,6 +323,7 @@ fn fault_of(wanted: Field, field: &[u8], fields: &[&[u8]]) -> Option<Kind> {
     let width = |field: &[u8]| ["1", "2", "4"].iter().position(|width| width.as_bytes() == field).map(|log| 1usize << log);
     let (is_spelled, kind) = match wanted {
         Field::Num(bits) => (number(field, bits).is_some(), Kind::Number),
+        Field::Regions => (are_regions(field), Kind::Number),
         Field::Off => (are_digits(3), Kind::Number),
         Field::Val => (width(fields[3]).is_none_or(|width| are_digits(2 * width)), Kind::Number),
         Field::Win => (matches!(field, b"b" | b"c"), Kind::Choice),
@@ -324,6 +333,18 @@ fn fault_of(wanted: Field, field: &[u8], fields: &[&[u8]]) -> Option<Kind> {
         Field::Identity => (are_digits(40), Kind::Bytes),
     };
     (!is_spelled).then_some(kind)
+}
+
+/// Whether a field spells one to eight regions.
+fn are_regions(field: &[u8]) -> bool {
+    let regions = field.split(|&c| c == b',');
+    regions.clone().count() <= 8 && regions.map(region).all(|region| region.is_some())
+}
+
+/// The base and the length that a region's text spells.
+fn region(text: &[u8]) -> Option<(u64, u64)> {
+    let plus = text.iter().position(|&c| c == b'+')?;
+    Some((number(&text[..plus], 64)?, number(&text[plus + 1..], 64)?))
 }
 
 /// The number that a whole field spells.

@@ -49,10 +49,10 @@ found_at (Cached capacity) sectors slots fault number has = λ refused. cc (has 
 found_at Hosted sectors slots fault number has = λ refused. cc (has refused)
 
 -- what is said of the slots that were read, as a board is asked for them, is said of those of the text, which has one trace
-pub of_the_text : {A : Type 0} (sectors : ℕ) (bytes : List ℕ) (read : Content A) (slots : List SlotSpec) (fault : BoardFault) (answer : Option ℕ) → slots ≡ map asked_of_board read.slots → ((other : Content A) → InRange other → IsPrintable other → bytes ≡ text other → other ≡ read) → FindsRefused read.disks sectors slots fault answer → IfSome answer (λ number. (trace : Content A) → IsTraceOf bytes trace → IsRefusedAt trace.disks sectors (map asked_of_board trace.slots) fault number)
+pub of_the_text : {A : Type 0} (sectors : ℕ) (bytes : List ℕ) (read : Content A) (slots : List SlotSpec) (fault : BoardFault) (answer : Option ℕ) → slots ≡ map (asked_of_board read.version) read.slots → ((other : Content A) → InRange other → IsPrintable other → bytes ≡ text other → other ≡ read) → FindsRefused read.disks sectors slots fault answer → IfSome answer (λ number. (trace : Content A) → IsTraceOf bytes trace → IsRefusedAt trace.disks sectors (map (asked_of_board trace.version) trace.slots) fault number)
 of_the_text sectors bytes read slots fault None is only has = tt
 of_the_text {A} sectors bytes read slots fault (Some number) is only has = λ trace its.
     let same : read ≡ trace = sym (only trace its.range its.printable its.found) in
-    subst (λ (t : Content A). IsRefusedAt t.disks sectors (map asked_of_board t.slots) fault number) same
-    (found_at read.disks sectors (map asked_of_board read.slots) fault number
+    subst (λ (t : Content A). IsRefusedAt t.disks sectors (map (asked_of_board t.version) t.slots) fault number) same
+    (found_at read.disks sectors (map (asked_of_board read.version) read.slots) fault number
     (subst (λ (s : List SlotSpec). FindsRefused read.disks sectors s fault (Some number)) is has))

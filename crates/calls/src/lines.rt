@@ -1,6 +1,6 @@
 //! How the lines of a trace and their fields are spelled, for people.
 
-use trace::{Field, VERSION_1, Word};
+use trace::{Field, VERSION_1, VERSION_3, Word};
 
 /// A word, and fields after it as they look in a version.
 pub fn example_of(version: u8, word: Word) -> (&'static str, &'static str) {
@@ -8,9 +8,13 @@ pub fn example_of(version: u8, word: Word) -> (&'static str, &'static str) {
         Word::Cache => ("cache", "8"),
         Word::Hosted => ("hosted", ""),
         Word::Slot if version == VERSION_1 => ("slot", "80000000 1000 0 8 rw 50 19"),
-        Word::Slot => (
+        Word::Slot if version < VERSION_3 => (
             "slot",
             "80000000 1000 0 8 rw 50 19 6469736b2d300000000000000000000000000000",
+        ),
+        Word::Slot => (
+            "slot",
+            "80000000+1000,100000000+1000 0 8 rw 50 19 6469736b2d300000000000000000000000000000",
         ),
         Word::Read => ("r", "0 b 070 4"),
         Word::Write => ("w", "0 b 070 4 0000000f"),
@@ -46,6 +50,9 @@ pub fn spelling_of(field: Field) -> Spelling {
         Field::Slot => Number("a slot", 8),
         Field::Address => Number("an address", 64),
         Field::Length => Number("a length", 32),
+        Field::Regions => Other(
+            "a memory is one to eight regions by base and length, as 80000000+1000 or 0+1000,80000000+1000",
+        ),
         Field::Offset => Other("a register offset is three lower case hexadecimal digits, as 070"),
         Field::Value => Other(
             "a value is two lower case hexadecimal digits for each byte of its width, as 0000000f of width 4",

@@ -5,13 +5,14 @@ ghost use Rattle.std.specs.Bool.{OnFalse, OnTrue};
 ghost use Rattle.std.specs.List.{position};
 ghost use Rattle.board.specs.Extent.{IsApart, Overlaps, has_sector};
 ghost use Rattle.board.specs.Fault.{HasFirstFault, HasFirstHostedFault, IsFaultOf, IsGoodHosted, IsGoodSlot, most_sectors, with_own_disk};
+ghost use Rattle.guest_memory.specs.Faults.{AreGood, IsRefused};
 ghost use Rattle.calls.specs.Whose.{FindsRefused, IsRefusedAt};
 ghost use Rattle.replay.specs.Limits.{asked_of_board};
 ghost use Rattle.trace.specs.Reading.{IsTraceOf};
 ghost use Rattle.trace.specs.Text.{Content};
 
 use board::{BoardFault, Extent, SlotSpec};
-use guest_memory::fault_of;
+use guest_memory::{MemoryFault, RegionSpec, fault_of_regions};
 use replay::limit_memories;
 use std::alloc::Allocator;
 use trace::{Disks, read_trace};
@@ -27,24 +28,26 @@ pub fn slot_at_fault<A: Allocator + Copy>(
     fault: BoardFault,
 ) -> Option<usize>
     ensures { IfSome result (λ number. (trace : Content A) → IsTraceOf text.now trace →
-        IsRefusedAt trace.disks sectors (map asked_of_board trace.slots) fault number) }
+        IsRefusedAt trace.disks sectors (map (asked_of_board trace.version) trace.slots) fault number) }
 {
     let Ok(mut trace) = read_trace(alloc, text) else {
         return None;
     };
-    first_refused(trace.disks, &mut trace.slots, sectors, fault)
+    first_refused(trace.version, trace.disks, &mut trace.slots, sectors, fault)
 }
 
-// The slot at which a board of these slots is refused with this fault, where it is asked for them as a trace is.
+// The slot at which a board of these slots is refused with this fault, where it is asked for them as a trace of this
+// version is.
 fn first_refused(
+    version: u8,
     disks: Disks,
     slots: &mut [SlotSpec],
     sectors: u64,
     fault: BoardFault,
 ) -> Option<usize>
-    ensures { FindsRefused disks sectors (map asked_of_board slots.old) fault result }
+    ensures { FindsRefused disks sectors (map (asked_of_board version) slots.old) fault result }
 {
-    limit_memories(slots);
+    limit_memories(version, slots);
     match disks {
         Disks::Cached { .. } => first_at_fault(slots, sectors, fault),
         Disks::Hosted => first_hosted_at_fault(slots, fault),
@@ -105,12 +108,23 @@ fn has_fault(slot: &SlotSpec, earlier: &[SlotSpec], sectors: u64, fault: BoardFa
     ensures bad { IsTrue result → IsGoodSlot sectors earlier.now slot.now → ⊥ }
 {
     match fault {
-        BoardFault::Memory(memory) => fault_of(slot.base, slot.len) == Some(memory),
+        BoardFault::Memory(fault) => is_memory_fault(slot.regions.as_slice(), fault),
         BoardFault::ExtentOutside => {
             slot.extent.start > sectors || slot.extent.count > sectors - slot.extent.start
         }
         BoardFault::ExtentsOverlap => is_shared(slot.extent, earlier),
         _ => false,
+    }
+}
+
+// Whether a memory of these regions is refused with this fault.
+fn is_memory_fault(regions: &[RegionSpec], fault: MemoryFault) -> bool
+    ensures found { IsRefused regions.now fault → IsTrue result }
+    ensures bad { IsTrue result → AreGood regions.now → ⊥ }
+{
+    match fault_of_regions(regions) {
+        Some(found) => found.fault == fault,
+        None => false,
     }
 }
 

@@ -47,7 +47,9 @@ class Asks(Exception):
         return f"{self.kind}:{self.start:x}:{self.length:x}:{runs or '-'}"
 
 
-class Memory:
+class Region:
+    """Bytes at consecutive addresses."""
+
     def __init__(self, base, length):
         self.base, self.bytes = base, bytearray(length)
 
@@ -61,6 +63,31 @@ class Memory:
     def put(self, at, new):
         at -= self.base
         self.bytes[at:at + len(new)] = new
+
+
+class Memory:
+    """Regions in ascending order, with a gap between each two."""
+
+    def __init__(self, base, length, *others):
+        self.regions = [Region(base, length)] + [Region(at, size) for at, size in others]
+
+    def span(self):
+        """The first address, and how many there are from there to the end of the last region."""
+        first, last = self.regions[0].base, self.regions[-1]
+        return first, last.base + len(last.bytes) - first
+
+    def region(self, at, count):
+        """The region that holds so many bytes from an address on, or none."""
+        return next((region for region in self.regions if region.holds(at, count)), None)
+
+    def holds(self, at, count):
+        return self.region(at, count) is not None
+
+    def part(self, at, count):
+        return (self.region(at, count) or self.regions[0]).part(at, count)
+
+    def put(self, at, new):
+        (self.region(at, len(new)) or self.regions[0]).put(at, new)
 
     def number(self, at, count):
         return int.from_bytes(self.part(at, count), "little")
@@ -524,7 +551,7 @@ class Slot:
     def __init__(self, fields, cache, lacks):
         base, length, self.start, self.count, mode, self.cols, self.rows, *named = fields
         self.identity = named[0] if named else IDENTITY
-        self.memory, self.cache, self.read_only = Memory(base, length), cache, mode == "ro"
+        self.memory, self.cache, self.read_only = Memory(base, length, *named[1:]), cache, mode == "ro"
         block = EVERY + ["seg_max", "blk_size", "flush", "write_zeroes"] + (["ro"] if self.read_only else [])
         console = EVERY + ["size", "emerg_write"]
         self.windows = {"b": Window("b", [name for name in block if name not in lacks]),
@@ -579,8 +606,9 @@ class Slot:
         snapshot = Snapshot(content)
         snapshot.only(b"KALYUBOS")
         snapshot.only_value(4, 1)
-        snapshot.only_value(8, self.memory.base)
-        snapshot.only_value(8, len(self.memory.bytes))
+        first, span = self.memory.span()
+        snapshot.only_value(8, first)
+        snapshot.only_value(8, span)
         snapshot.only_value(8, self.count)
         snapshot.only_value(1, int(self.read_only))
         snapshot.only(self.identity)
@@ -821,17 +849,38 @@ class BadBoard(Exception):
     """A board that is refused, by the fault's name."""
 
 
-def board_of(slots, capacity, image, lacks, most=64):
+def room_of(others, largest):
+    """What the regions behind a first one leave of the largest memory."""
+    return largest - sum(size for _, size in others)
+
+
+def judge_others(base, length, others):
+    """The regions behind a first one."""
+    end = base + length
+    for at, size in others:
+        if size % 4096 or size < 4096:
+            raise BadBoard("BadSize")
+        if at % 4096 or at + size > 2**64:
+            raise BadBoard("BadBase")
+        if at + size - base >= 2**64:
+            raise BadBoard("BadBase")
+        if at <= end:
+            raise BadBoard("NotApart")
+        end = at + size
+
+
+def board_of(slots, capacity, image, lacks, most=64, largest=2**28):
     if not slots:
         raise BadBoard("NoSlots")
     if len(slots) > most:
         raise BadBoard("TooManySlots")
     taken = []
-    for base, length, start, count, *_ in slots:
-        if length % 4096 or not 4096 <= length <= 2**28:
+    for base, length, start, count, *rest in slots:
+        if length % 4096 or not 4096 <= length <= room_of(rest[4:], largest):
             raise BadBoard("BadSize")
         if base % 4096 or base + length > 2**64:
             raise BadBoard("BadBase")
+        judge_others(base, length, rest[4:])
         if start + count > len(image.bytes) // SECTOR:
             raise BadBoard("ExtentOutside")
         if count and any(start < end and first < start + count for first, end in taken):
@@ -848,7 +897,7 @@ def hosted_board_of(slots, lacks):
     """The slots of a board whose disks the host serves. They are judged as empty ones; a disk that is too large wants a sector of
     an image that has none."""
     judged = [[base, length, 0, int(count > 2**55 - 1), *rest] for base, length, _, count, *rest in slots]
-    board_of(judged, 1, Image(b"", ()), lacks)
+    board_of(judged, 1, Image(b"", ()), lacks, largest=2**32)
     return [HostedSlot(fields, None, lacks) for fields in slots]
 
 
@@ -858,6 +907,14 @@ def bytes_of(field):
 
 def spelled(content):
     return content.hex() or "-"
+
+
+def slot_of(version, line):
+    """What a slot line says: base and length of the first region, what stands behind the memory, and the other regions."""
+    memory, rest = ([one.split("+") for one in line[1].split(",")], line[2:]) if version == "3" else ([line[1:3]], line[3:])
+    regions = [tuple(int(number, 16) for number in one) for one in memory]
+    numbers = [field if field in ("rw", "ro") else int(field, 16) for field in rest[:5]]
+    return [*regions[0], *numbers, *[bytes.fromhex(field) for field in rest[5:]], *regions[1:]]
 
 
 def record_of(slots, word, fields):
@@ -944,11 +1001,11 @@ def replay(text, content, fails=(), lacks=(), fault_of=None):
     if fault:
         return f"fault trace {fault[0]} {fault[1]}\n", 1, image
     lines = [line.split(" ") for line in text.decode("ascii").split("\n")[:-1]]
-    slots = [[field if field in ("rw", "ro") else int(field, 16) for field in line[1:8]]
-             + [bytes.fromhex(field) for field in line[8:]] for line in lines if line[0] == "slot"]
-    most, is_hosted = 16 if lines[0][1] == "1" else 64, lines[1] == ["hosted"]
+    version, is_hosted = lines[0][1], lines[1] == ["hosted"]
+    slots = [slot_of(version, line) for line in lines if line[0] == "slot"]
+    most, largest = 16 if version == "1" else 64, 2**32 if version == "3" else 2**28
     try:
-        board = hosted_board_of(slots, lacks) if is_hosted else board_of(slots, int(lines[1][1], 16), image, lacks, most)
+        board = hosted_board_of(slots, lacks) if is_hosted else board_of(slots, int(lines[1][1], 16), image, lacks, most, largest)
     except BadBoard as refused:
         return f"fault board {refused}\n", 1, image
     events, told = lines[2 + len(slots):], hosted_record_of if is_hosted else record_of

@@ -142,7 +142,7 @@ def features_of(text, replies):
         found.add("guests")
     if "\nhosted\n" in text:
         found.add("hosted")
-    if any(len(fields) >= 5 and fields[4] == "ro" for fields in slots):
+    if any("ro" in fields[3:5] for fields in slots):
         found.add("ro")
     windows = {}
     for event, reply in zip(events_of(text), replies):

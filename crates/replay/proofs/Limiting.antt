@@ -9,7 +9,8 @@ use Rattle.std.proofs.lemmas.List.{get_or_default}
 use Rattle.std.proofs.lemmas.List.Edits.{map_over_more}
 use Rattle.board.specs.declared.spec.SlotSpec.{SlotSpec}
 use Rattle.board.specs.Fault.{AreGoodHosted, IsAccepted}
-use Rattle.replay.specs.Limits.{IsSmallMemory, asked_of_board}
+use Rattle.guest_memory.specs.Faults.{AreGood, size_of}
+use Rattle.replay.specs.Limits.{IsSmallMemory, asked_of_board, most_memory, no_memory}
 
 -- ---- the loop that asks for no memory in place of a large one
 
@@ -22,40 +23,48 @@ one_more {X} f xs ys i d new below same is written =
 
 -- ---- what a board accepts
 
--- a memory of 2^28 bytes at most is asked for as it is
-asked_small : (spec : SlotSpec) → IsSmallMemory spec → asked_of_board spec ≡ spec
-asked_small spec small = rw (le-ltb (2 ^ 28) spec.len small) refl
+module _ (version : ℕ) where
+  -- a memory that isn't larger is asked for as it is
+  asked_small : (spec : SlotSpec) → IsSmallMemory version spec → asked_of_board version spec ≡ spec
+  asked_small spec small = rw (le-ltb (most_memory version) (size_of spec.regions) small) refl
 
-asked_large : (spec : SlotSpec) → 2 ^ 28 < spec.len → (asked_of_board spec).len ≡ 0
-asked_large spec large =
-    let test : nat_lt (2 ^ 28) spec.len ≡ true = grind (arith, large) in
-    rw test refl
+  asked_large : (spec : SlotSpec) → most_memory version < size_of spec.regions → (asked_of_board version spec).regions ≡ no_memory
+  asked_large spec large =
+      let test : nat_lt (most_memory version) (size_of spec.regions) ≡ true = grind (arith, large) in
+      rw test refl
 
-small_or_none : (spec : SlotSpec) → 4096 ≤ (asked_of_board spec).len → (2 ^ 28 < spec.len) ⊎ (spec.len ≤ 2 ^ 28) → IsSmallMemory spec
-small_or_none spec some (inl large) = absurd (omega (arith, some, asked_large spec large))
-small_or_none spec some (inr small) = small
+  -- no board takes a region without a byte
+  none_good : AreGood no_memory → ⊥
+  none_good good =
+      let first = good.each 0 (record { base = 0; len = 0 }) (omega arith) refl in
+      let least = first.size.own.least in
+      omega (arith, least)
 
--- slots of which the board is asked for some memory each
-pub all_small : (slots : List SlotSpec) → ((i : ℕ) (spec : SlotSpec) → slice_get (map asked_of_board slots) i ≡ Some spec → 4096 ≤ spec.len) → All IsSmallMemory slots
-all_small slots some = λ k d below.
-    let there : slice_get (map asked_of_board slots) k ≡ Some (asked_of_board (get_or slots k d))
-    = slice_get-map asked_of_board slots k ∙ ap (option_map asked_of_board) (slice_get-get_or slots k d below) in
-    small_or_none (get_or slots k d) (some k (asked_of_board (get_or slots k d)) there) (cases_lt (2 ^ 28) (get_or slots k d).len)
+  small_or_none : (spec : SlotSpec) → AreGood (asked_of_board version spec).regions → (most_memory version < size_of spec.regions) ⊎ (size_of spec.regions ≤ most_memory version) → IsSmallMemory version spec
+  small_or_none spec good (inl large) = absurd (none_good (subst AreGood (asked_large spec large) good))
+  small_or_none spec good (inr small) = small
 
-pub all_asked : (slots : List SlotSpec) → All IsSmallMemory slots → map asked_of_board slots ≡ slots
-all_asked [] small = refl
-all_asked (spec ∷ slots) small =
-    rw (asked_small spec (small 0 spec (omega arith)), all_asked slots (λ k d below. small (suc k) d (omega (arith, below)))) refl
+  -- slots of which the board is asked for good memories
+  pub all_small : (slots : List SlotSpec) → ((i : ℕ) (spec : SlotSpec) → slice_get (map (asked_of_board version) slots) i ≡ Some spec → AreGood spec.regions) → All (IsSmallMemory version) slots
+  all_small slots good = λ k d below.
+      let there : slice_get (map (asked_of_board version) slots) k ≡ Some (asked_of_board version (get_or slots k d))
+      = slice_get-map (asked_of_board version) slots k ∙ ap (option_map (asked_of_board version)) (slice_get-get_or slots k d below) in
+      small_or_none (get_or slots k d) (good k (asked_of_board version (get_or slots k d)) there) (cases_lt (most_memory version) (size_of (get_or slots k d).regions))
+
+  pub all_asked : (slots : List SlotSpec) → All (IsSmallMemory version) slots → map (asked_of_board version) slots ≡ slots
+  all_asked [] small = refl
+  all_asked (spec ∷ slots) small =
+      rw (asked_small spec (small 0 spec (omega arith)), all_asked slots (λ k d below. small (suc k) d (omega (arith, below)))) refl
 
 -- Slots that are asked for as a trace is, of which what was asked for is taken.
-module _ (Taken : List SlotSpec → Type 0) (some : (slots : List SlotSpec) (i : ℕ) (spec : SlotSpec) → Taken slots → slice_get slots i ≡ Some spec → 4096 ≤ spec.len) (slots asked : List SlotSpec) (same : asked ≡ map asked_of_board slots) where
-  taken_small : Taken asked → All IsSmallMemory slots
-  taken_small taken = all_small slots (λ i spec there. some (map asked_of_board slots) i spec (subst Taken same taken) there)
+module _ (version : ℕ) (Taken : List SlotSpec → Type 0) (good : (slots : List SlotSpec) (i : ℕ) (spec : SlotSpec) → Taken slots → slice_get slots i ≡ Some spec → AreGood spec.regions) (slots asked : List SlotSpec) (same : asked ≡ map (asked_of_board version) slots) where
+  taken_small : Taken asked → All (IsSmallMemory version) slots
+  taken_small taken = all_small version slots (λ i spec there. good (map (asked_of_board version) slots) i spec (subst Taken same taken) there)
 
   as_described : Taken asked → asked ≡ slots
-  as_described taken = same ∙ all_asked slots (taken_small taken)
+  as_described taken = same ∙ all_asked version slots (taken_small taken)
 
-  pub small_of : {V E : Type 0} (result : Result V E) → OnOk result (Taken asked) → OnOk result (All IsSmallMemory slots)
+  pub small_of : {V E : Type 0} (result : Result V E) → OnOk result (Taken asked) → OnOk result (All (IsSmallMemory version) slots)
   small_of (Ok v) taken = taken_small taken
   small_of (Err e) taken = tt
 
@@ -70,30 +79,30 @@ module _ (Taken : List SlotSpec → Type 0) (some : (slots : List SlotSpec) (i :
 
 -- ---- over an image
 
-accepted_some : (sectors cache : ℕ) (slots : List SlotSpec) (i : ℕ) (spec : SlotSpec) → IsAccepted sectors slots cache → slice_get slots i ≡ Some spec → 4096 ≤ spec.len
-accepted_some sectors cache slots i spec accepted there = (accepted.slots_good.each i spec (slice_get_within slots i spec there) there).memory.size.least
+accepted_good : (sectors cache : ℕ) (slots : List SlotSpec) (i : ℕ) (spec : SlotSpec) → IsAccepted sectors slots cache → slice_get slots i ≡ Some spec → AreGood spec.regions
+accepted_good sectors cache slots i spec accepted there = (accepted.slots_good.each i spec (slice_get_within slots i spec there) there).memory
 
-module _ (sectors cache : ℕ) (slots asked : List SlotSpec) (same : asked ≡ map asked_of_board slots) where
-  pub small_when : {V E : Type 0} (result : Result V E) → OnOk result (IsAccepted sectors asked cache) → OnOk result (All IsSmallMemory slots)
-  small_when result accepted = small_of (λ s. IsAccepted sectors s cache) (accepted_some sectors cache) slots asked same result accepted
+module _ (version sectors cache : ℕ) (slots asked : List SlotSpec) (same : asked ≡ map (asked_of_board version) slots) where
+  pub small_when : {V E : Type 0} (result : Result V E) → OnOk result (IsAccepted sectors asked cache) → OnOk result (All (IsSmallMemory version) slots)
+  small_when result accepted = small_of version (λ s. IsAccepted sectors s cache) (accepted_good sectors cache) slots asked same result accepted
 
   pub accepted_when : {V E : Type 0} (result : Result V E) → OnOk result (IsAccepted sectors asked cache) → OnOk result (IsAccepted sectors slots cache)
-  accepted_when result accepted = taken_of (λ s. IsAccepted sectors s cache) (accepted_some sectors cache) slots asked same result accepted
+  accepted_when result accepted = taken_of version (λ s. IsAccepted sectors s cache) (accepted_good sectors cache) slots asked same result accepted
 
   pub made_when : {V E : Type 0} (Made : V → List SlotSpec → Type 0) (result : Result V E) → OnOk result (IsAccepted sectors asked cache) → IfOk result (λ v. Made v asked) → IfOk result (λ v. Made v slots)
-  made_when Made result accepted made = made_of (λ s. IsAccepted sectors s cache) (accepted_some sectors cache) slots asked same Made result accepted made
+  made_when Made result accepted made = made_of version (λ s. IsAccepted sectors s cache) (accepted_good sectors cache) slots asked same Made result accepted made
 
 -- ---- where the host serves the disks
 
-hosted_some : (slots : List SlotSpec) (i : ℕ) (spec : SlotSpec) → AreGoodHosted slots → slice_get slots i ≡ Some spec → 4096 ≤ spec.len
-hosted_some slots i spec good there = (good.each i spec (slice_get_within slots i spec there) there).memory.size.least
+hosted_good : (slots : List SlotSpec) (i : ℕ) (spec : SlotSpec) → AreGoodHosted slots → slice_get slots i ≡ Some spec → AreGood spec.regions
+hosted_good slots i spec good there = (good.each i spec (slice_get_within slots i spec there) there).memory
 
-module _ (slots asked : List SlotSpec) (same : asked ≡ map asked_of_board slots) where
-  pub hosted_small_when : {V E : Type 0} (result : Result V E) → OnOk result (AreGoodHosted asked) → OnOk result (All IsSmallMemory slots)
-  hosted_small_when result accepted = small_of AreGoodHosted hosted_some slots asked same result accepted
+module _ (version : ℕ) (slots asked : List SlotSpec) (same : asked ≡ map (asked_of_board version) slots) where
+  pub hosted_small_when : {V E : Type 0} (result : Result V E) → OnOk result (AreGoodHosted asked) → OnOk result (All (IsSmallMemory version) slots)
+  hosted_small_when result accepted = small_of version AreGoodHosted hosted_good slots asked same result accepted
 
   pub hosted_accepted_when : {V E : Type 0} (result : Result V E) → OnOk result (AreGoodHosted asked) → OnOk result (AreGoodHosted slots)
-  hosted_accepted_when result accepted = taken_of AreGoodHosted hosted_some slots asked same result accepted
+  hosted_accepted_when result accepted = taken_of version AreGoodHosted hosted_good slots asked same result accepted
 
   pub hosted_made_when : {V E : Type 0} (Made : V → List SlotSpec → Type 0) (result : Result V E) → OnOk result (AreGoodHosted asked) → IfOk result (λ v. Made v asked) → IfOk result (λ v. Made v slots)
-  hosted_made_when Made result accepted made = made_of AreGoodHosted hosted_some slots asked same Made result accepted made
+  hosted_made_when Made result accepted made = made_of version AreGoodHosted hosted_good slots asked same Made result accepted made

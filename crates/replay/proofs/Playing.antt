@@ -32,7 +32,7 @@ replays disk input old new before after (Err NoMemory) plays = plays
 -- The board of the slots that were judged, and what came of the lines of their events.
 pub played : {A I : Type 0} (disk : I → Disk) (text : List ℕ) (old new : Option (List ℕ)) (before after : I) (outcome : Result (Unit {0}) ReplayFault) (j : Judgement) (disks : Disks) (slots : List SlotSpec)
     → IsJudged A text j → j.disks ≡ disks → slots ≡ j.slots
-    → (¬ HasTooMany (front A j.version disks slots)) → All IsSmallMemory slots → AcceptsBy disks (disk before).sector_count slots
+    → (¬ HasTooMany (front A j.version disks slots)) → All (IsSmallMemory j.version) slots → AcceptsBy disks (disk before).sector_count slots
     → ((events : List (Event A)) → AreLinesOf events j.events → AfterRun disks disk slots events before after old new outcome)
     → Replays A disk (Some text) old new before after outcome
 played {A} {I} disk text old new before after outcome j disks slots is kind same few small accepted ended =
@@ -46,7 +46,7 @@ played {A} {I} disk text old new before after outcome j disks slots is kind same
         version = sym is.version ∙ many.version;
         many = subst (λ (s : List SlotSpec). 16 < length s) (sym described) many.many;
       });
-      small = subst (λ (s : List SlotSpec). All IsSmallMemory s) described small;
+      small = subst (λ (v : ℕ). All (IsSmallMemory v) is.trace.slots) (sym is.version) (subst (λ (s : List SlotSpec). All (IsSmallMemory j.version) s) described small);
       accepted = subst (λ (s : List SlotSpec). AcceptsBy is.trace.disks (disk before).sector_count s) described
           (subst (λ (d : Disks). AcceptsBy d (disk before).sector_count slots) placed accepted);
       ended = subst (λ (s : List SlotSpec). AfterRun is.trace.disks disk s is.trace.events before after old new outcome) described
@@ -62,7 +62,7 @@ few_hosted text j slots is kind many =
 -- the same over an image
 pub played_over : {A I : Type 0} (disk : I → Disk) (text : List ℕ) (old new : Option (List ℕ)) (before after : I) (outcome : Result (Unit {0}) ReplayFault) (j : Judgement) (capacity : ℕ) (slots : List SlotSpec) (board : BoardState I)
     → IsJudged A text j → j.disks ≡ Cached capacity → slots ≡ j.slots → board ≡ record { slots = map opened slots; image = before }
-    → (¬ HasTooMany (front A j.version (Cached capacity) slots)) → All IsSmallMemory slots → IsAccepted (disk before).sector_count slots capacity
+    → (¬ HasTooMany (front A j.version (Cached capacity) slots)) → All (IsSmallMemory j.version) slots → IsAccepted (disk before).sector_count slots capacity
     → ((specs : List SlotSpec) (events : List (Event A)) → board.slots ≡ map opened specs → AreLinesOf events j.events → AfterRun (Cached capacity) disk specs events board.image after old new outcome)
     → Replays A disk (Some text) old new before after outcome
 played_over {A} {I} disk text old new before after outcome j capacity slots board is kind same made few small accepted ended =
@@ -72,7 +72,7 @@ played_over {A} {I} disk text old new before after outcome j capacity slots boar
 
 -- and on a board whose disks the host serves
 pub played_hosted : {A I : Type 0} (disk : I → Disk) (text : List ℕ) (old new : Option (List ℕ)) (before after : I) (outcome : Result (Unit {0}) ReplayFault) (j : Judgement) (slots : List SlotSpec) (board : List HostedState)
-    → IsJudged A text j → j.disks ≡ Hosted → slots ≡ j.slots → board ≡ map hosted_opened slots → All IsSmallMemory slots → AreGoodHosted slots
+    → IsJudged A text j → j.disks ≡ Hosted → slots ≡ j.slots → board ≡ map hosted_opened slots → All (IsSmallMemory j.version) slots → AreGoodHosted slots
     → ((specs : List SlotSpec) (events : List (Event A)) → board ≡ map hosted_opened specs → AreLinesOf events j.events → AfterRun Hosted disk specs events before after old new outcome)
     → Replays A disk (Some text) old new before after outcome
 played_hosted disk text old new before after outcome j slots board is kind same made small accepted ended =
@@ -97,8 +97,9 @@ refused_board disk text old before after fault j disks slots is kind same image 
         )
         | inr own ↦ inr (
           λ many. own.0 (record { version = sym is.version ∙ many.version; many = subst (λ (s : List SlotSpec). 16 < length s) (sym described) many.many }),
-          subst (λ (s : List SlotSpec). RefusesBy is.trace.disks sectors (map asked_of_board s) fault) described
-              (subst (λ (d : Disks). RefusesBy d sectors (map asked_of_board slots) fault) placed own.1),
+          subst (λ (s : List SlotSpec). RefusesBy is.trace.disks sectors (map (asked_of_board is.trace.version) s) fault) described
+              (subst (λ (d : Disks). RefusesBy d sectors (map (asked_of_board is.trace.version) slots) fault) placed
+              (subst (λ (v : ℕ). RefusesBy disks sectors (map (asked_of_board v) slots) fault) (sym is.version) own.1)),
         )
       ];
     }

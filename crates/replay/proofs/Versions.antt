@@ -1,6 +1,7 @@
 -- Two traces that differ in their version alone are replayed alike.
-use Rattle.std.proofs.Common.{◌≡◌, ◌≤◌, ℕ, List, Option, Some, Result, Ok, Err, refl, sym, subst, arith, inl, inr}
+use Rattle.std.proofs.Common.{◌≡◌, ◌∙◌, ◌≤◌, ◌^◌, ℕ, Bool, true, false, nat_lt, if◌then◌else◌, List, Option, Some, Result, Ok, Err, refl, sym, subst, arith, inl, inr}
 use Rattle.std.specs.Prelude.{All}
+use Rattle.std.proofs.lemmas.Bool.{false≢true, ltb-true}
 use Rattle.sector_cache.specs.Disk.{Disk}
 use Rattle.board.specs.declared.event.Event.{Event}
 use Rattle.board.specs.declared.fault.BoardFault.{BoardFault}
@@ -10,19 +11,33 @@ use Rattle.trace.specs.declared.fault.TraceFault.{TraceFault}
 use Rattle.replay.specs.declared.fault.ReplayFault.{ReplayFault}
 use Rattle.replay.specs.declared.fault.ReplayFault.TheVariants.{Read, Trace, Board, Run, Write, NoMemory}
 use Rattle.trace.specs.Printable.{IsPrintable}
-use Rattle.replay.specs.Limits.{IsSmallMemory}
-use Rattle.replay.specs.Replay.{AcceptsBy, AfterRun, HasTooMany, Plays, RefusesBoard, RefusesBoardOf, RefusesTrace, Replays}
+use Rattle.replay.specs.Limits.{IsSmallMemory, asked_of_board, most_memory}
+use Rattle.replay.specs.Replay.{AcceptsBy, AfterRun, HasTooMany, IsAdmitted, Plays, RefusesBoard, RefusesBoardOf, RefusesBy, RefusesTrace, Replays}
 use Rattle.trace.specs.Reading.{IsTraceOf}
 use Rattle.trace.specs.Text.{Content, as_version, text}
 use Rattle.trace.specs.Version.{IsVersion}
+use Rattle.replay.proofs.Limiting.{all_asked}
 use Rattle.trace.proofs.Sofar.{Fits}
 use Rattle.trace.proofs.Unique.{no_fault, one_trace, text_clean}
 use Rattle.trace.proofs.Versions.{first_is_1, fits_later}
 
--- it has a text, and its version doesn't refuse its slots
+-- it has a text, and its version admits it
 pub record MayReplay {A : Type 0} (t : Content A) : Type 0 where
   pub fits : Fits t
-  pub few : ¬ HasTooMany t
+  pub admitted : IsAdmitted t
+
+-- a later version admits the same memories and more
+most_by : (early late : Bool) → (late ≡ true → early ≡ true) → (if early then 2 ^ 28 else 2 ^ 32) ≤ (if late then 2 ^ 28 else 2 ^ 32)
+most_by true true h = omega arith
+most_by true false h = omega arith
+most_by false false h = omega arith
+most_by false true h = absurd (false≢true (h refl))
+
+most_later : (v w : ℕ) → v ≤ w → most_memory v ≤ most_memory w
+most_later v w le = most_by (nat_lt v 3) (nat_lt w 3) (λ e. let below = ltb-true w 3 e in grind (arith, below, le))
+
+later_small : (v w : ℕ) (slots : List SlotSpec) → v ≤ w → All (IsSmallMemory v) slots → All (IsSmallMemory w) slots
+later_small v w slots le h = λ k d lt. let own = h k d lt in let more = most_later v w le in omega (arith, own, more)
 
 pub as_version_may : {A : Type 0} (version : ℕ) (t : Content A) → IsVersion version → t.version ≤ version → MayReplay t → MayReplay (as_version version t)
 as_version_may version t one_of le h = record {
@@ -30,7 +45,10 @@ as_version_may version t one_of le h = record {
     range = record { disks = h.fits.range.disks; slots = h.fits.range.slots; events = h.fits.range.events };
     printable = fits_later version t one_of le h.fits.printable;
   };
-  few = λ many. h.few (record { version = first_is_1 t.version version h.fits.printable.version le many.version; many = many.many });
+  admitted = record {
+    few = λ many. h.admitted.few (record { version = first_is_1 t.version version h.fits.printable.version le many.version; many = many.many });
+    small = later_small t.version version t.slots le h.admitted.small;
+  };
 }
 
 is_trace : {A : Type 0} (t : Content A) → Fits t → IsTraceOf (text t) t
@@ -59,8 +77,8 @@ module _ {A I : Type 0} (disk : I → Disk) (old new : Option (List ℕ)) (befor
       record {
         trace = other;
         read = is_trace other second.fits;
-        few = second.few;
-        small = subst (λ (t : Content A). All IsSmallMemory t.slots) is p.small;
+        few = second.admitted.few;
+        small = second.admitted.small;
         accepted = subst (λ (t : Content A). AcceptsBy t.disks (disk before).sector_count t.slots) is p.accepted;
         ended = subst (λ (t : Content A). AfterRun t.disks disk t.slots t.events before after old new outcome) is p.ended;
       }
@@ -72,7 +90,10 @@ module _ {A I : Type 0} (disk : I → Disk) (old new : Option (List ℕ)) (befor
         untouched = p.untouched;
         trace = other;
         read = is_trace other second.fits;
-        refused = elim (subst (λ (t : Content A). RefusesBoardOf (disk before).sector_count t fault) is p.refused) [ inl many ↦ absurd (first.few many.0) | inr own ↦ inr (second.few, own.1) ];
+        refused = elim (subst (λ (t : Content A). RefusesBoardOf (disk before).sector_count t fault) is p.refused) [
+          | inl many ↦ absurd (first.admitted.few many.0)
+          | inr own ↦ inr (second.admitted.few, subst (λ (asked : List SlotSpec). RefusesBy disks (disk before).sector_count asked fault) (all_asked v slots first.admitted.small ∙ sym (all_asked w slots second.admitted.small)) own.1)
+        ];
       }
 
   -- only memory may have been wanting

@@ -74,6 +74,11 @@ pub record HasTooMany {A : Type 0} (trace : Content A) : Type 0 where
   pub version : trace.version ≡ 1
   pub many : 16 < length trace.slots
 
+-- a trace as its version admits it: it hasn't too many slots, and no memory is too large
+pub record IsAdmitted {A : Type 0} (trace : Content A) : Type 0 where
+  pub few : ¬ HasTooMany trace
+  pub small : All (IsSmallMemory trace.version) trace.slots
+
 -- which slots there may be on the board of a trace, and why it is refused, by where its disks are: over an image of so
 -- many sectors, or each on a disk of its own
 abbrev pub AcceptsBy : Disks → ℕ → List SlotSpec → Type 0
@@ -88,14 +93,14 @@ RefusesBy Hosted sectors slots fault = RefusesHosted slots fault
 -- is the fault of the board that is asked for.
 abbrev pub RefusesBoardOf : {A : Type 0} → ℕ → Content A → BoardFault → Type 0
 RefusesBoardOf sectors trace fault =
-    (HasTooMany trace × (fault ≡ TooManySlots)) ⊎ ((¬ HasTooMany trace) × RefusesBy trace.disks sectors (map asked_of_board trace.slots) fault)
+    (HasTooMany trace × (fault ≡ TooManySlots)) ⊎ ((¬ HasTooMany trace) × RefusesBy trace.disks sectors (map (asked_of_board trace.version) trace.slots) fault)
 
 -- the trace was read, there is a board for it, and this came of its events
 pub record Plays {I : Type 0} (A : Type 0) (disk : I → Disk) (input old new : Option (List ℕ)) (before after : I) (outcome : Result (Unit {0}) ReplayFault) : Type 0 where
   pub trace : Content A
   pub read : IfSome input (λ bytes. IsTraceOf bytes trace)
   pub few : ¬ HasTooMany trace
-  pub small : All IsSmallMemory trace.slots
+  pub small : All (IsSmallMemory trace.version) trace.slots
   pub accepted : AcceptsBy trace.disks (disk before).sector_count trace.slots
   pub ended : AfterRun trace.disks disk trace.slots trace.events before after old new outcome
 

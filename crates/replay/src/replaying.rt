@@ -119,7 +119,7 @@ fn replay_hosted<W: Write, I: Image, A: Allocator + Copy>(
     ensures read { result.1 ≢ Err ReplayFault.Read }
     ensures whole { (done : ℕ) → result.1 ≢ Err (ReplayFault.Run done) }
 {
-    match hosted_board_of(alloc, &mut judged.slots) {
+    match hosted_board_of(alloc, judged.version, &mut judged.slots) {
         Ok(board) => run_hosted(alloc, board, judged.events, room, writer, image),
         Err(why) => (image, Err(ReplayFault::Board(why))),
     }
@@ -135,7 +135,7 @@ fn board_of<I: Image, A: Allocator + Copy>(
 ) -> Result<Board<I, A>, Refused<I, BoardFault>>
     ensures made { IfOk result (λ board. board ≡ record { slots = map opened slots.old; image = image }) }
     ensures few { OnOk result (¬ HasTooMany (front A version (Disks.Cached capacity) slots.old)) }
-    ensures small { OnOk result (All IsSmallMemory slots.old) }
+    ensures small { OnOk result (All (IsSmallMemory version) slots.old) }
     ensures accepted { OnOk result (IsAccepted (I.disk image).sector_count slots.old capacity) }
     ensures fault { IfErr result (λ refused. RefusesBoardOf (I.disk image).sector_count (front A version (Disks.Cached capacity) slots.old) refused.why) }
     ensures returned { IfErr result (λ refused. refused.image ≡ image) }
@@ -144,21 +144,22 @@ fn board_of<I: Image, A: Allocator + Copy>(
         let why = BoardFault::TooManySlots;
         return Err(Refused { image, why });
     }
-    limit_memories(slots);
+    limit_memories(version, slots);
     Board::new(alloc, slots, image, capacity)
 }
 
-// The board of a trace whose disks the host serves, with these slots.
+// The board of a trace of this version whose disks the host serves, with these slots.
 fn hosted_board_of<A: Allocator + Copy>(
     alloc: A,
+    version: u8,
     slots: &mut [SlotSpec],
 ) -> Result<HostedBoard<A>, BoardFault>
     ensures made { IfOk result (λ board. board ≡ map hosted_opened slots.old) }
-    ensures small { OnOk result (All IsSmallMemory slots.old) }
+    ensures small { OnOk result (All (IsSmallMemory version) slots.old) }
     ensures accepted { OnOk result (AreGoodHosted slots.old) }
-    ensures fault { IfErr result (RefusesHosted (map asked_of_board slots.old)) }
+    ensures fault { IfErr result (RefusesHosted (map (asked_of_board version) slots.old)) }
 {
-    limit_memories(slots);
+    limit_memories(version, slots);
     HostedBoard::new(alloc, slots)
 }
 

@@ -10,6 +10,7 @@ use crate::wording::{
 };
 use board::{DeviceKind, Event, EventKind, Reply, SlotSpec};
 use chain::{Chain, Fault};
+use guest_memory::RegionSpec;
 use mmio_window::Queue;
 use negotiation::{Features, Flags};
 use std::alloc::{AllocError, Global};
@@ -251,9 +252,7 @@ fn say_slot(text: &mut Text, number: u64, slot: &SlotSpec, disks: Disks) {
     text.say(" guest ");
     text.count(number);
     text.say(": memory ");
-    text.hex(slot.base);
-    text.say("+");
-    text.hex(slot.len);
+    say_regions(text, slot.regions.as_slice());
     text.say(", ");
     text.counted(slot.extent.count, "sector");
     if let Disks::Cached { .. } = disks {
@@ -270,6 +269,18 @@ fn say_slot(text: &mut Text, number: u64, slot: &SlotSpec, disks: Disks) {
     text.say(" by ");
     text.count(u64::from(slot.rows));
     text.say("\n");
+}
+
+// Says the regions of a guest's memory.
+fn say_regions(text: &mut Text, regions: &[RegionSpec]) {
+    for (place, region) in regions.iter().enumerate() {
+        if place > 0 {
+            text.say(" and ");
+        }
+        text.hex(region.base);
+        text.say("+");
+        text.hex(region.len);
+    }
 }
 
 // The queue that an event serves, where it may serve one. That of a block device whose chain is in flight is served by the

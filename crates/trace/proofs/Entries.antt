@@ -1,6 +1,9 @@
 -- The line of a slot, of an event and of the disks: its word, and fields that say what they have to.
-use Rattle.std.proofs.Common.{◌≡◌, ◌≢◌, ◌==◌, ℕ, ◌+◌, ◌*◌, ◌^◌, ◌<◌, Bool, true, false, cond, eqb, if◌then◌else◌, length, List, [], ◌∷◌, get_or, map, refl, sym, ap, subst, ◌∙◌, arith, MatchBool, inl, inr}
+use Rattle.std.proofs.Common.{◌≡◌, ◌≢◌, ◌==◌, ℕ, ◌+◌, ◌*◌, ◌^◌, ◌<◌, ◌≤◌, Bool, true, false, nat_lt, cond, eqb, if◌then◌else◌, length, List, [], ◌∷◌, ◌++◌, All, get_or, map, refl, sym, ap, subst, ◌∙◌, arith, MatchBool, inl, inr}
 use Rattle.std.specs.Prelude.{⊤}
+use Rattle.std.specs.List.{flat_map}
+use Rattle.std.proofs.lemmas.Bool.{ltb-true}
+use Rattle.std.proofs.lemmas.List.{length-append, length-map}
 use Rattle.block_device.specs.declared.operation.Verdict.{Verdict}
 use Rattle.block_device.specs.declared.operation.Verdict.TheVariants.{Done, Failed}
 use Rattle.mmio_window.specs.declared.device_kind.DeviceKind.{DeviceKind}
@@ -12,21 +15,24 @@ use Rattle.board.specs.declared.spec.SlotSpec.{SlotSpec}
 use Rattle.trace.specs.declared.disks.Disks.{Disks}
 use Rattle.trace.specs.declared.disks.Disks.TheVariants as disks
 use Rattle.trace.specs.declared.fault.FaultKind.{FaultKind}
+use Rattle.guest_memory.specs.declared.spec.RegionSpec.{RegionSpec}
+use Rattle.trace.specs.declared.table.Field.{Field}
 use Rattle.trace.specs.declared.table.Field.TheVariants.{Identity}
+use Rattle.trace.specs.declared.table.Field.TheVariants as field
 use Rattle.trace.specs.declared.word.Word.{Word}
 use Rattle.trace.specs.declared.word.Word.TheVariants.{Cache, Hosted, Slot, Read, Write, MemRead, MemWrite, Input, Resize, Restore, Complete}
 use Rattle.trace.specs.Cuts.{fields_of}
 use Rattle.trace.specs.Faults.{AllSay, AreAsMany, MayStand, order, fault_of}
-use Rattle.trace.specs.Printable.{DisksInRange, KindInRange, IsPrintableKind, SlotInRange}
-use Rattle.trace.specs.Refusals.{IsFine}
+use Rattle.trace.specs.Printable.{DisksInRange, KindInRange, IsPrintableKind, IsPrintableMemory, SlotInRange}
+use Rattle.trace.specs.Refusals.{IsFine, IsFineSlot}
 use Rattle.hexadecimal.specs.Spelling.{num, fixed, bytes}
-use Rattle.trace.specs.Spelling.{window, mode, verdict, width_digit}
-use Rattle.trace.specs.Text.{line, disks_fields, disks_line, disks_word, slot_fields, slot_line, event_fields, event_line, what_fields, word_for}
+use Rattle.trace.specs.Spelling.{window, mode, verdict, width_digit, region_text, regions_text}
+use Rattle.trace.specs.Text.{line, disks_fields, disks_line, disks_word, memory_fields, region_fields, slot_fields, slot_line, event_fields, event_line, what_fields, word_for}
 use Rattle.trace.specs.Version.{since_version_2}
 use Rattle.hexadecimal.specs.Fields.{IsNum, IsFixed}
-use Rattle.trace.specs.Words.{Shape, Value, Says, shape_of, shapes, spelled, width_among, IsWidth, IsWordOf}
+use Rattle.trace.specs.Words.{RegionInRange, Shape, Value, Says, behind_memory, fields_in, memory_in, shape_of, shapes, spelled, width_among, IsWidth, IsWordOf}
 use Rattle.trace.proofs.Signs.{bytes_digits}
-use Rattle.trace.proofs.Signs.{Above, AllAbove, above_tested, above_num, above_fixed, fields_of-line, above_line}
+use Rattle.trace.proofs.Signs.{Above, AllAbove, above_append, above_tested, above_num, above_fixed, fields_of-line, above_line}
 
 -- ---- words
 
@@ -164,22 +170,88 @@ last_above : (has : Bool) (s : SlotSpec) → SlotInRange s → AllAbove 32 (if h
 last_above true s h = tt
 last_above false s h = (bytes_digits s.identity h.identity, tt)
 
-abbrev slot_rest : ℕ → SlotSpec → List (List ℕ)
-slot_rest version s =
-    num s.base ∷ num s.len ∷ num s.extent.start ∷ num s.extent.count ∷ mode s.read_only ∷ num s.cols ∷ num s.rows ∷ last_field version s
+-- its memory: one region by two fields, or all regions by one
+abbrev memory_row : Bool → List Field
+memory_row one = if one then field.Base ∷ field.Size ∷ [] else field.Regions ∷ []
 
-slot_said : (version : ℕ) (s : SlotSpec) → SlotInRange s → EachSays (shapes version Slot (slot_rest version s)) (slot_rest version s)
+abbrev memory_texts : Bool → List RegionSpec → List (List ℕ)
+memory_texts one regions = if one then flat_map region_fields regions else regions_text regions ∷ []
+
+memory_said : (one : Bool) (width : List ℕ) (regions : List RegionSpec) → All RegionInRange regions → length regions ≤ 8 → 1 ≤ length regions → (one ≡ true → length regions ≡ 1)
+    → EachSays (map (shape_of width) (memory_row one)) (memory_texts one regions) × (length (memory_texts one regions) ≡ length (memory_row one))
+memory_said false width regions fits few some single = (((regions, record { some = some; few = few; fits = fits; spelled = refl }), tt), refl)
+memory_said true width [] fits few some single = absurd (omega (arith, some))
+memory_said true width (r ∷ []) fits few some single = let h = fits 0 r (omega arith) in ((number 64 r.base h.base, (number 64 r.len h.len, tt)), refl)
+memory_said true width (r ∷ (s ∷ rs)) fits few some single = absurd (omega (arith, single refl))
+
+above_region : (r : RegionSpec) → Above 32 (region_text r)
+above_region r = above_append 32 (num r.base) (43 ∷ num r.len) (above_num r.base) (omega arith, above_num r.len)
+
+above_regions : (regions : List RegionSpec) → Above 32 (regions_text regions)
+above_regions [] = tt
+above_regions (r ∷ []) = above_region r
+above_regions (r ∷ (s ∷ rs)) = above_append 32 (region_text r) (44 ∷ regions_text (s ∷ rs)) (above_region r) (omega arith, above_regions (s ∷ rs))
+
+above_each : (regions : List RegionSpec) → AllAbove 32 (flat_map region_fields regions)
+above_each [] = tt
+above_each (r ∷ rs) = (above_num r.base, (above_num r.len, above_each rs))
+
+memory_above : (one : Bool) (regions : List RegionSpec) → AllAbove 32 (memory_texts one regions)
+memory_above false regions = (above_regions regions, tt)
+memory_above true regions = above_each regions
+
+-- some fields and those behind them
+say_both : (f : Field → Shape) (row more : List Field) (xs ys : List (List ℕ)) → length xs ≡ length row → EachSays (map f row) xs → EachSays (map f more) ys → EachSays (map f (row ++ more)) (xs ++ ys)
+say_both f [] more [] ys e hx hy = hy
+say_both f [] more (x ∷ xs) ys e hx hy = absurd (omega (arith, e))
+say_both f (r ∷ row) more [] ys e hx hy = absurd (omega (arith, e))
+say_both f (r ∷ row) more (x ∷ xs) ys e hx hy = (hx.0, say_both f row more xs ys (omega (arith, e)) hx.1 hy)
+
+above_both : (xs ys : List (List ℕ)) → AllAbove 32 xs → AllAbove 32 ys → AllAbove 32 (xs ++ ys)
+above_both [] ys hx hy = hy
+above_both (x ∷ xs) ys hx hy = (hx.0, above_both xs ys hx.1 hy)
+
+abbrev behind : ℕ → SlotSpec → List (List ℕ)
+behind version s = num s.extent.start ∷ num s.extent.count ∷ mode s.read_only ∷ num s.cols ∷ num s.rows ∷ last_field version s
+
+abbrev slot_rest : ℕ → SlotSpec → List (List ℕ)
+slot_rest version s = memory_fields version s.regions ++ behind version s
+
+memory_of : (version : ℕ) (width : List ℕ) (s : SlotSpec) → IsFineSlot version s
+    → EachSays (map (shape_of width) (memory_in version)) (memory_fields version s.regions) × (length (memory_fields version s.regions) ≡ length (memory_in version))
+memory_of version width s h =
+    memory_said (nat_lt version 3) width s.regions h.fits.regions h.fits.few h.printable.memory.some (λ e. h.printable.memory.one (ltb-true version 3 e))
+
+slot_said : (version : ℕ) (s : SlotSpec) → IsFineSlot version s → EachSays (shapes version Slot (slot_rest version s)) (slot_rest version s)
 slot_said version s h =
-    (number 64 s.base h.base, (number 64 s.len h.len, (number 64 s.extent.start h.start, (number 64 s.extent.count h.count, ((s.read_only, refl), (number 16 s.cols h.cols, (number 16 s.rows h.rows, last_said (version == 1) (width_among (slot_rest version s)) s h)))))))
+    let width = width_among (slot_rest version s) in
+    let memory = memory_of version width s h in
+    say_both (shape_of width) (memory_in version) (behind_memory version) (memory_fields version s.regions) (behind version s) memory.1 memory.0
+    (number 64 s.extent.start h.fits.start, (number 64 s.extent.count h.fits.count, ((s.read_only, refl), (number 16 s.cols h.fits.cols, (number 16 s.rows h.fits.rows, last_said (version == 1) width s h.fits)))))
+
+slot_counted : (version : ℕ) (s : SlotSpec) → IsFineSlot version s → AreAsMany version Slot (slot_rest version s)
+slot_counted version s h =
+    let width = width_among (slot_rest version s) in
+    let memory = memory_of version width s h in
+    omega (
+      arith,
+      memory.1,
+      last_counted (version == 1) width s,
+      length-append (memory_fields version s.regions) (behind version s),
+      length-append (memory_in version) (behind_memory version),
+      length-map (fields_in version Slot) (shape_of width),
+      length-map (since_version_2 version (Identity ∷ [])) (shape_of width),
+    )
 
 slot_above : (version : ℕ) (s : SlotSpec) → SlotInRange s → AllAbove 32 (slot_rest version s)
 slot_above version s h =
-    (above_num s.base, (above_num s.len, (above_num s.extent.start, (above_num s.extent.count, (above_mode s.read_only, (above_num s.cols, (above_num s.rows, last_above (version == 1) s h)))))))
+    above_both (memory_fields version s.regions) (behind version s) (memory_above (nat_lt version 3) s.regions)
+    (above_num s.extent.start, (above_num s.extent.count, (above_mode s.read_only, (above_num s.cols, (above_num s.rows, last_above (version == 1) s h)))))
 
-pub entered_slot : (version : ℕ) (s : SlotSpec) → SlotInRange s → Entered version (slot_line version s) Slot
+pub entered_slot : (version : ℕ) (s : SlotSpec) → IsFineSlot version s → Entered version (slot_line version s) Slot
 unfolding slot_line
 entered_slot version s h =
-    entered version (slot_line version s) Slot (slot_rest version s) refl (omega (arith, last_counted (version == 1) (width_among (slot_rest version s)) s)) (slot_said version s h) (slot_above version s h)
+    entered version (slot_line version s) Slot (slot_rest version s) refl (slot_counted version s h) (slot_said version s h) (slot_above version s h.fits)
 
 -- a value within a width, beside that width
 says_value : (width value : ℕ) → IsWidth width → value < 2 ^ (8 * width) → Says (Value (width_digit width)) (fixed (2 * width) value)

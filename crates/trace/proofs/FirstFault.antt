@@ -12,7 +12,7 @@ use Rattle.trace.specs.Faults.{AllSay, IsAtFault, fault_of, first_field, order, 
 use Rattle.trace.specs.declared.table.Field.{Field}
 use Rattle.trace.specs.declared.word.Word.{Word}
 use Rattle.trace.specs.Cuts.{fields_of}
-use Rattle.trace.specs.Words.{AllRight, AreRight, Says, Shape, Num, Offset, Value, Window, Width, Mode, Verdict, Bytes, Identity, fields_in, shape_of, shapes, spelled, width_among}
+use Rattle.trace.specs.Words.{AllRight, AreRight, Says, Shape, Num, Regions, Offset, Value, Window, Width, Mode, Verdict, Bytes, Identity, fields_in, shape_of, shapes, spelled, width_among}
 use Rattle.trace.proofs.Entries.{one_way, same_word}
 use Rattle.trace.proofs.Unique.{same_kind}
 
@@ -145,6 +145,7 @@ none_found kind ss fs width (Some f) false is some all = (λ e. absurd cc, λ h.
 
 one_right : (shape : Shape) (field : List ℕ) → MatchBool (order (fault_of shape) == order kind.Number) (Says shape field) ⊤ → MatchBool (order (fault_of shape) == order kind.Choice) (Says shape field) ⊤ → MatchBool (order (fault_of shape) == order kind.Bytes) (Says shape field) ⊤ → Says shape field
 one_right (Num bits) field n c b = n
+one_right Regions field n c b = n
 one_right Offset field n c b = n
 one_right (Value width) field n c b = n
 one_right Window field n c b = c

@@ -1,5 +1,6 @@
 pub mod Versions
 pub mod Cutting
+pub mod RegionFields
 pub mod Signs
 pub mod Fronts
 pub mod Widths

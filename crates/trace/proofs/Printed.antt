@@ -53,14 +53,6 @@ text_is c =
     sym (joined_append (header c.version ∷ disks_line c.disks ∷ map (slot_line c.version) c.slots) (map event_line c.events)
     ∙ ap (λ (t : List ℕ). t ++ joined (map event_line c.events)) (joined_append (header c.version ∷ disks_line c.disks ∷ []) (map (slot_line c.version) c.slots) ∙ ap (λ (t : List ℕ). t ++ joined (map (slot_line c.version) c.slots)) (front_is c.version c.disks)))
 
--- the same at any default
-pub joined_at : {X : Type 0} (f : X → List ℕ) (front : List ℕ) (xs : List X) (i : ℕ) (d : X) → i < length xs → (front ++ joined (map f (take i xs))) ++ ended (f (get_or xs i d)) ≡ front ++ joined (map f (take (i + 1) xs))
-joined_at f front xs i d lt = joined_more f front xs i (get_or xs i d) lt (get_or_default xs i d (get_or xs i d) lt)
-
--- what stands past the end of a list of slots
-abbrev pub no_slot : SlotSpec
-no_slot = record { base = 0; len = 0; extent = record { start = 0; count = 0 }; read_only = false; cols = 0; rows = 0; identity = [] }
-
 -- a trace has a text where four tests say so, of which the first three passed
 pub printable_when : {A : Type 0} (t : Content A) (front slots lines words : Bool) → IsTrue front ↔ (IsVersion t.version × IsWordOf t.version (disks_word t.disks))
     → IsTrue slots ↔ All (IsPrintableSlot t.version) t.slots → IsTrue lines ↔ All (λ e. IsPrintableKind e.what) t.events → IsTrue words ↔ All (λ e. IsWordOf t.version (word_for e.what)) t.events

@@ -31,8 +31,8 @@ pub record Fits {A : Type 0} (c : Content A) : Type 0 where
   pub range : InRange c
   pub printable : IsPrintable c
 
-slot_lines : (version : ℕ) (slots : List SlotSpec) → All SlotInRange slots → All (IsSlotLine version) (map (slot_line version) slots)
-slot_lines version slots h = All-map (IsSlotLine version) (slot_line version) slots (All-weaker SlotInRange (λ s. IsSlotLine version (slot_line version s)) (entered_slot version) slots h)
+slot_lines : (version : ℕ) (slots : List SlotSpec) → All SlotInRange slots → All (IsPrintableSlot version) slots → All (IsSlotLine version) (map (slot_line version) slots)
+slot_lines version slots h fine = All-map (IsSlotLine version) (slot_line version) slots (λ k d lt. entered_slot version (get_or slots k d) (record { fits = h k d lt; printable = fine k d lt }))
 
 event_lines : {A : Type 0} (version : ℕ) (events : List (Event A)) → All EventInRange events → All (λ e. IsPrintableKind e.what) events → All (λ e. IsWordOf version (word_for e.what)) events → All (EnteredEvent version) (map event_line events)
 event_lines version events range fine words = All-map (EnteredEvent version) event_line events (λ k d lt. entered_event version (get_or events k d) (record { fits = range k d lt; printable = fine k d lt }) (words k d lt))
@@ -50,7 +50,7 @@ pub unbroken : {A : Type 0} (c : Content A) → Fits c → AllAbove 10 (trace_li
 unfolding trace_lines
 unbroken c h =
     let second = entered_disks c.version c.disks h.range.disks h.printable.disks in
-    (above_header c.version, (second.entry.unbroken, above_lines (map (slot_line c.version) c.slots) (map event_line c.events) (unbroken_slots c.version (map (slot_line c.version) c.slots) (slot_lines c.version c.slots h.range.slots)) (unbroken_events c.version (map event_line c.events) (event_lines c.version c.events h.range.events h.printable.events h.printable.words))))
+    (above_header c.version, (second.entry.unbroken, above_lines (map (slot_line c.version) c.slots) (map event_line c.events) (unbroken_slots c.version (map (slot_line c.version) c.slots) (slot_lines c.version c.slots h.range.slots h.printable.slots)) (unbroken_events c.version (map event_line c.events) (event_lines c.version c.events h.range.events h.printable.events h.printable.words))))
 
 pub some_lines : (text : List ℕ) → 0 < length (lines_of text)
 unfolding lines_of
@@ -77,7 +77,7 @@ module _ {A : Type 0} (text : List ℕ) (c : Content A) (k : ℕ) (rest : List �
   good_before j le lt =
       let count = s.count in
       good c.version text (disks_line c.disks) (map (slot_line c.version) c.slots) (map event_line c.events) (lines_of rest) parts (some_lines rest) s.fits.printable.version
-      (entered_disks c.version c.disks s.fits.range.disks s.fits.printable.disks) (slot_lines c.version c.slots s.fits.range.slots) (event_lines c.version c.events s.fits.range.events s.fits.printable.events s.fits.printable.words) j le (omega (arith, slots_len, events_len))
+      (entered_disks c.version c.disks s.fits.range.disks s.fits.printable.disks) (slot_lines c.version c.slots s.fits.range.slots s.fits.printable.slots) (event_lines c.version c.events s.fits.range.events s.fits.printable.events s.fits.printable.words) j le (omega (arith, slots_len, events_len))
 
   pub clean : IsCleanBefore text k
   clean j le lt fault = good_passes c.version text j (good_before j le lt) fault
@@ -116,7 +116,7 @@ module _ {A : Type 0} (text : List ℕ) (c : Content A) (k : ℕ) (rest : List �
         | inl so ↦ absurd (r.ordered so (same_word r.word Slot (sym r.first ∙ slot)))
         | inr not_yet ↦
             only_slots c.version text (disks_line c.disks) (map (slot_line c.version) c.slots) (map event_line c.events) (lines_of rest) parts (some_lines rest) s.fits.printable.version
-            (entered_disks c.version c.disks s.fits.range.disks s.fits.printable.disks) (slot_lines c.version c.slots s.fits.range.slots) (event_lines c.version c.events s.fits.range.events s.fits.printable.events s.fits.printable.words) (events_len ∙ none not_yet) j low (omega (arith, slots_len, events_len))
+            (entered_disks c.version c.disks s.fits.range.disks s.fits.printable.disks) (slot_lines c.version c.slots s.fits.range.slots s.fits.printable.slots) (event_lines c.version c.events s.fits.range.events s.fits.printable.events s.fits.printable.words) (events_len ∙ none not_yet) j low (omega (arith, slots_len, events_len))
       ]
 
   fault_after : (begun : Bool) (fault : FaultKind) → IsEnded text k → 2 ≤ k → (begun ≡ false → length c.events ≡ 0) → RefusesAfterWord c.version begun (line_at text k) fault → fault ≢ kind.NoMemory → IsFault text k fault
@@ -135,7 +135,7 @@ module _ {A : Type 0} (text : List ℕ) (c : Content A) (k : ℕ) (rest : List �
       let begins = some h.0 in
       order_fault text k late clean end (omega arith) h.1 (3 + length (map (slot_line c.version) c.slots)) (omega arith) (omega (arith, slots_len))
       (one_event c.version text (disks_line c.disks) (map (slot_line c.version) c.slots) (map event_line c.events) (lines_of rest) parts (some_lines rest) s.fits.printable.version
-      (entered_disks c.version c.disks s.fits.range.disks s.fits.printable.disks) (slot_lines c.version c.slots s.fits.range.slots) (event_lines c.version c.events s.fits.range.events s.fits.printable.events s.fits.printable.words) (omega (arith, events_len)))
+      (entered_disks c.version c.disks s.fits.range.disks s.fits.printable.disks) (slot_lines c.version c.slots s.fits.range.slots s.fits.printable.slots) (event_lines c.version c.events s.fits.range.events s.fits.printable.events s.fits.printable.words) (omega (arith, events_len)))
   refused begun kind.Fields end late some none h known = fault_after begun kind.Fields end late none h known
   refused begun kind.Number end late some none h known = fault_after begun kind.Number end late none h known
   refused begun kind.Choice end late some none h known = fault_after begun kind.Choice end late none h known

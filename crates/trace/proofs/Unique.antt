@@ -1,7 +1,8 @@
 -- A text belongs to one trace, and the text of a trace has no fault.
-use Rattle.std.proofs.Common.{◌≡◌, ℕ, suc, ◌+◌, ◌*◌, ◌-◌, ◌^◌, ◌<◌, ◌≤◌, Bool, true, false, cond, eqb, List, [], ◌∷◌, ◌++◌, All, length, get_or, drop, map, Result, Ok, refl, sym, ap, subst, ◌∙◌, arith, inl, inr}
+use Rattle.std.proofs.Common.{◌≡◌, ℕ, suc, ◌+◌, ◌*◌, ◌-◌, ◌^◌, ◌<◌, ◌≤◌, Bool, true, false, nat_lt, cond, eqb, if◌then◌else◌, List, [], ◌∷◌, ◌++◌, All, length, get_or, drop, map, Result, Ok, refl, sym, ap, subst, ◌∙◌, arith, inl, inr}
 use Rattle.std.proofs.lemmas.List.{append_cancel_right, append-nil, get_or_past}
-use Rattle.std.proofs.lemmas.Bool.{cases_eq, cases_lt, cases_order}
+use Rattle.std.specs.List.{flat_map}
+use Rattle.std.proofs.lemmas.Bool.{cases_eq, cases_lt, cases_order, ltb-true}
 use Rattle.hex.specs.Hex.{decode_of, encode_lower, lower_digits}
 use Rattle.hex.proofs.HexLemmas.{decode_of-encode_lower, length-encode_with}
 use Rattle.hex.specs.declared.error.FromHexError.{FromHexError}
@@ -13,23 +14,25 @@ use Rattle.board.specs.declared.event.Event.{Event}
 use Rattle.board.specs.declared.event.EventKind.{EventKind}
 use Rattle.board.specs.declared.event.EventKind.TheVariants as what
 use Rattle.board.specs.declared.spec.SlotSpec.{SlotSpec}
+use Rattle.guest_memory.specs.declared.spec.RegionSpec.{RegionSpec}
 use Rattle.trace.specs.declared.disks.Disks.{Disks}
 use Rattle.trace.specs.declared.disks.Disks.TheVariants as kept
 use Rattle.trace.specs.declared.fault.FaultKind.{FaultKind}
 use Rattle.trace.specs.declared.fault.FaultKind.TheVariants as kind
 use Rattle.trace.specs.declared.word.Word.TheVariants.{Slot}
-use Rattle.trace.specs.Cuts.{fields_of, lines_of}
+use Rattle.trace.specs.Cuts.{fields_of, lines_of, parts}
 use Rattle.trace.specs.Faults.{IsCleanBefore, IsEnded, IsFault, Passes, line_at, order}
 use Rattle.trace.specs.Printable.{IsPrintableKind, IsWriteAccess, KindInRange}
 use Rattle.trace.specs.Refusals.{IsFine, IsFineSlot}
-use Rattle.trace.specs.Version.{IsVersion}
-use Rattle.hexadecimal.specs.Spelling.{bytes, fixed}
-use Rattle.trace.specs.Spelling.{mode, verdict, window}
-use Rattle.trace.specs.Text.{Content, disks_fields, disks_line, event_fields, event_line, slot_fields, slot_line, text, trace_lines, what_fields, word_for}
+use Rattle.trace.specs.Version.{IsVersion, since_version_2}
+use Rattle.hexadecimal.specs.Spelling.{bytes, fixed, num}
+use Rattle.trace.specs.Spelling.{mode, region_text, regions_text, verdict, window}
+use Rattle.trace.specs.Text.{Content, disks_fields, disks_line, event_fields, event_line, memory_fields, region_fields, slot_fields, slot_line, text, trace_lines, what_fields, word_for}
 use Rattle.trace.specs.Words.{spelled}
 use Rattle.hexadecimal.proofs.ByteFields.{AreBytes, is_bytes}
 use Rattle.trace.proofs.Entries.{cut_disks, cut_event, cut_slot, entered_event, entered_slot, fits_digits, same_word}
 use Rattle.hexadecimal.proofs.Numbers.{same_fixed, same_num}
+use Rattle.trace.proofs.RegionFields.{region_parts, regions_parts}
 use Rattle.trace.proofs.Signs.{lines_of-joined}
 use Rattle.trace.proofs.Sofar.{Fits, Sofar, clean, lines_left, next_is, unbroken}
 use Rattle.trace.proofs.Versions.{word_of_3}
@@ -70,41 +73,103 @@ field fs gs i e = ap (λ (xs : List (List ℕ)). get_or xs i []) e
 
 -- ---- lines
 
-made_slot : ℕ → ℕ → ℕ → ℕ → Bool → ℕ → ℕ → List ℕ → SlotSpec
-made_slot base len start count read_only cols rows identity =
-    record { base = base; len = len; extent = record { start = start; count = count }; read_only = read_only; cols = cols; rows = rows; identity = identity }
+made_slot : List RegionSpec → ℕ → ℕ → Bool → ℕ → ℕ → List ℕ → SlotSpec
+made_slot regions start count read_only cols rows identity =
+    record { regions = regions; extent = record { start = start; count = count }; read_only = read_only; cols = cols; rows = rows; identity = identity }
+
+-- lists with equally long fronts
+same_halves : (xs ys ls rs : List (List ℕ)) → length xs ≡ length ys → xs ++ ls ≡ ys ++ rs → (xs ≡ ys) × (ls ≡ rs)
+same_halves [] [] ls rs e h = (refl, h)
+same_halves [] (y ∷ ys) ls rs e h = absurd (omega (arith, e))
+same_halves (x ∷ xs) [] ls rs e h = absurd (omega (arith, e))
+same_halves (x ∷ xs) (y ∷ ys) ls rs e h =
+    let head : x ≡ y = cc in
+    let tail : xs ++ ls ≡ ys ++ rs = cc in
+    let both = same_halves xs ys ls rs (omega (arith, e)) tail in
+    (ap (λ (z : List ℕ). z ∷ xs) head ∙ ap (λ (zs : List (List ℕ)). y ∷ zs) both.0, both.1)
+
+-- the memories of slots of one version: one region by its two fields
+same_single : (rs ss : List RegionSpec) → length rs ≡ 1 → length ss ≡ 1 → flat_map region_fields rs ≡ flat_map region_fields ss → rs ≡ ss
+same_single [] ss hr hs e = absurd (omega (arith, hr))
+same_single (r ∷ rs) [] hr hs e = absurd (omega (arith, hs))
+same_single (r ∷ (q ∷ rs)) (s ∷ ss) hr hs e = absurd (omega (arith, hr))
+same_single (r ∷ []) (s ∷ (q ∷ ss)) hr hs e = absurd (omega (arith, hs))
+same_single (r ∷ []) (s ∷ []) hr hs e =
+    let base = same_num r.base s.base (field (flat_map region_fields (r ∷ [])) (flat_map region_fields (s ∷ [])) 0 e) in
+    let len = same_num r.len s.len (field (flat_map region_fields (r ∷ [])) (flat_map region_fields (s ∷ [])) 1 e) in
+    ap (λ (n : ℕ). record { base = n; len = r.len } ∷ []) base ∙ ap (λ (n : ℕ). record { base = s.base; len = n } ∷ []) len
+
+-- all regions by one field
+same_region : (r s : RegionSpec) → region_text r ≡ region_text s → r ≡ s
+same_region r s e =
+    let both = sym (region_parts r) ∙ ap (parts 43) e ∙ region_parts s in
+    let base = same_num r.base s.base (ap (λ (xs : List (List ℕ)). get_or xs 0 []) both) in
+    let len = same_num r.len s.len (ap (λ (xs : List (List ℕ)). get_or xs 1 []) both) in
+    ap (λ (n : ℕ). record { base = n; len = r.len }) base ∙ ap (λ (n : ℕ). record { base = s.base; len = n }) len
+
+same_each : (rs ss : List RegionSpec) → map region_text rs ≡ map region_text ss → rs ≡ ss
+same_each [] [] e = refl
+same_each [] (s ∷ ss) e = absurd (omega (arith, ap length e))
+same_each (r ∷ rs) [] e = absurd (omega (arith, ap length e))
+same_each (r ∷ rs) (s ∷ ss) e =
+    let first : region_text r ≡ region_text s = ap (λ (xs : List (List ℕ)). get_or xs 0 []) e in
+    let others : map region_text rs ≡ map region_text ss = ap (drop 1) e in
+    ap (λ (x : RegionSpec). x ∷ rs) (same_region r s first) ∙ ap (λ (xs : List RegionSpec). s ∷ xs) (same_each rs ss others)
+
+abbrev memory_texts : Bool → List RegionSpec → List (List ℕ)
+memory_texts one regions = if one then flat_map region_fields regions else regions_text regions ∷ []
+
+same_texts : (one : Bool) (rs ss : List RegionSpec) → 1 ≤ length rs → 1 ≤ length ss → (one ≡ true → length rs ≡ 1) → (one ≡ true → length ss ≡ 1) → memory_texts one rs ≡ memory_texts one ss → rs ≡ ss
+same_texts false rs ss hr hs or os e =
+    same_each rs ss (sym (regions_parts rs hr) ∙ ap (parts 44) (ap (λ (xs : List (List ℕ)). get_or xs 0 []) e) ∙ regions_parts ss hs)
+same_texts true rs ss hr hs or os e = same_single rs ss (or refl) (os refl) e
+
+equally_long : (one : Bool) (rs ss : List RegionSpec) → 1 ≤ length rs → 1 ≤ length ss → (one ≡ true → length rs ≡ 1) → (one ≡ true → length ss ≡ 1) → length (memory_texts one rs) ≡ length (memory_texts one ss)
+equally_long false rs ss hr hs or os = refl
+equally_long true [] ss hr hs or os = absurd (omega (arith, hr))
+equally_long true (r ∷ rs) [] hr hs or os = absurd (omega (arith, hs))
+equally_long true (r ∷ (q ∷ rs)) (s ∷ ss) hr hs or os = absurd (omega (arith, or refl))
+equally_long true (r ∷ []) (s ∷ (q ∷ ss)) hr hs or os = absurd (omega (arith, os refl))
+equally_long true (r ∷ []) (s ∷ []) hr hs or os = refl
+
+-- what stands behind a slot's memory
+abbrev behind : ℕ → SlotSpec → List (List ℕ)
+behind version s = num s.extent.start ∷ num s.extent.count ∷ mode s.read_only ∷ num s.cols ∷ num s.rows ∷ since_version_2 version (bytes s.identity ∷ [])
 
 -- the identities of slots of one version
-same_identity : (version : ℕ) (s t : SlotSpec) → IsVersion version → IsFineSlot version s → IsFineSlot version t → slot_fields version s ≡ slot_fields version t → s.identity ≡ t.identity
+same_identity : (version : ℕ) (s t : SlotSpec) → IsVersion version → IsFineSlot version s → IsFineSlot version t → behind version s ≡ behind version t → s.identity ≡ t.identity
 same_identity version s t one_of fs ft e =
     elim one_of [
-      | inl one ↦ fs.printable one ∙ sym (ft.printable one)
+      | inl one ↦ fs.printable.identity one ∙ sym (ft.printable.identity one)
       | inr more ↦ elim more [
-        | inl two ↦ same_bytes s.identity t.identity fs.fits.identity ft.fits.identity (field (slot_fields 2 s) (slot_fields 2 t) 8 (subst (λ (v : ℕ). slot_fields v s ≡ slot_fields v t) two e))
-        | inr three ↦ same_bytes s.identity t.identity fs.fits.identity ft.fits.identity (field (slot_fields 3 s) (slot_fields 3 t) 8 (subst (λ (v : ℕ). slot_fields v s ≡ slot_fields v t) three e))
+        | inl two ↦ same_bytes s.identity t.identity fs.fits.identity ft.fits.identity (field (behind 2 s) (behind 2 t) 5 (subst (λ (v : ℕ). behind v s ≡ behind v t) two e))
+        | inr three ↦ same_bytes s.identity t.identity fs.fits.identity ft.fits.identity (field (behind 3 s) (behind 3 t) 5 (subst (λ (v : ℕ). behind v s ≡ behind v t) three e))
       ]
     ]
 
 same_slot_fields : (version : ℕ) (s t : SlotSpec) → IsVersion version → IsFineSlot version s → IsFineSlot version t → slot_fields version s ≡ slot_fields version t → s ≡ t
 unfolding made_slot
 same_slot_fields version s t one_of fs ft e =
-    let here = field (slot_fields version s) (slot_fields version t) in
-    let base = same_num s.base t.base (here 1 e) in
-    let len = same_num s.len t.len (here 2 e) in
-    let start = same_num s.extent.start t.extent.start (here 3 e) in
-    let count = same_num s.extent.count t.extent.count (here 4 e) in
-    let read_only = same_mode s.read_only t.read_only (here 5 e) in
-    let cols = same_num s.cols t.cols (here 6 e) in
-    let rows = same_num s.rows t.rows (here 7 e) in
-    let identity = same_identity version s t one_of fs ft e in
-    ap (λ (x : ℕ). made_slot x s.len s.extent.start s.extent.count s.read_only s.cols s.rows s.identity) base
-    ∙ ap (λ (x : ℕ). made_slot t.base x s.extent.start s.extent.count s.read_only s.cols s.rows s.identity) len
-    ∙ ap (λ (x : ℕ). made_slot t.base t.len x s.extent.count s.read_only s.cols s.rows s.identity) start
-    ∙ ap (λ (x : ℕ). made_slot t.base t.len t.extent.start x s.read_only s.cols s.rows s.identity) count
-    ∙ ap (λ (x : Bool). made_slot t.base t.len t.extent.start t.extent.count x s.cols s.rows s.identity) read_only
-    ∙ ap (λ (x : ℕ). made_slot t.base t.len t.extent.start t.extent.count t.read_only x s.rows s.identity) cols
-    ∙ ap (λ (x : ℕ). made_slot t.base t.len t.extent.start t.extent.count t.read_only t.cols x s.identity) rows
-    ∙ ap (λ (x : List ℕ). made_slot t.base t.len t.extent.start t.extent.count t.read_only t.cols t.rows x) identity
+    let one = nat_lt version 3 in
+    let single_s : one ≡ true → length s.regions ≡ 1 = λ h. fs.printable.memory.one (ltb-true version 3 h) in
+    let single_t : one ≡ true → length t.regions ≡ 1 = λ h. ft.printable.memory.one (ltb-true version 3 h) in
+    let long = equally_long one s.regions t.regions fs.printable.memory.some ft.printable.memory.some single_s single_t in
+    let halves = same_halves (memory_fields version s.regions) (memory_fields version t.regions) (behind version s) (behind version t) long (ap (drop 1) e) in
+    let regions = same_texts one s.regions t.regions fs.printable.memory.some ft.printable.memory.some single_s single_t halves.0 in
+    let here = field (behind version s) (behind version t) in
+    let start = same_num s.extent.start t.extent.start (here 0 halves.1) in
+    let count = same_num s.extent.count t.extent.count (here 1 halves.1) in
+    let read_only = same_mode s.read_only t.read_only (here 2 halves.1) in
+    let cols = same_num s.cols t.cols (here 3 halves.1) in
+    let rows = same_num s.rows t.rows (here 4 halves.1) in
+    let identity = same_identity version s t one_of fs ft halves.1 in
+    ap (λ (x : List RegionSpec). made_slot x s.extent.start s.extent.count s.read_only s.cols s.rows s.identity) regions
+    ∙ ap (λ (x : ℕ). made_slot t.regions x s.extent.count s.read_only s.cols s.rows s.identity) start
+    ∙ ap (λ (x : ℕ). made_slot t.regions t.extent.start x s.read_only s.cols s.rows s.identity) count
+    ∙ ap (λ (x : Bool). made_slot t.regions t.extent.start t.extent.count x s.cols s.rows s.identity) read_only
+    ∙ ap (λ (x : ℕ). made_slot t.regions t.extent.start t.extent.count t.read_only x s.rows s.identity) cols
+    ∙ ap (λ (x : ℕ). made_slot t.regions t.extent.start t.extent.count t.read_only t.cols x s.identity) rows
+    ∙ ap (λ (x : List ℕ). made_slot t.regions t.extent.start t.extent.count t.read_only t.cols t.rows x) identity
 
 -- the first two bytes of the first field, which differ for each event's word
 sign : List (List ℕ) → ℕ
@@ -230,7 +295,7 @@ same_event_line d e hd he h = same_event_fields d e hd he (sym (cut_event d hd) 
 other_line : {A : Type 0} (version : ℕ) (s : SlotSpec) (e : Event A) → IsFineSlot version s → IsFine e → slot_line version s ≡ event_line e → ⊥
 other_line version s e hs he h =
     let event = entered_event 3 e he (word_of_3 (word_for e.what)) in
-    let slot = entered_slot version s hs.fits in
+    let slot = entered_slot version s hs in
     let words : spelled Slot ≡ spelled event.word = ap (λ (fs : List (List ℕ)). get_or fs 0 []) (sym slot.cut ∙ ap fields_of h ∙ event.entry.cut) in
     event.other (sym (same_word Slot event.word words))
 

@@ -1,8 +1,9 @@
 -- The values of a line's fields, read one after another.
-use Rattle.std.proofs.Common.{◌≡◌, ◌≢◌, ◌==◌, ℕ, Bool, true, false, if◌then◌else◌, ◌+◌, ◌*◌, ◌^◌, ◌<◌, ◌≤◌, List, [], ◌∷◌, ◌++◌, length, get_or, map, take, drop, slice_index_or, refl, sym, ap, subst, ◌∙◌, arith, inl, inr}
+use Rattle.std.proofs.Common.{◌≡◌, ◌≢◌, ◌==◌, ℕ, Bool, true, false, nat_lt, if◌then◌else◌, ◌+◌, ◌*◌, ◌^◌, ◌<◌, ◌≤◌, List, [], ◌∷◌, ◌++◌, length, get_or, map, take, drop, slice_index_or, refl, sym, ap, subst, ◌∙◌, arith, inl, inr}
 use Rattle.std.proofs.lemmas.List.{append-nil, append_assoc, drop_all, drop_more, length-map, map-append, map_more, take_all}
 use Rattle.mmio_window.specs.declared.device_kind.DeviceKind.{DeviceKind}
 use Rattle.trace.specs.declared.table.Field.{Field}
+use Rattle.trace.specs.declared.table.Field.TheVariants as field
 use Rattle.trace.specs.declared.table.Field.TheVariants.{Identity, Sectors}
 use Rattle.trace.specs.declared.value.FieldValue.{FieldValue}
 use Rattle.trace.specs.declared.value.FieldValue.TheVariants as value
@@ -13,7 +14,6 @@ use Rattle.trace.specs.Spelling.{value_text}
 use Rattle.trace.specs.Values.{AreOf, IsOf, SaysValue, SayValues}
 use Rattle.trace.specs.Words.{AllRight, AreRight, IsWidth, Mode, Num, Offset, Says, Shape, Value, Width, Window, fields_in, shape_of, shapes, width_among}
 use Rattle.trace.proofs.Widths.{num_width}
-use Rattle.trace.proofs.Versions.{map_since_version_2}
 
 -- ---- the values so far
 
@@ -68,14 +68,27 @@ module _ (f : Field → Shape) (row : List Field) (vs : List FieldValue) (i : �
 
 -- ---- over the table
 
-last_few : (has : Bool) → length (if has then [] else Identity ∷ []) ≤ 1
-last_few false = omega arith
-last_few true = omega arith
+-- the fields of a slot, where its memory is one region and where its identity is left out
+abbrev slot_row : Bool → Bool → List Field
+slot_row one none =
+    (if one then field.Base ∷ field.Size ∷ [] else field.Regions ∷ []) ++ (field.Start ∷ field.Count ∷ field.Mode ∷ field.Columns ∷ field.Rows ∷ (if none then [] else Identity ∷ []))
+
+slot_row_few : (one none : Bool) → length (slot_row one none) ≤ 8
+slot_row_few false false = omega arith
+slot_row_few false true = omega arith
+slot_row_few true false = omega arith
+slot_row_few true true = omega arith
+
+slot_row_alike : (one none : Bool) (v w : List ℕ) → map (shape_of v) (slot_row one none) ≡ map (shape_of w) (slot_row one none)
+slot_row_alike false false v w = refl
+slot_row_alike false true v w = refl
+slot_row_alike true false v w = refl
+slot_row_alike true true v w = refl
 
 pub at_most_eight : (version : ℕ) (word : Word) → length (fields_in version word) ≤ 8
 at_most_eight version Cache = omega arith
 at_most_eight version Hosted = omega arith
-at_most_eight version Slot = omega (arith, last_few (version == 1))
+at_most_eight version Slot = slot_row_few (nat_lt version 3) (version == 1)
 at_most_eight version Read = omega arith
 at_most_eight version Write = omega arith
 at_most_eight version MemRead = omega arith
@@ -89,9 +102,7 @@ at_most_eight version Complete = omega arith
 pub shapes_by : (version : ℕ) (word : Word) (width : List ℕ) (fields : List (List ℕ)) → (word ≡ Write → width ≡ width_among fields) → map (shape_of width) (fields_in version word) ≡ shapes version word fields
 shapes_by version Cache width fields same = refl
 shapes_by version Hosted width fields same = refl
-shapes_by version Slot width fields same =
-    ap (λ (last : List Shape). Num 64 ∷ Num 64 ∷ Num 64 ∷ Num 64 ∷ Mode ∷ Num 16 ∷ Num 16 ∷ last)
-    (map_since_version_2 (shape_of width) version (Identity ∷ []) ∙ sym (map_since_version_2 (shape_of (width_among fields)) version (Identity ∷ [])))
+shapes_by version Slot width fields same = slot_row_alike (nat_lt version 3) (version == 1) width (width_among fields)
 shapes_by version Read width fields same = refl
 shapes_by version Write width fields same = ap (λ (by : List ℕ). Num 8 ∷ Window ∷ Offset ∷ Width ∷ Value by ∷ []) (same refl)
 shapes_by version MemRead width fields same = refl

@@ -1,4 +1,4 @@
--- A text cut at its line feeds, and a line cut at its spaces.
+-- A text cut at its line feeds, a line cut at its spaces, and a field cut at a sign.
 use Rattle.std.specs.Prelude.{ℕ, Bool, ◌==◌, List, [], Option, Some, None}
 use Rattle.std.specs.List.{slice_split}
 
@@ -22,3 +22,12 @@ fields_of line = slice_split is_space line
 abbrev pub fields_left : Option (List ℕ) → List (List ℕ)
 fields_left None = []
 fields_left (Some rest) = fields_of rest
+
+-- the parts of a field between its bytes of this value
+unfoldable pub parts : ℕ → List ℕ → List (List ℕ)
+parts sign field = slice_split (λ c. c == sign) field
+
+-- the parts after a first one: none, or those of what follows its sign
+abbrev pub parts_left : ℕ → Option (List ℕ) → List (List ℕ)
+parts_left sign None = []
+parts_left sign (Some rest) = parts sign rest

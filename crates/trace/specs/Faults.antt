@@ -7,7 +7,7 @@ use Rattle.trace.specs.declared.word.Word.TheVariants.{Cache, Hosted, Slot}
 use Rattle.trace.specs.Cuts.{lines_of, fields_of}
 use Rattle.trace.specs.Text.{header}
 use Rattle.trace.specs.Version.{IsVersion}
-use Rattle.trace.specs.Words.{IsWordOf, Shape, Num, Offset, Window, Width, Value, Mode, Verdict, Bytes, Identity, Says, spelled, shapes}
+use Rattle.trace.specs.Words.{IsWordOf, Shape, Num, Regions, Offset, Window, Width, Value, Mode, Verdict, Bytes, Identity, Says, spelled, shapes}
 
 -- line k of a text, numbered from 1; a text ends before line k where nothing stands there
 abbrev pub line_at : List ℕ → ℕ → List ℕ
@@ -51,6 +51,7 @@ pub record HasWord (version k : ℕ) (line : List ℕ) : Type 0 where
 -- the kind of fault that a field of a shape is where it says no value
 abbrev pub fault_of : Shape → FaultKind
 fault_of (Num bits) = kind.Number
+fault_of Regions = kind.Number
 fault_of Offset = kind.Number
 fault_of (Value width_field) = kind.Number
 fault_of Window = kind.Choice

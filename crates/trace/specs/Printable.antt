@@ -1,5 +1,5 @@
 -- Which traces have a text.
-use Rattle.std.specs.Prelude.{◌≡◌, ℕ, ◌*◌, ◌^◌, ◌<◌, List, All, ⊤, length}
+use Rattle.std.specs.Prelude.{◌≡◌, ℕ, ◌*◌, ◌^◌, ◌<◌, ◌≤◌, List, All, ⊤, length}
 use Rattle.board.specs.declared.event.Event.{Event}
 use Rattle.board.specs.declared.event.EventKind.{EventKind}
 use Rattle.board.specs.declared.event.EventKind.TheVariants.{Read, Write, MemRead, MemWrite, Input, Resize, Restore, Complete}
@@ -8,7 +8,7 @@ use Rattle.trace.specs.declared.disks.Disks.{Disks}
 use Rattle.trace.specs.declared.disks.Disks.TheVariants.{Cached, Hosted}
 use Rattle.trace.specs.Text.{Content, disks_word, word_for}
 use Rattle.trace.specs.Version.{IsVersion, identity_in_version_1}
-use Rattle.trace.specs.Words.{IsWidth, IsWordOf}
+use Rattle.trace.specs.Words.{IsWidth, IsWordOf, RegionInRange}
 
 -- an access to a register that has a spelling: its offset has three digits, and its width is 1, 2 or 4
 pub record IsAccess (offset width : ℕ) : Type 0 where
@@ -31,9 +31,15 @@ IsPrintableKind (Resize cols rows) = ⊤
 IsPrintableKind (Restore bs) = ⊤
 IsPrintableKind (Complete verdict) = ⊤
 
+-- a memory of so many regions that has a spelling in a version: before version 3 there is one
+pub record IsPrintableMemory (version count : ℕ) : Type 0 where
+  pub some : 1 ≤ count
+  pub one : version < 3 → count ≡ 1
+
 -- a slot that has a line in a version: version 1 leaves its identity out
-abbrev pub IsPrintableSlot : ℕ → SlotSpec → Type 0
-IsPrintableSlot version s = version ≡ 1 → s.identity ≡ identity_in_version_1
+pub record IsPrintableSlot (version : ℕ) (s : SlotSpec) : Type 0 where
+  pub memory : IsPrintableMemory version (length s.regions)
+  pub identity : version ≡ 1 → s.identity ≡ identity_in_version_1
 
 -- a trace that has a text: there is such a version, each of its slots and events has a line, and each line's word is of
 -- that version
@@ -47,8 +53,8 @@ pub record IsPrintable {A : Type 0} (t : Content A) : Type 0 where
 -- What the integers of a trace give by themselves, for a clause that speaks of every trace: in a clause
 -- a number has no upper bound.
 pub record SlotInRange (s : SlotSpec) : Type 0 where
-  pub base : s.base < 2 ^ 64
-  pub len : s.len < 2 ^ 64
+  pub regions : All RegionInRange s.regions
+  pub few : length s.regions ≤ 8
   pub start : s.extent.start < 2 ^ 64
   pub count : s.extent.count < 2 ^ 64
   pub cols : s.cols < 2 ^ 16

@@ -1,5 +1,7 @@
 -- How each field of a trace and of the records is spelled, as a list of ASCII bytes.
-use Rattle.std.specs.Prelude.{ℕ, ◌+◌, ◌*◌, Bool, true, false, List, [], ◌∷◌, codes}
+use Rattle.std.specs.Prelude.{ℕ, ◌+◌, ◌*◌, Bool, true, false, List, [], ◌∷◌, ◌++◌, codes, map}
+use Rattle.std.specs.List.{join_with_byte}
+use Rattle.guest_memory.specs.declared.spec.RegionSpec.{RegionSpec}
 use Rattle.hexadecimal.specs.Spelling.{num, fixed, bytes}
 use Rattle.block_device.specs.declared.operation.Verdict as operation
 use Rattle.block_device.specs.declared.operation.Verdict.TheVariants.{Done, Failed}
@@ -10,6 +12,14 @@ use Rattle.trace.specs.declared.table.Field.{Field}
 use Rattle.trace.specs.declared.table.Field.TheVariants as field
 use Rattle.trace.specs.declared.value.FieldValue.{FieldValue}
 use Rattle.trace.specs.declared.value.FieldValue.TheVariants.{Number, Mode, Window, Offset, Width, Value, Identity, Verdict, Spelled}
+
+-- a region of a guest's memory: its base and its length, with `+` (43) between them
+abbrev pub region_text : RegionSpec → List ℕ
+region_text region = num region.base ++ 43 ∷ num region.len
+
+-- the regions of a memory, with `,` (44) between each two
+abbrev pub regions_text : List RegionSpec → List ℕ
+regions_text regions = join_with_byte 44 (map region_text regions)
 
 -- the window of a kind of device
 abbrev pub window : DeviceKind → List ℕ
@@ -47,6 +57,7 @@ abbrev pub field_text : LineFields → Field → List ℕ
 field_text says field.Sectors = num says.sectors
 field_text says field.Base = num says.base
 field_text says field.Size = num says.size
+field_text says field.Regions = regions_text says.regions.now
 field_text says field.Start = num says.start
 field_text says field.Count = num says.count
 field_text says field.Mode = mode says.read_only

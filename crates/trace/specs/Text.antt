@@ -6,6 +6,7 @@ use Rattle.board.specs.declared.event.Event.{Event}
 use Rattle.board.specs.declared.event.EventKind.{EventKind}
 use Rattle.board.specs.declared.event.EventKind.TheVariants as what
 use Rattle.board.specs.declared.spec.SlotSpec.{SlotSpec}
+use Rattle.guest_memory.specs.declared.spec.RegionSpec.{RegionSpec}
 use Rattle.block_device.specs.declared.operation.Verdict.{Verdict}
 use Rattle.trace.specs.declared.disks.Disks.{Disks}
 use Rattle.trace.specs.declared.disks.Disks.TheVariants as disks
@@ -13,8 +14,8 @@ use Rattle.trace.specs.declared.trace.Trace.{Trace}
 use Rattle.trace.specs.declared.word.Word.{Word}
 use Rattle.trace.specs.declared.word.Word.TheVariants.{Cache, Hosted, Slot, Read, Write, MemRead, MemWrite, Input, Resize, Restore, Complete}
 use Rattle.hexadecimal.specs.Spelling.{num, fixed, bytes}
-use Rattle.trace.specs.Spelling.{window, width_digit, mode, verdict}
-use Rattle.trace.specs.Version.{since_version_2}
+use Rattle.trace.specs.Spelling.{window, width_digit, mode, verdict, regions_text}
+use Rattle.trace.specs.Version.{since_version_2, until_version_3}
 use Rattle.trace.specs.Words.{spelled}
 
 -- a trace without where it lies in memory
@@ -44,11 +45,18 @@ abbrev pub disks_fields : Disks → List (List ℕ)
 disks_fields (disks.Cached capacity) = spelled Cache ∷ num capacity ∷ []
 disks_fields disks.Hosted = spelled Hosted ∷ []
 
+-- the memory of a slot, in a version: its region by two fields, or all its regions by one
+abbrev pub region_fields : RegionSpec → List (List ℕ)
+region_fields region = num region.base ∷ num region.len ∷ []
+
+abbrev pub memory_fields : ℕ → List RegionSpec → List (List ℕ)
+memory_fields version regions = until_version_3 version (flat_map region_fields regions) (regions_text regions ∷ [])
+
 -- a slot, in a version
 abbrev pub slot_fields : ℕ → SlotSpec → List (List ℕ)
 slot_fields version s =
-    spelled Slot ∷ num s.base ∷ num s.len ∷ num s.extent.start ∷ num s.extent.count ∷ mode s.read_only ∷ num s.cols ∷ num s.rows
-    ∷ since_version_2 version (bytes s.identity ∷ [])
+    spelled Slot ∷ (memory_fields version s.regions ++ (num s.extent.start ∷ num s.extent.count ∷ mode s.read_only ∷ num s.cols ∷ num s.rows
+    ∷ since_version_2 version (bytes s.identity ∷ [])))
 
 -- a read and a write of a register, a read and a write of memory
 abbrev pub read_fields : ℕ → DeviceKind → ℕ → ℕ → List (List ℕ)

@@ -1,5 +1,6 @@
 -- The table of a trace's lines: the word that each begins with, and what the fields after it say.
-use Rattle.std.specs.Prelude.{◌≡◌, ℕ, ◌*◌, ◌≤◌, ◌⊎◌, ⊤, Bool, List, [], ◌∷◌, codes, length, map, slice_index_or}
+use Rattle.std.specs.Prelude.{◌≡◌, ℕ, ◌*◌, ◌^◌, ◌<◌, ◌≤◌, ◌⊎◌, ⊤, All, Bool, List, [], ◌∷◌, ◌++◌, codes, length, map, slice_index_or}
+use Rattle.guest_memory.specs.declared.spec.RegionSpec.{RegionSpec}
 use Rattle.mmio_window.specs.declared.device_kind.DeviceKind.{DeviceKind}
 use Rattle.block_device.specs.declared.operation.Verdict as operation
 use Rattle.trace.specs.declared.table.Field.{Field}
@@ -7,8 +8,8 @@ use Rattle.trace.specs.declared.table.Field.TheVariants as field
 use Rattle.trace.specs.declared.word.Word.{Word}
 use Rattle.trace.specs.declared.word.Word.TheVariants.{Cache, Hosted, Slot, Read, Write, MemRead, MemWrite, Input, Resize, Restore, Complete}
 use Rattle.hexadecimal.specs.Fields.{IsBytesField, IsFixed, SpellsBytes, SpellsNumber}
-use Rattle.trace.specs.Spelling.{window, width_digit, mode, verdict}
-use Rattle.trace.specs.Version.{since_version_2}
+use Rattle.trace.specs.Spelling.{window, width_digit, mode, verdict, region_text, regions_text}
+use Rattle.trace.specs.Version.{since_version_2, until_version_3}
 
 -- how many bytes a register access may have
 abbrev pub IsWidth : ℕ → Type 0
@@ -24,9 +25,27 @@ pub record IsIdentityField (field bs : List ℕ) : Type 0 where
   pub bytes_are : IsBytesField field bs
   pub twenty : length bs ≡ 20
 
+-- a region whose base and length have 64 bits
+pub record RegionInRange (region : RegionSpec) : Type 0 where
+  pub base : region.base < 2 ^ 64
+  pub len : region.len < 2 ^ 64
+
+-- the field is one region
+pub record IsRegionField (field : List ℕ) (region : RegionSpec) : Type 0 where
+  pub fits : RegionInRange region
+  pub spelled : field ≡ region_text region
+
+-- the field is the regions of a memory: one to eight
+pub record IsRegionsField (field : List ℕ) (regions : List RegionSpec) : Type 0 where
+  pub some : 1 ≤ length regions
+  pub few : length regions ≤ 8
+  pub fits : All RegionInRange regions
+  pub spelled : field ≡ regions_text regions
+
 -- The shapes of fields. A value is read by the width that another field of its line says.
 pub data Shape : Type 0 where
   Num : (bits : ℕ) → Shape
+  Regions : Shape
   Offset : Shape
   Window : Shape
   Width : Shape
@@ -40,6 +59,7 @@ pub data Shape : Type 0 where
 -- width; where there is no such width, any field may be one.
 abbrev pub Says : Shape → List ℕ → Type 0
 Says (Num bits) field = SpellsNumber bits field
+Says Regions field = (regions : List RegionSpec) × IsRegionsField field regions
 Says Offset field = (n : ℕ) × IsFixed 3 field n
 Says Window field = (kind : DeviceKind) × (field ≡ window kind)
 Says Width field = (width : ℕ) × IsWidthField field width
@@ -74,12 +94,20 @@ IsWordOf version _ = ⊤
 abbrev pub IsInEach : Word → Type 0
 IsInEach word = (version : ℕ) → IsWordOf version word
 
+-- a slot's memory, in a version: base and size of its one region, or all its regions
+abbrev pub memory_in : ℕ → List Field
+memory_in version = until_version_3 version (field.Base ∷ field.Size ∷ []) (field.Regions ∷ [])
+
+-- what stands behind that
+abbrev pub behind_memory : ℕ → List Field
+behind_memory version =
+    field.Start ∷ field.Count ∷ field.Mode ∷ field.Columns ∷ field.Rows ∷ since_version_2 version (field.Identity ∷ [])
+
 -- the fields after each word, in a version
 abbrev pub fields_in : ℕ → Word → List Field
 fields_in version Cache = field.Sectors ∷ []
 fields_in version Hosted = []
-fields_in version Slot =
-    field.Base ∷ field.Size ∷ field.Start ∷ field.Count ∷ field.Mode ∷ field.Columns ∷ field.Rows ∷ since_version_2 version (field.Identity ∷ [])
+fields_in version Slot = memory_in version ++ behind_memory version
 fields_in version Read = field.Slot ∷ field.Window ∷ field.Offset ∷ field.Width ∷ []
 fields_in version Write = field.Slot ∷ field.Window ∷ field.Offset ∷ field.Width ∷ field.Value ∷ []
 fields_in version MemRead = field.Slot ∷ field.Address ∷ field.Length ∷ []
@@ -98,6 +126,7 @@ abbrev pub shape_of : List ℕ → Field → Shape
 shape_of width field.Sectors = Num 32
 shape_of width field.Base = Num 64
 shape_of width field.Size = Num 64
+shape_of width field.Regions = Regions
 shape_of width field.Start = Num 64
 shape_of width field.Count = Num 64
 shape_of width field.Mode = Mode

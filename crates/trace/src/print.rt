@@ -1,10 +1,10 @@
 //! Writing a whole trace.
 //!
-//! `line` writes a line, and `range` says the bounds of its numbers. `records` puts records into the
+//! `line` writes a line, `regions` one of its fields, and `range` says the bounds of its numbers. `records` puts records into the
 //! `buffer` before a writer, `asked` what a host is asked to do, and `write` writes whole texts.
 
 ghost use Rattle.std.specs.Prelude.{◌≡◌, ◌*◌, ◌^◌, ◌<◌, ◌↔◌, ◌++◌, ◌∷◌, All, IsTrue, IfOk, OnOk, map};
-ghost use Rattle.trace.specs.Printable.{InRange, IsAccess, IsPrintable, IsPrintableKind, IsPrintableSlot};
+ghost use Rattle.trace.specs.Printable.{InRange, IsAccess, IsPrintable, IsPrintableKind, IsPrintableMemory, IsPrintableSlot};
 ghost use Rattle.trace.specs.Spelling.{field_text};
 ghost use Rattle.trace.specs.Text.{content, disks_word, text as text_of, ended, event_fields, event_line, front_text, joined, slot_line, word_for};
 ghost use Rattle.trace.specs.Version.{IsVersion};
@@ -15,6 +15,7 @@ mod buffer;
 mod line;
 mod range;
 mod records;
+mod regions;
 mod write;
 
 use crate::disks::{Disks, word_of_disks};
@@ -29,10 +30,11 @@ use crate::trace::Trace;
 use crate::version::{VERSION_1, VERSION_2, VERSION_3, header_of, identity_in_version_1};
 use crate::word::{Word, is_word_of, word_for};
 use board::{Event, EventKind, SlotSpec};
+use guest_memory::RegionSpec;
 use std::alloc::{AllocError, Allocator};
 
-/// Whether the trace has a text: its version is 1, 2 or 3, in version 1 each slot has the identity of that version, only
-/// version 3 has hosted disks, restores and completions, the offset of each register access has three digits, its width is 1, 2 or 4, and a value that
+/// Whether the trace has a text: its version is 1, 2 or 3, in version 1 each slot has the identity of that version, each
+/// memory has a region, only version 3 has several, hosted disks, restores and completions, the offset of each register access has three digits, its width is 1, 2 or 4, and a value that
 /// is written is within that width. Each trace that was read has one.
 pub fn is_printable<A: Allocator>(trace: &Trace<A>) -> bool
     ensures { IsTrue result ↔ IsPrintable (content trace.now) }
@@ -68,7 +70,15 @@ fn slots_have_lines(version: u8, slots: &[SlotSpec]) -> bool
 fn slot_has_line(version: u8, slot: &SlotSpec) -> bool
     ensures { IsTrue result ↔ IsPrintableSlot version slot.now }
 {
-    version != VERSION_1 || slot.identity == identity_in_version_1()
+    has_memory(version, slot.regions.as_slice().len())
+        && (version != VERSION_1 || slot.identity == identity_in_version_1())
+}
+
+// Whether a memory of so many regions has a spelling in a version.
+fn has_memory(version: u8, count: usize) -> bool
+    ensures { IsTrue result ↔ IsPrintableMemory version count }
+{
+    count == 1 || count > 1 && version >= VERSION_3
 }
 
 // Whether each event has a line.
@@ -153,6 +163,7 @@ fn push_slots<A: Allocator>(
     version: u8,
     slots: &[SlotSpec],
 ) -> Result<(), AllocError>
+    requires { All (IsPrintableSlot version) slots.now }
     ensures { OnOk result (out.new.items ≡ out.old.items ++ joined (map (slot_line version) slots.now)) }
 {
     for slot in slots {
@@ -198,11 +209,15 @@ fn push_slot<A: Allocator>(
     version: u8,
     slot: &SlotSpec,
 ) -> Result<(), AllocError>
+    requires { IsPrintableSlot version slot.now }
     ensures { OnOk result (out.new.items ≡ out.old.items ++ ended (slot_line version slot.now)) }
 {
+    let regions = slot.regions.as_slice();
+    let RegionSpec { base, len } = regions[0];
     let fields = LineFields {
-        base: slot.base,
-        size: slot.len,
+        base,
+        size: len,
+        regions,
         start: slot.extent.start,
         count: slot.extent.count,
         read_only: slot.read_only,

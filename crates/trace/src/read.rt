@@ -1,7 +1,7 @@
 //! Reading a whole trace.
 //!
 //! `cut` takes lines and fields off. `entry` and `fields` read one line, whose `values` are read over the table of its
-//! fields, and `frequent` those that come most often. `choice`, `offset` and `identity` read one field, and `number` the front of a line. `said` is the event
+//! fields, and `frequent` those that come most often. `choice`, `offset`, `regions` and `identity` read one field, and `number` the front of a line. `said` is the event
 //! that a line says, with its bytes still spelled. `judging` goes over a whole text and keeps what stands before its
 //! events, `events` takes these one by one, and `at_fault` finds the fault of a line, and its field.
 
@@ -25,6 +25,7 @@ mod identity;
 mod judging;
 mod number;
 mod offset;
+mod regions;
 mod said;
 mod values;
 

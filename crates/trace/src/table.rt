@@ -3,7 +3,7 @@
 ghost use Rattle.std.specs.Prelude.{◌≡◌};
 ghost use Rattle.trace.specs.Words.{fields_in};
 
-use crate::version::VERSION_1;
+use crate::version::{VERSION_1, VERSION_3};
 use crate::word::Word;
 
 /// What a field after the first one says.
@@ -14,6 +14,8 @@ pub enum Field {
     /// Where a slot's memory begins, and how many bytes it has.
     Base,
     Size,
+    /// The regions of a slot's memory.
+    Regions,
     /// The first sector of a slot's extent, and how many it has.
     Start,
     Count,
@@ -45,7 +47,10 @@ pub fn fields_after(version: u8, word: Word) -> &'static [Field]
         Word::Cache => &[Sectors],
         Word::Hosted => &[],
         Word::Slot if version == VERSION_1 => &[Base, Size, Start, Count, Mode, Columns, Rows],
-        Word::Slot => &[Base, Size, Start, Count, Mode, Columns, Rows, Identity],
+        Word::Slot if version < VERSION_3 => {
+            &[Base, Size, Start, Count, Mode, Columns, Rows, Identity]
+        }
+        Word::Slot => &[Regions, Start, Count, Mode, Columns, Rows, Identity],
         Word::Read => &[Slot, Window, Offset, Width],
         Word::Write => &[Slot, Window, Offset, Width, Value],
         Word::MemRead => &[Slot, Address, Length],

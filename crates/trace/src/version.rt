@@ -8,10 +8,10 @@ ghost use Rattle.trace.specs.Version.{IsVersion, identity_in_version_1};
 /// The version whose `slot` lines leave the identity out.
 pub const VERSION_1: u8 = 1;
 
-/// The first version whose `slot` lines end in the identity.
+/// The first version whose `slot` lines end in the identity, and the last one of which a memory has one region.
 pub const VERSION_2: u8 = 2;
 
-/// The version with restores and hosted disks, which has every word.
+/// The version with memories of several regions, restores and hosted disks, which has every word.
 pub const VERSION_3: u8 = 3;
 
 /// The identity of each slot of a version 1 trace.

@@ -6,9 +6,10 @@ mod sessions;
 mod snapshots;
 
 use crate::calls::answer::{put_number, put_word};
+use crate::calls::memory::regions_of;
 use crate::calls::subject::{Stuck, Subject};
 use crate::calls::words::Words;
-use board::{Board, Event, Extent, SlotSpec};
+use board::{Board, Event, Extent, RegionSpec, Regions, SlotSpec};
 use linked_list_allocator::LocalHeap;
 use refusing::RefusingHeap;
 use sector_cache::ScriptedImage;
@@ -87,7 +88,7 @@ impl<'h, B: Allocator> Guests<'h, B> {
     fn ask(&mut self, words: &mut Words<'_>, answer: &mut String) -> Result<(), Stuck> {
         let times = words.u8();
         let outlet = words.u32();
-        let slot = slot_of(words);
+        let slot = slot_of(self.alloc, words)?;
         for _ in 0..times {
             self.guests.push(GuestSpec { slot, outlet })?;
         }
@@ -167,20 +168,25 @@ fn numbers_of(alloc: Global, bytes: &[u8]) -> Result<Vec<u64>, AllocError> {
     Ok(numbers)
 }
 
-// A slot by four words: where its memory begins and how long it is, its first sector, and how many it has.
-fn slot_of(words: &mut Words<'_>) -> SlotSpec {
-    SlotSpec {
-        base: words.u64(),
-        len: words.u64(),
-        extent: Extent {
-            start: words.u64(),
-            count: words.u64(),
-        },
+// A slot by four words: where its memory begins and how long it is, its first sector, and how many it has; and base and
+// length of each further region.
+fn slot_of(alloc: Global, words: &mut Words<'_>) -> Result<SlotSpec, Stuck> {
+    let (base, len) = (words.u64(), words.u64());
+    let (start, count) = (words.u64(), words.u64());
+    let mut list = Vec::new(alloc);
+    list.push(RegionSpec { base, len })?;
+    list.extend_from_slice(&regions_of(alloc, words)?)?;
+    let Some(regions) = Regions::new(&list) else {
+        return Err(Stuck::Conditions);
+    };
+    Ok(SlotSpec {
+        regions,
+        extent: Extent { start, count },
         read_only: false,
         cols: 80,
         rows: 25,
         identity: *b"disk-of-the-tests-01",
-    }
+    })
 }
 
 // The event that a line of a trace says.

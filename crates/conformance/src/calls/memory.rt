@@ -5,9 +5,18 @@ ghost use Rattle.guest_memory.specs.Memory.{SameRange};
 use crate::calls::answer::{put_bytes, put_flag, put_number, put_option, put_result, put_word};
 use crate::calls::subject::{Stuck, Subject};
 use crate::calls::words::Words;
-use guest_memory::GuestMemory;
+use guest_memory::{GuestMemory, RegionSpec};
 use refusing::RefusingHeap;
 use std::alloc::Global;
+
+/// The memory until a call makes another.
+const FIRST: RegionSpec = RegionSpec {
+    base: 0x8000_0000,
+    len: 0x1_0000,
+};
+
+/// How many regions a call may name: more than a memory may have.
+const MOST_REGIONS: u64 = 16;
 
 /// A guest's memory, and the heap on which `new` tries to make one.
 #[derive(Drop)]
@@ -22,7 +31,7 @@ impl Memory {
         Ok(Memory {
             alloc,
             heap: RefusingHeap::new(alloc),
-            mem: memory_of(alloc, 0x8000_0000, 0x1_0000)?,
+            mem: memory_of(alloc, &[FIRST])?,
         })
     }
 
@@ -65,7 +74,7 @@ impl Memory {
 
     // Makes another memory.
     fn replace(&mut self, words: &mut Words<'_>, answer: &mut String) -> Result<(), Stuck> {
-        self.mem = memory_of(self.alloc, words.u64(), words.u64())?;
+        self.mem = memory_of(self.alloc, &regions_of(self.alloc, words)?)?;
         put_word(answer, "ok")
     }
 
@@ -114,19 +123,32 @@ impl Memory {
 
     // Tries to make a memory on the heap that may refuse.
     fn try_new(&self, words: &mut Words<'_>, answer: &mut String) -> Result<(), Stuck> {
-        match GuestMemory::new(&self.heap, words.u64(), words.u64()) {
+        match GuestMemory::with_regions(&self.heap, &regions_of(self.alloc, words)?) {
             Ok(_) => put_word(answer, "ok"),
             Err(fault) => put_result(answer, Err(fault)),
         }
     }
 }
 
-/// A memory of so many bytes from this address on.
-fn memory_of(alloc: Global, base: u64, len: u64) -> Result<GuestMemory, Stuck> {
-    match GuestMemory::new(alloc, base, len) {
+/// A memory of these regions.
+fn memory_of(alloc: Global, regions: &[RegionSpec]) -> Result<GuestMemory, Stuck> {
+    match GuestMemory::with_regions(alloc, regions) {
         Ok(mem) => Ok(mem),
         Err(_) => Err(Stuck::Conditions),
     }
+}
+
+/// The regions that are left of a call: base and length of each.
+pub(crate) fn regions_of(alloc: Global, words: &mut Words<'_>) -> Result<Vec<RegionSpec>, Stuck> {
+    let mut regions = Vec::new(alloc);
+    for _ in 0..MOST_REGIONS {
+        if words.is_done() {
+            break;
+        }
+        let (base, len) = (words.u64(), words.u64());
+        regions.push(RegionSpec { base, len })?;
+    }
+    Ok(regions)
 }
 
 /// A descriptor of either kind of queue: its buffer, and two numbers of 16 bits.

@@ -36,6 +36,11 @@ impl<'a> Words<'a> {
         }
     }
 
+    /// Whether no word is left.
+    pub(crate) fn is_done(&self) -> bool {
+        self.left.is_none()
+    }
+
     /// All that is left, as it stands: no word is left then.
     pub(crate) fn rest(&mut self) -> &'a str {
         match self.left.take() {

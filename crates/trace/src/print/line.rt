@@ -5,9 +5,11 @@ ghost use Rattle.trace.specs.Spelling.{field_text};
 ghost use Rattle.trace.specs.Text.{ended, line};
 ghost use Rattle.trace.specs.Words.{fields_in, spelled};
 
+use crate::print::regions::push_regions;
 use crate::table::{Field, fields_after};
 use crate::word::{Word, spelling_of};
 use board::{DeviceKind, Verdict};
+use guest_memory::RegionSpec;
 use hexadecimal::{push_bytes, push_fixed, push_num};
 use std::alloc::{AllocError, Allocator};
 
@@ -17,6 +19,7 @@ pub(crate) struct LineFields<'a> {
     pub sectors: u32,
     pub base: u64,
     pub size: u64,
+    pub regions: &'a [RegionSpec],
     pub start: u64,
     pub count: u64,
     pub read_only: bool,
@@ -41,6 +44,7 @@ impl Default for LineFields<'_> {
             sectors: 0,
             base: 0,
             size: 0,
+            regions: &[],
             start: 0,
             count: 0,
             read_only: false,
@@ -91,6 +95,7 @@ fn push_field<A: Allocator>(
         Field::Sectors => push_num(out, u64::from(fields.sectors)),
         Field::Base => push_num(out, fields.base),
         Field::Size => push_num(out, fields.size),
+        Field::Regions => push_regions(out, fields.regions),
         Field::Start => push_num(out, fields.start),
         Field::Count => push_num(out, fields.count),
         Field::Mode if fields.read_only => out.extend_from_slice(b"ro"),

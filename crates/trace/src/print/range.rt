@@ -6,10 +6,12 @@
 ghost use Rattle.std.specs.Prelude.{All, ◌^◌, ◌<◌};
 ghost use Rattle.trace.specs.Printable.{DisksInRange, EventInRange, InRange, KindInRange, SlotInRange};
 ghost use Rattle.trace.specs.Text.{content};
+ghost use Rattle.trace.specs.Words.{RegionInRange};
 
 use crate::disks::Disks;
 use crate::trace::Trace;
 use board::{Event, EventKind, SlotSpec};
+use guest_memory::RegionSpec;
 use std::alloc::Allocator;
 
 /// Every number of a trace is one of its type.
@@ -43,13 +45,27 @@ fn slots_in_range(slots: &[SlotSpec])
 fn slot_in_range(slot: &SlotSpec)
     ensures { SlotInRange slot.now }
 {
-    let _base = slot.base;
-    let _len = slot.len;
+    regions_in_range(slot.regions.as_slice());
     let _start = slot.extent.start;
     let _count = slot.extent.count;
     let _cols = slot.cols;
     let _rows = slot.rows;
     bytes_in_range(&slot.identity);
+}
+
+fn regions_in_range(regions: &[RegionSpec])
+    ensures { All RegionInRange regions.now }
+{
+    for region in regions {
+        region_in_range(region);
+    }
+}
+
+fn region_in_range(region: &RegionSpec)
+    ensures { RegionInRange region.now }
+{
+    let _base = region.base;
+    let _len = region.len;
 }
 
 fn events_in_range<A: Allocator>(events: &[Event<A>])

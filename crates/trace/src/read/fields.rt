@@ -2,21 +2,22 @@
 //!
 //! Where a field says no value the answer is `None`; `at_fault` then finds the fault.
 
-ghost use Rattle.std.specs.Prelude.{◌≡◌, ◌≢◌, ◌<◌, ◌^◌, ◌∷◌, [], ℕ, All, IfSome, IfNone, length, map};
+ghost use Rattle.std.specs.Prelude.{◌≡◌, ◌≢◌, ◌<◌, ◌≤◌, ◌^◌, ◌∷◌, ◌++◌, [], ℕ, All, IfSome, IfNone, length, map};
 ghost use Rattle.std.specs.Option.{option_copied};
 ghost use Rattle.trace.specs.Cuts.{fields_left};
 ghost use Rattle.trace.specs.Faults.{MayStand};
-ghost use Rattle.trace.specs.Printable.{DisksInRange};
+ghost use Rattle.trace.specs.Printable.{DisksInRange, IsPrintableMemory};
 ghost use Rattle.trace.specs.Refusals.{IsFineSlot};
 ghost use Rattle.trace.specs.Said.{IsFineSaid, said_fields};
 ghost use Rattle.hexadecimal.specs.Spelling.{bytes as bytes_field};
 ghost use Rattle.trace.specs.Spelling.{value_text};
-ghost use Rattle.trace.specs.Text.{disks_fields, disks_word, slot_fields, word_for};
+ghost use Rattle.trace.specs.Text.{disks_fields, disks_word, memory_fields, slot_fields, word_for};
 ghost use Rattle.trace.specs.Values.{AreOf};
 ghost use Rattle.trace.specs.Version.{IsVersion, identity_in_version_1, since_version_2};
-ghost use Rattle.trace.specs.Words.{AreRight, Identity as ByIdentity, shapes, spelled};
+ghost use Rattle.trace.specs.Words.{AreRight, Identity as ByIdentity, Mode as ByMode, Num, RegionInRange, shapes, spelled};
 
 use crate::disks::Disks;
+use crate::read::regions::regions_of;
 use crate::read::said::Said;
 use crate::read::values::values_of;
 use crate::value::FieldValue::{
@@ -25,6 +26,7 @@ use crate::value::FieldValue::{
 use crate::version::{VERSION_1, VERSION_3, identity_in_version_1};
 use crate::word::Word;
 use board::{EventKind, Extent, SlotSpec};
+use guest_memory::Regions;
 use std::alloc::Allocator;
 
 /// Where the disks are that a word of the second line and the fields after it say.
@@ -162,7 +164,7 @@ fn write_of<'a, A: Allocator>(values: &[FieldValue<'a>]) -> Said<'a, A>
     Said::plain(slot as u8, what)
 }
 
-/// The slot that the fields after its word say in a version.
+/// The slot that the fields after its word say in a version. The first of them say its memory.
 pub(crate) fn slot_of(version: u8, rest: Option<&[u8]>) -> Option<SlotSpec>
     requires { IsVersion version }
     ensures fields { IfSome result (λ s. slot_fields version s ≡ spelled Word.Slot ∷ fields_left (option_copied rest.entry)) }
@@ -170,30 +172,52 @@ pub(crate) fn slot_of(version: u8, rest: Option<&[u8]>) -> Option<SlotSpec>
     ensures none { IfNone result (¬ AreRight version Word.Slot (fields_left (option_copied rest.entry))) }
 {
     let values = values_of(version, Word::Slot, rest)?;
+    let (regions, others) = memory_of(version, values.as_slice());
     let &[
-        Number(base),
-        Number(len),
         Number(start),
         Number(count),
         Mode(read_only),
         Number(cols),
         Number(rows),
         ref last @ ..,
-    ] = values.as_slice()
+    ] = others
     else {
         unreachable!()
     };
     let identity = last_identity(version, last);
     let extent = Extent { start, count };
     Some(SlotSpec {
-        base,
-        len,
+        regions,
         extent,
         read_only,
         cols: cols as u16,
         rows: rows as u16,
         identity,
     })
+}
+
+// The regions that the first values of a slot say, and the values behind them.
+fn memory_of<'a, 'b>(version: u8, values: &'b [FieldValue<'a>]) -> (Regions, &'b [FieldValue<'a>])
+    requires { AreOf (shapes version Word.Slot (map value_text values.now)) values.now }
+    ensures fields { map value_text values.now ≡ memory_fields version result.0 ++ map value_text result.1.now }
+    ensures others { AreOf (Num 64 ∷ Num 64 ∷ ByMode ∷ Num 16 ∷ Num 16 ∷ since_version_2 version (ByIdentity ∷ [])) result.1.now }
+    ensures fits { All RegionInRange result.0 }
+    ensures few { length result.0 ≤ 8 }
+    ensures printable { IsPrintableMemory version (length result.0) }
+{
+    if version < VERSION_3 {
+        let &[Number(base), Number(len), ref others @ ..] = values else {
+            unreachable!()
+        };
+        return (Regions::one(base, len), others);
+    }
+    let &[Spelled(field), ref others @ ..] = values else {
+        unreachable!()
+    };
+    match regions_of(field) {
+        Some(regions) => (regions, others),
+        None => unreachable!(),
+    }
 }
 
 // The identity that is a slot's last value from version 2 on, and that of each slot in version 1.

@@ -11,6 +11,7 @@ use crate::read::choice::{mode_of, verdict_of, width_of, window_of};
 use crate::read::cut::{at_end, next_field, nth_field};
 use crate::read::identity::identity_of;
 use crate::read::offset::offset_of;
+use crate::read::regions::are_regions;
 use crate::table::{Field, fields_after};
 use crate::value::FieldValue::{
     self, Identity, Mode, Number, Offset, Spelled, Value, Verdict, Width, Window,
@@ -84,7 +85,8 @@ fn value_of<'a>(field: Field, width: &[u8], bytes: &'a [u8]) -> Option<FieldValu
         Field::Mode => Some(Mode(mode_of(bytes)?)),
         Field::Verdict => Some(Verdict(verdict_of(bytes)?)),
         Field::Bytes if are_bytes(bytes) => Some(Spelled(bytes)),
-        Field::Bytes => None,
+        Field::Regions if are_regions(bytes) => Some(Spelled(bytes)),
+        Field::Bytes | Field::Regions => None,
         Field::Identity => Some(Identity(identity_of(bytes)?)),
     }
 }

@@ -5,6 +5,7 @@ use super::turns::Turns;
 use crate::calls::answer::{put_word, written};
 use crate::calls::subject::Stuck;
 use crate::calls::words::Words;
+use board::SlotSpec;
 use refusing::RefusingHeap;
 use std::alloc::{Allocator, Global};
 use std::str;
@@ -72,7 +73,7 @@ impl Traces {
         let nth = words.u32() as usize;
         let trace = self.trace()?;
         match trace.slots.get(nth) {
-            Some(slot) => written(write!(answer, "{slot:?}")),
+            Some(slot) => put_slot(answer, slot),
             None => Err(Stuck::Conditions),
         }
     }
@@ -121,6 +122,17 @@ impl Traces {
         }
         turns.end(answer)
     }
+}
+
+// The values of a slot.
+fn put_slot(answer: &mut String, slot: &SlotSpec) -> Result<(), Stuck> {
+    let (regions, extent) = (slot.regions.as_slice(), slot.extent);
+    let (read_only, identity) = (slot.read_only, slot.identity);
+    let (cols, rows) = (slot.cols, slot.rows);
+    written(write!(
+        answer,
+        "{regions:?} {extent:?} {read_only} {cols} {rows} {identity:?}"
+    ))
 }
 
 // The line for which there was no memory, or none where the text was read.
