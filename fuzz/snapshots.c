@@ -387,7 +387,7 @@ static void make_boards(struct kalyubos *boards, struct guest guests[][GUESTS])
     static const uint8_t image[GUESTS * SECTORS * 512] = { 1 };
     struct kalyubos_slot slots[GUESTS];
     for (size_t i = 0; i < GUESTS; i++)
-        slots[i] = (struct kalyubos_slot){ .size = sizeof *slots, .base = MEMORY, .len = MEMORY_LEN, .start = SECTORS * i,
+        slots[i] = (struct kalyubos_slot){ .size = sizeof *slots, .regions = { { MEMORY, MEMORY_LEN } }, .start = SECTORS * i,
                                            .count = SECTORS, .cols = 80, .rows = 25, .outlet = OUTLET, .identity = "alike" };
     make(&boards[0], slots, GUESTS, image, sizeof image, 2, (struct budget){ 2, 0 });
     make_hosted(&boards[1], slots, GUESTS);
@@ -395,7 +395,7 @@ static void make_boards(struct kalyubos *boards, struct guest guests[][GUESTS])
         struct guest *guest = &guests[i / GUESTS][i % GUESTS];
         size_t len;
         *guest = (struct guest){ .board = &boards[i / GUESTS], .slot = i % GUESTS, .is_hosted = i / GUESTS == 1 };
-        need(kalyubos_memory(guest->board, guest->slot, &guest->memory, &len) == KALYUBOS_DONE, "memory", i);
+        need(kalyubos_memory(guest->board, guest->slot, MEMORY, &guest->memory, &len) == KALYUBOS_DONE, "memory", i);
     }
 }
 

@@ -319,7 +319,7 @@ static void power_on(struct guest *guest, struct kalyubos *board, uint8_t slot, 
     size_t len;
     *guest = (struct guest){ .board = board, .slot = slot, .state = 0x9e3779b97f4a7c15 * (number + 1), .turns = TURNS,
                              .can_flush = number % 2 };
-    need(kalyubos_memory(board, slot, &guest->memory, &len) == KALYUBOS_DONE, "memory", slot);
+    need(kalyubos_memory(board, slot, MEMORY, &guest->memory, &len) == KALYUBOS_DONE, "memory", slot);
     for (size_t i = 0; i < sizeof guest->disk; i++)
         guest->disk[i] = guest->mind[i] = (uint8_t)chance(guest, 256);
     memset(guest->is_known, true, sizeof guest->is_known);
@@ -343,7 +343,7 @@ static void *run(void *user)
     return NULL;
 }
 
-static const struct kalyubos_slot SLOT = { sizeof SLOT, MEMORY, MEMORY_LEN, 0, SECTORS, 80, 25, 64, false, "drivers" };
+static const struct kalyubos_slot SLOT = { sizeof SLOT, { { MEMORY, MEMORY_LEN } }, 0, SECTORS, 80, 25, 64, false, "drivers" };
 
 static void run_together(uint64_t seed)
 {

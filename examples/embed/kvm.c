@@ -85,7 +85,7 @@ static void must_do(uint32_t answer, const char *what)
 static void map_memory(struct guest *guest, const uint8_t *program, size_t program_len)
 {
     size_t len;
-    must_do(kalyubos_memory(&board, guest->slot, &guest->bytes, &len), "memory");
+    must_do(kalyubos_memory(&board, guest->slot, 0, &guest->bytes, &len), "memory");
     memcpy(guest->bytes + PROGRAM, program, program_len);
     struct kvm_userspace_memory_region region = {
         .slot = 0, .guest_phys_addr = 0, .memory_size = len, .userspace_addr = (uintptr_t)guest->bytes,
@@ -160,7 +160,7 @@ static void open_disk(struct guest *guest)
     int file = must(mkstemp(path), "a disk");
     must(ftruncate(file, DISK_LEN), "a disk");
     must((int)write(file, DISKS[guest->slot], strlen(DISKS[guest->slot])), "a disk");
-    const char *wrong = file_disk_open(&guest->disk, &board, guest->slot, 0, path, DISK_LEN, &file_thread);
+    const char *wrong = file_disk_open(&guest->disk, &board, guest->slot, path, DISK_LEN, &file_thread);
     if (wrong != NULL) {
         fprintf(stderr, "%s: %s\n", path, wrong);
         exit(1);
@@ -404,9 +404,9 @@ static void create(struct guest *guests)
 {
     static uint8_t image[GUESTS * DISK_LEN];
     struct kalyubos_slot slots[GUESTS] = {
-        { .size = sizeof *slots, .len = MEMORY_LEN, .start = 0, .count = 2, .cols = 80, .rows = 25, .outlet = OUTLET,
+        { .size = sizeof *slots, .regions = { { .len = MEMORY_LEN } }, .start = 0, .count = 2, .cols = 80, .rows = 25, .outlet = OUTLET,
           .identity = "first half" },
-        { .size = sizeof *slots, .len = MEMORY_LEN, .start = 2, .count = 2, .cols = 80, .rows = 25, .outlet = OUTLET,
+        { .size = sizeof *slots, .regions = { { .len = MEMORY_LEN } }, .start = 2, .count = 2, .cols = 80, .rows = 25, .outlet = OUTLET,
           .identity = "second half" },
     };
     for (uint8_t slot = 0; slot < GUESTS; slot++) {

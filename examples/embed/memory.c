@@ -67,10 +67,10 @@ static void lend(void)
 {
     uint8_t *none = NULL;
     size_t len = 7;
-    need(kalyubos_memory(&board, GUESTS, &none, &len) == KALYUBOS_BAD_SLOT, "a slot that there isn't");
+    need(kalyubos_memory(&board, GUESTS, MEMORY, &none, &len) == KALYUBOS_BAD_SLOT, "a slot that there isn't");
     need(none == NULL && len == 7, "told of a slot that there isn't");
     for (uint8_t slot = 0; slot < GUESTS; slot++) {
-        need(kalyubos_memory(&board, slot, &memory[slot], &len) == KALYUBOS_DONE, "memory");
+        need(kalyubos_memory(&board, slot, MEMORY, &memory[slot], &len) == KALYUBOS_DONE, "memory");
         need(len == MEMORY_LEN, "the length");
         for (size_t i = 0; i < len; i++)
             need(memory[slot][i] == 0, "a new memory's bytes");
@@ -121,8 +121,8 @@ int main(void)
 {
     static uint8_t image[GUESTS * SECTORS * SECTOR_LEN];
     struct kalyubos_slot slots[GUESTS] = {
-        { .size = sizeof *slots, .base = MEMORY, .len = MEMORY_LEN, .start = 0, .count = SECTORS, .outlet = 8 },
-        { .size = sizeof *slots, .base = MEMORY, .len = MEMORY_LEN, .start = SECTORS, .count = SECTORS, .outlet = 8 },
+        { .size = sizeof *slots, .regions = { { MEMORY, MEMORY_LEN } }, .start = 0, .count = SECTORS, .outlet = 8 },
+        { .size = sizeof *slots, .regions = { { MEMORY, MEMORY_LEN } }, .start = SECTORS, .count = SECTORS, .outlet = 8 },
     };
     need(kalyubos_version() == KALYUBOS_VERSION, "the library is of another version than the header");
     need(kalyubos_create(&board, slots, GUESTS, image, sizeof image, 4, 0, 0) == KALYUBOS_DONE, "create");
@@ -133,9 +133,9 @@ int main(void)
 
     uint8_t *again = NULL;
     size_t len = 0;
-    need(kalyubos_memory(&board, 0, &again, &len) == KALYUBOS_DONE && again == memory[0], "the memory moved");
+    need(kalyubos_memory(&board, 0, MEMORY, &again, &len) == KALYUBOS_DONE && again == memory[0], "the memory moved");
     need(kalyubos_destroy(&board) == KALYUBOS_DONE, "destroy while lent");
-    need(kalyubos_memory(&board, 0, &again, &len) == KALYUBOS_NO_BOARD, "a memory without a board");
+    need(kalyubos_memory(&board, 0, MEMORY, &again, &len) == KALYUBOS_NO_BOARD, "a memory without a board");
     puts("destroyed while lent");
     return 0;
 }

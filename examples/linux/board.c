@@ -42,7 +42,7 @@ static uint8_t *memory_of(uint8_t slot)
     uint8_t *bytes;
     size_t len;
     if (!settings.copies)
-        must(kalyubos_memory(&board, slot, &bytes, &len), "memory");
+        must(kalyubos_memory(&board, slot, MEMORY_BASE, &bytes, &len), "memory");
     else if ((bytes = calloc(MEMORY_LEN, 1)) == NULL)
         must(KALYUBOS_NO_MEMORY, "memory");
     return bytes;
@@ -59,7 +59,7 @@ static void name_disk(struct kalyubos_slot *slot, const char *path)
 static void open_disk(uint8_t slot)
 {
     const char *path = settings.names[slot];
-    const char *wrong = file_disk_open(&disks[slot], &board, slot, MEMORY_BASE, path, settings.sectors[slot] * 512,
+    const char *wrong = file_disk_open(&disks[slot], &board, slot, path, settings.sectors[slot] * 512,
                                        settings.threads ? &file_thread : &file_ring);
     if (wrong != NULL) {
         fprintf(stderr, "linux-machine: %s: %s\n", path, wrong);
@@ -90,7 +90,7 @@ void board_open(const struct board_settings *wanted)
     uint64_t start = 0;
     settings = *wanted;
     for (size_t i = 0; i < settings.guests; i++) {
-        slots[i] = (struct kalyubos_slot){ sizeof *slots, MEMORY_BASE, MEMORY_LEN, start, settings.sectors[i], COLUMNS,
+        slots[i] = (struct kalyubos_slot){ sizeof *slots, { { MEMORY_BASE, MEMORY_LEN } }, start, settings.sectors[i], COLUMNS,
                                            ROWS, settings.outlet, false, { 0 } };
         name_disk(&slots[i], settings.names[i]);
         start += settings.sectors[i];

@@ -74,9 +74,9 @@ uint32_t kalyubos_destroy(struct kalyubos *board)
     return KALYUBOS_DONE;
 }
 
-uint32_t kalyubos_memory(struct kalyubos *board, uint8_t slot, uint8_t **bytes, size_t *len)
+uint32_t kalyubos_memory(struct kalyubos *board, uint8_t slot, uint64_t addr, uint8_t **bytes, size_t *len)
 {
-    (void)board;
+    (void)board, (void)addr; /* the base of its one region */
     *bytes = guests[slot].memory;
     *len = LEN;
     return KALYUBOS_DONE;

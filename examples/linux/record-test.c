@@ -122,7 +122,7 @@ static void transmit_more_than_fits(void)
 /* ---- over an image */
 
 static const struct kalyubos_slot SLOT = {
-    .size = sizeof(struct kalyubos_slot), .base = BASE, .len = LEN, .count = SECTORS, .cols = 80, .rows = 25,
+    .size = sizeof(struct kalyubos_slot), .regions = { { BASE, LEN } }, .count = SECTORS, .cols = 80, .rows = 25,
     .outlet = 16, .identity = "a disk of two",
 };
 
@@ -130,7 +130,7 @@ static const struct kalyubos_slot SLOT = {
 static void begin(FILE *mistakes)
 {
     size_t len;
-    must(kalyubos_memory(&board, 0, &memory, &len) == KALYUBOS_DONE && len == LEN, "the memory");
+    must(kalyubos_memory(&board, 0, BASE, &memory, &len) == KALYUBOS_DONE && len == LEN, "the memory");
     watch_guest(0, &(struct queue_memory){ BASE, memory, LEN }, mistakes);
 }
 

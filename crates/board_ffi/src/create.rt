@@ -9,13 +9,13 @@ ghost use Rattle.session.specs.Refusing.{AreOutlets, IsBoardFault, IsRefusedFor}
 ghost use Rattle.session.specs.Session.{new_session, slots_of};
 ghost use Rattle.board_ffi.specs.declared.any_session.AnySession.{AnySession};
 ghost use Rattle.board_ffi.specs.Codes.{board_code};
-ghost use Rattle.board_ffi.specs.Create.{AreSized, IsMade, IsNotMade, budget_of, guest_of};
+ghost use Rattle.board_ffi.specs.Create.{AreSized, IsMade, IsNotMade, budget_of, guest_of, regions_of};
 
 use crate::any_session::AnySession;
 use crate::codes::{BAD_SIZE, DONE, HAS_BOARD, NO_BOARD, NO_MEMORY, of_fault};
 use crate::handle::Handle;
 use sector_cache::are_whole_sectors;
-use session::{Budget, Extent, GuestSpec, Session, SessionFault, SlotSpec};
+use session::{Budget, Extent, GuestSpec, RegionSpec, Regions, Session, SessionFault, SlotSpec};
 use std::alloc::{AllocError, Global};
 
 /// How many bytes of a console's output may wait at most.
@@ -30,8 +30,8 @@ const SLOT_SIZE: usize = size_of::<Slot>();
 pub struct Slot {
     /// How many bytes the host's slot has: later versions have more.
     pub size: usize,
-    pub base: u64,
-    pub len: u64,
+    /// The regions of its memory: the first that has no bytes, and those behind it, are none.
+    pub regions: [RegionSpec; 8],
     pub start: u64,
     pub count: u64,
     pub cols: u16,
@@ -47,8 +47,7 @@ impl Slot {
         ensures { result ≡ guest_of self.now }
     {
         let slot = SlotSpec {
-            base: self.base,
-            len: self.len,
+            regions: regions(&self.regions),
             extent: Extent {
                 start: self.start,
                 count: self.count,
@@ -63,6 +62,14 @@ impl Slot {
             outlet: self.outlet,
         }
     }
+}
+
+// The regions before the first that has no bytes.
+fn regions(all: &[RegionSpec; 8]) -> Regions
+    ensures { result ≡ regions_of all.now }
+{
+    let count = all.iter().take_while(|region| region.len != 0).count();
+    Regions::new(&all[..count]).unwrap()
 }
 
 /// Makes a board of these slots over a copy of the image, with a cache of at most `cache` sectors, and puts
