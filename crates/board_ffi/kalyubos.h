@@ -452,9 +452,13 @@ uint32_t kalyubos_restore(struct kalyubos *board, uint8_t slot, const uint8_t *f
                           struct kalyubos_pending *pending);
 
 /*
- * The image's length in bytes, and a copy of bytes of it from byte `start` on, as they stand. NO_IMAGE of a board whose
- * disks the host serves.
+ * Lends the image in place, to read between calls: `bytes` is where its first byte lies, and `len` how many there are. Both
+ * stay until kalyubos_destroy. Of an image of no bytes `bytes` is left as it was. NO_IMAGE of a board whose disks the host
+ * serves.
  */
+uint32_t kalyubos_image(struct kalyubos *board, const uint8_t **bytes, size_t *len);
+
+/* The image's length in bytes, and a copy of bytes of it from byte `start` on, as they stand; NO_IMAGE as kalyubos_image. */
 uint32_t kalyubos_image_len(struct kalyubos *board, size_t *len);
 uint32_t kalyubos_read_image(struct kalyubos *board, size_t start, uint8_t *into, size_t into_len);
 
