@@ -147,9 +147,9 @@ TEXTS = [
     (b"vreplay 1\ncache 1\nslot 0 1000 0 2 rw 50 19\nslot 0 1000 1 1 ro 50 19\n",
      "slot 1 (line 4): two extents share a sector"),
     (b"vreplay 1\ncache 1\nslot 0 fff 0 1 rw 50 19\n",
-     "slot 0 (line 3): a guest's memory: the size is no multiple of 4096 from 4096 to 2^46, or to 2^28 in a trace"),
+     "slot 0 (line 3): a guest's memory: a region's size is no multiple of 4096, or the memory is too large"),
     (b"vreplay 1\ncache 1\nslot 0 1000 0 1 rw 50 19\nslot 1 1000 1 1 rw 50 19\n",
-     "slot 1 (line 4): a guest's memory: the base is no multiple of 4096, or the memory passes 2^64"),
+     "slot 1 (line 4): a guest's memory: a region's base is no multiple of 4096, or the memory passes 2^64"),
     (b"vreplay 1\ncache 0\nslot 0 1000 0 1 rw 50 19\n",
      "the trace's board: the cache: the capacity of the cache is not in 1..=65536 sectors"),
     # a slot line of each version

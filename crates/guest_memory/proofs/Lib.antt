@@ -1,4 +1,6 @@
+pub mod Faults
 pub mod Gaps
 pub mod Ranges
-pub mod Regions
+pub mod InRegions
+pub mod Placing
 pub mod Spellings

@@ -3,8 +3,8 @@ use Rattle.std.proofs.Common.{◌≡◌, ◌↔◌, ◌⊎◌, inl, inr, ℕ, �
 use Rattle.std.specs.Prelude.{IsTrue, nat_le, ◌&&◌}
 use Rattle.std.proofs.lemmas.Bool.Decides.{nat_tests}
 use Rattle.std.proofs.lemmas.List.{places, same_lists, take_all}
-use Rattle.guest_memory.specs.Memory.{Gap, Memory, Inside, MissesAll, is_inside, misses_all, SameRange, part_of, put_at, up_to_gap, put, first_region}
-use Rattle.guest_memory.proofs.Gaps.{misses-none, misses_part, up_to_gap-none, misses_all-true, true-misses_all, up_to_gap-all, up_to_gap-nil}
+use Rattle.guest_memory.specs.Memory.{Gap, Memory, Inside, MissesAll, is_inside, misses_all, SameRange, part_of, put_at, up_to_gap, put}
+use Rattle.guest_memory.proofs.Gaps.{misses-none, misses_part, misses_all-true, true-misses_all, up_to_gap-all, up_to_gap-nil}
 
 -- a list keeps its length, whatever is written where
 pub length-put_at : (xs : List ℕ) (i : ℕ) (bs : List ℕ) → length (put_at xs i bs) ≡ length xs
@@ -35,10 +35,6 @@ whole_inside m n one same = record {
   below = omega (arith, same);
   clear = subst (λ (gs : List Gap). MissesAll gs m.base n) (sym one) (misses-none m.base n);
 }
-
--- and is all that its first region is
-pub first_region-whole : (m : Memory) → m.gaps ≡ [] → first_region m ≡ m.bytes
-first_region-whole m one = ap (λ (gs : List Gap). up_to_gap gs m.base m.bytes) one ∙ up_to_gap-none m.base m.bytes
 
 -- a part of a range lies where the range does
 pub inside_part : {m : Memory} {a n b k : ℕ} → Inside m a n → a ≤ b → b + k ≤ a + n → Inside m b k

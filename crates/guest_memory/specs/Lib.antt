@@ -1,4 +1,6 @@
 pub mod Limits
 pub mod Memory
 pub mod Regions
+pub mod Places
+pub mod Faults
 pub mod Lending

@@ -56,9 +56,11 @@ up_to_gap (g ∷ gs) a bs = if nat_le g.end a then up_to_gap gs a bs else take (
 abbrev pub put : Memory → ℕ → List ℕ → Memory
 put m a bs = record m { bytes = put_at m.bytes (a - m.base) (up_to_gap m.gaps a bs) }
 
--- the bytes of the first region: all that there are where it is the only one
-abbrev pub first_region : Memory → List ℕ
-first_region m = up_to_gap m.gaps m.base m.bytes
+-- these are the bytes from address a to the end of its region: no longer range from there on lies in the memory
+pub record IsRest (m : Memory) (a : ℕ) (bytes : List ℕ) : Type 0 where
+  pub inside : Inside m a (length bytes)
+  pub longest : (n : ℕ) → Inside m a n → n ≤ length bytes
+  pub are : bytes ≡ part_of m a (length bytes)
 
 -- the little-endian number of the k bytes from address a on
 abbrev pub num : Memory → ℕ → ℕ → ℕ

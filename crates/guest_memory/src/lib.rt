@@ -10,7 +10,9 @@ mod laws;
 mod memory;
 mod numbers;
 mod region;
+mod spec;
 
-pub use fault::{MemoryFault, fault_of};
+pub use fault::{MemoryFault, RegionFault, fault_of, fault_of_regions};
 pub use laws::a_range_is_tested;
 pub use memory::GuestMemory;
+pub use spec::{MOST_REGIONS, RegionSpec, Regions};

@@ -1,15 +1,18 @@
 //! The regions of a guest's memory, and the test whether a range lies in one of them.
 
-ghost use Rattle.std.specs.Prelude.{◌≡◌, ◌+◌, ◌-◌, ◌^◌, ◌≤◌, ◌<◌, ◌↔◌, length, replicate, [], ◌∷◌, IsTrue, IsSome, IfOk, OnOk, IfSome, slice_index_or};
+ghost use Rattle.std.specs.Prelude.{◌≡◌, ◌+◌, ◌^◌, ◌≤◌, ◌<◌, ◌↔◌, ℕ, All, length, map, IsTrue, IsSome, IfOk, IfErr, OnOk, IfSome, slice_index_or};
 ghost use Rattle.std.specs.List.{position};
 ghost use Rattle.guest_memory.specs.Limits.{IsSize, IsBase};
-ghost use Rattle.guest_memory.specs.Memory.{Inside, SameRange, first_region, is_inside, part_of, zeroed};
+ghost use Rattle.guest_memory.specs.Memory.{Inside, IsRest, SameRange, is_inside, part_of, zeroed};
 ghost use Rattle.guest_memory.specs.Regions.{touches, IsIn, AreApart, memory_of};
+ghost use Rattle.guest_memory.specs.Faults.{AreGood, IsRefused, Refuses, zeroed_region, zeroed_regions};
 ghost use Rattle.guest_memory.specs.Lending.{LendsPart};
+ghost use Rattle.guest_memory.specs.declared.fault.MemoryFault.{MemoryFault};
 ghost use Rattle.std.specs.Borrow.{sem};
 
-use crate::fault::{MemoryFault, fault_of};
+use crate::fault::{MemoryFault, RegionFault, fault_of, fault_of_regions};
 use crate::region::Region;
+use crate::spec::RegionSpec;
 use std::alloc::{AllocError, Allocator, Global};
 use std::marker::Model;
 
@@ -50,21 +53,31 @@ fn place_inside<A: Allocator>(regions: &[Region<A>], addr: u64, n: u64) -> usize
     place_of(regions, addr).unwrap_or(0)
 }
 
-/// The one region of a memory that has no gaps.
-fn one_region<A: Allocator + Copy>(
+/// The regions, of zeros.
+fn zeroed<A: Allocator + Copy>(
     alloc: A,
-    base: u64,
-    len: u64,
+    regions: &[RegionSpec],
 ) -> Result<Vec<Region<A>, A>, AllocError>
-    requires { base + len ≤ 2 ^ 64 }
-    ensures { IfOk result (λ regions. regions.items ≡ record { base = base; bytes = replicate len 0 } ∷ []) }
+    requires { All (λ r. r.base + r.len ≤ 2 ^ 64) regions.now }
+    ensures { IfOk result (λ made. made.items ≡ map zeroed_region regions.now) }
 {
-    let bytes = vec![in alloc; 0; len as usize]?;
-    let mut regions = Vec::new(alloc);
-    match regions.push(Region::new(base, bytes)) {
-        Ok(()) => Ok(regions),
-        Err(_) => Err(AllocError),
+    let mut made = Vec::with_capacity(alloc, regions.len())?;
+    for region in regions {
+        made.push(zeroed_region(alloc, region)?)?;
     }
+    Ok(made)
+}
+
+/// One region, of zeros.
+fn zeroed_region<A: Allocator + Copy>(
+    alloc: A,
+    region: &RegionSpec,
+) -> Result<Region<A>, AllocError>
+    requires { region.now.base + region.now.len ≤ 2 ^ 64 }
+    ensures { IfOk result (λ made. made ≡ zeroed_region region.now) }
+{
+    let bytes = vec![in alloc; 0; region.len as usize]?;
+    Ok(Region::new(region.base, bytes))
 }
 
 impl<A: Allocator + Copy> GuestMemory<A> {
@@ -80,7 +93,25 @@ impl<A: Allocator + Copy> GuestMemory<A> {
         if let Some(fault) = fault_of(base, len) {
             return Err(fault);
         }
-        match one_region(alloc, base, len) {
+        match zeroed(alloc, &[RegionSpec { base, len }]) {
+            Ok(regions) => Ok(GuestMemory { regions }),
+            Err(_) => Err(MemoryFault::NoMemory),
+        }
+    }
+
+    /// A memory of these regions, of zero bytes.
+    pub fn with_regions(alloc: A, regions: &[RegionSpec]) -> Result<GuestMemory<A>, MemoryFault>
+        ensures made { IfOk result (λ m. m ≡ zeroed_regions regions.now) }
+        ensures ok { OnOk result (AreGood regions.now) }
+        ensures fault { IfErr result (λ fault. Refuses regions.now fault) }
+
+        // exactly that fault, where there is one other than want of memory
+        ensures exact { (fault : MemoryFault) → IsRefused regions.now fault → result ≡ Err fault }
+    {
+        if let Some(RegionFault { region: _, fault }) = fault_of_regions(regions) {
+            return Err(fault);
+        }
+        match zeroed(alloc, regions) {
             Ok(regions) => Ok(GuestMemory { regions }),
             Err(_) => Err(MemoryFault::NoMemory),
         }
@@ -103,13 +134,38 @@ impl<A: Allocator> GuestMemory<A> {
         last.base() - self.base() + last.len()
     }
 
-    /// The bytes of the first region: all that there are where it is the only one.
-    pub fn first_region(&self) -> &[u8]
-        ensures value { result.now ≡ first_region self.now }
-        ensures part { result.now ≡ part_of self.now self.now.base (length result.now) }
-        ensures inside { Inside self.now self.now.base (length result.now) }
+    /// The number of bytes from `addr` to the end of the region that holds it. There is no answer where none does.
+    pub fn room_at(&self, addr: u64) -> Option<u64>
+        ensures there { IsSome result ↔ Inside self.now addr 1 }
+        ensures room { IfSome result (λ room. (n : ℕ) → (n ≤ room) ↔ Inside self.now addr n) }
+        ensures fits { IfSome result (λ room. addr + room ≤ 2 ^ 64) }
     {
-        self.regions[0].bytes()
+        match place_of(&self.regions, addr) {
+            Some(place) => {
+                let room = self.regions[place].room_behind(addr);
+                if room == 0 { None } else { Some(room) }
+            }
+            None => None,
+        }
+    }
+
+    /// The bytes from `addr` to the end of the region that holds it. There is no answer where none does.
+    pub fn region(&self, addr: u64) -> Option<&[u8]>
+        ensures there { IsSome result ↔ Inside self.now addr 1 }
+        ensures rest { IfSome result (λ bytes. IsRest self.now addr bytes.now) }
+    {
+        let room = self.room_at(addr)?;
+        Some(self.slice(addr, room))
+    }
+
+    /// The same bytes, to be written. A region holds the address; `holds` is the test.
+    pub fn region_mut(&mut self, addr: u64) -> &mut [u8]
+        requires { Inside self.old addr 1 }
+        ensures* writes_back { sem 𝓛 (LendsPart A.row A.Allocator self.entry addr result) }
+        ensures rest { IsRest self.old addr result.now }
+    {
+        let room = self.room_at(addr).unwrap_or(1);
+        self.part_mut(addr, room)
     }
 
     /// Whether the `n` bytes from `addr` on all lie in the memory, in one region. An empty range does where its address

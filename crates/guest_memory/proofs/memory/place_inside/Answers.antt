@@ -1,5 +1,5 @@
 use Rattle.std.proofs.Common.{[], arith}
-use Rattle.guest_memory.proofs.Regions.{found_inside, only_inside}
+use Rattle.guest_memory.proofs.InRegions.{found_inside, only_inside}
 use Rattle.guest_memory.proofs.memory.place_inside.Goals as goal
 
 pub returns-then-regions-eq1-clause-region : goal.returns-then-regions-eq1-clause-region

@@ -1,5 +1,5 @@
 use Rattle.std.proofs.Common.{arith, ◌∙◌}
-use Rattle.guest_memory.proofs.Regions.{some_region, begins}
+use Rattle.guest_memory.proofs.InRegions.{some_region, begins}
 use Rattle.guest_memory.proofs.memory.GuestMemory.base.Goals as goal
 
 pub index-requires : goal.index-requires

@@ -2,7 +2,7 @@ use Rattle.std.proofs.Common.{List}
 use Rattle.guest_memory.specs.Memory.{Inside}
 use Rattle.guest_memory.specs.Regions.{Region}
 use Rattle.guest_memory.proofs.Ranges.{is_inside-tells}
-use Rattle.guest_memory.proofs.Regions.{searched, found_region, found_holds, none_inside, same_test}
+use Rattle.guest_memory.proofs.InRegions.{searched, found_region, found_holds, none_inside, same_test}
 use Rattle.guest_memory.proofs.memory.GuestMemory.holds.Goals as goal
 
 pub room_behind-requires : goal.room_behind-requires

@@ -1,6 +1,6 @@
 use Rattle.std.proofs.Common.{List, suc, ◌≡◌, ◌-◌, arith, length}
 use Rattle.guest_memory.specs.Regions.{Region}
-use Rattle.guest_memory.proofs.Regions.{some_region, last_region}
+use Rattle.guest_memory.proofs.InRegions.{some_region, last_region}
 use Rattle.guest_memory.proofs.memory.GuestMemory.len.Goals as goal
 
 pub overflow_sub-len : goal.overflow_sub-len

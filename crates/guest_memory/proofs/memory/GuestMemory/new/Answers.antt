@@ -1,5 +1,5 @@
 use Rattle.std.proofs.Common.{arith, rules, ◌≡◌, None}
-use Rattle.guest_memory.proofs.Regions.{zeroed_region, zeroed_regions}
+use Rattle.guest_memory.proofs.InRegions.{zeroed_region, zeroed_regions}
 use Rattle.guest_memory.proofs.memory.GuestMemory.new.Goals as goal
 
 pub invariant_of-result : goal.invariant_of-result

@@ -1,6 +1,6 @@
 use Rattle.std.proofs.Common.{List, refl, ◌∙◌}
 use Rattle.guest_memory.specs.Regions.{Region}
-use Rattle.guest_memory.proofs.Regions.{put_in, part_in, place_in, regions-put_in}
+use Rattle.guest_memory.proofs.InRegions.{put_in, part_in, place_in, regions-put_in}
 use Rattle.guest_memory.proofs.memory.GuestMemory.part_mut.Goals as goal
 
 pub invariant_of-self-lent : goal.invariant_of-self-lent

@@ -1,6 +1,6 @@
 use Rattle.std.proofs.Common.{List, arith, ◌∙◌}
 use Rattle.guest_memory.specs.Regions.{Region}
-use Rattle.guest_memory.proofs.Regions.{part_in, place_in, region_fits}
+use Rattle.guest_memory.proofs.InRegions.{part_in, place_in, region_fits}
 use Rattle.guest_memory.proofs.memory.GuestMemory.slice.Goals as goal
 
 pub returns-clause-value : goal.returns-clause-value

@@ -4,10 +4,10 @@ use Rattle.std.specs.Prelude.{nat_le, IsTrue}
 use Rattle.std.specs.Option.{unwrap_or}
 use Rattle.std.proofs.lemmas.Bool.{cases_lt}
 use Rattle.std.proofs.lemmas.Bool.Decides.{nat_tests, same_from_decides}
-use Rattle.std.proofs.lemmas.List.{places, same_lists, take_all, take_at, length-replicate, length-set}
+use Rattle.std.proofs.lemmas.List.{places, same_lists, length-replicate, length-set}
 use Rattle.std.specs.List.{position, position_or_len}
 use Rattle.std.proofs.lemmas.List.Quantifiers.{position-Some}
-use Rattle.guest_memory.specs.Memory.{Gap, Memory, Inside, MissesAll, part_of, put_at, up_to_gap, put, first_region, zeroed}
+use Rattle.guest_memory.specs.Memory.{Gap, Memory, Inside, MissesAll, IsRest, part_of, put_at, up_to_gap, put, zeroed}
 use Rattle.guest_memory.specs.Regions.{Region, end_of, in_front, memory_of, AreApart, AreRegions, IsIn, touches}
 use Rattle.guest_memory.proofs.Gaps.{misses-none, misses-more, misses-first, misses-rest, up_to_gap-none, up_to_gap-behind, up_to_gap-before}
 use Rattle.guest_memory.proofs.Ranges.{length-put_at, put_range}
@@ -102,14 +102,6 @@ put_later r m a bs apart above =
     (omega (arith, length-head_of r m apart))
     ∙ append_assoc r.bytes (replicate (m.base - end_of r) 0) (put_at m.bytes (a - m.base) ws))
 
--- the region is the first of the memory that it stands in front of
-first_front : (r : Region) (m : Memory) → end_of r < m.base → first_region (in_front r m) ≡ r.bytes
-unfolding in_front
-first_front r m apart =
-    up_to_gap-before _ m.gaps r.base (r.bytes ++ (replicate (m.base - end_of r) 0 ++ m.bytes))
-    (omega (arith, apart))
-    ∙ take_at r.bytes (replicate (m.base - end_of r) 0 ++ m.bytes) (end_of r - r.base) (omega arith)
-
 -- bytes at the front of a list that another follows
 take_front : (xs ys : List ℕ) (i n : ℕ) → i + n ≤ length xs → take n (drop i (xs ++ ys)) ≡ take n (drop i xs)
 take_front xs ys i n within =
@@ -181,7 +173,7 @@ apart_more : (r s : Region) (rs : List Region) → AreApart (r ∷ (s ∷ rs))
 unfolding AreApart
 apart_more r s rs h = h
 
-more_apart : (r s : Region) (rs : List Region) → end_of r < s.base → AreApart (s ∷ rs)
+pub more_apart : (r s : Region) (rs : List Region) → end_of r < s.base → AreApart (s ∷ rs)
     → AreApart (r ∷ (s ∷ rs))
 unfolding AreApart
 more_apart r s rs first rest = (first, rest)
@@ -587,33 +579,19 @@ last_region rs x i m same h last is = (
   omega (arith, h.spans, ap (λ (m : Memory). length m.bytes) same),
 )
 
--- the first region
-pub first_is : (rs : List Region) (x : Region) (m : Memory) → memory_of rs ≡ m → AreApart rs
-    → x ≡ get_or rs 0 x
-    → (x.bytes ≡ first_region m) × (x.bytes ≡ part_of m m.base (length x.bytes)) × Inside m m.base
-    (length x.bytes)
-first_is rs x m same h is =
-    let first : first_region (memory_of rs) ≡ (get_or rs 0 x).bytes = cut rs x h in
-    let base : x.base ≡ m.base = begins rs x m same h is in
-    let none : x.base - x.base ≡ 0 = omega arith in
-    let all : take (length x.bytes) (drop (x.base - x.base) x.bytes) ≡ x.bytes =
-    ap (λ (k : ℕ). take (length x.bytes) (drop k x.bytes)) none
-    ∙ take_all (length x.bytes) x.bytes (omega arith) in (
-      ap (λ (r : Region). r.bytes) is ∙ sym first ∙ ap first_region same,
-      sym all
-          ∙ part_in rs 0 x.base (length x.bytes) x m same h (some_region rs h)
-          (subst (λ (r : Region). IsIn r x.base (length x.bytes)) is
-          (record { above = omega arith; below = omega arith })) is
-          ∙ ap (λ (b : ℕ). part_of m b (length x.bytes)) base,
-      subst (λ (b : ℕ). Inside m b (length x.bytes)) base
-          (subst (λ (m : Memory). Inside m x.base (length x.bytes)) same
-          (region_inside rs 0 x x.base (length x.bytes) h (some_region rs h)
-          (subst (λ (r : Region). IsIn r x.base (length x.bytes)) is
-          (record { above = omega arith; below = omega arith })))),
-    )
-  where
-    cut : (rs : List Region) (d : Region) → AreApart rs → first_region (memory_of rs) ≡ (get_or rs 0 d).bytes
-    cut [] d h = absurd (omega (arith, some_region [] h))
-    cut (r ∷ []) d h = ap first_region (one_region_is r) ∙ up_to_gap-none r.base r.bytes
-    cut (r ∷ (s ∷ rs)) d h = ap first_region (more_regions_are r s rs)
-        ∙ first_front r (memory_of (s ∷ rs)) (omega (arith, (apart_more r s rs h).0, first_base s rs))
+-- how many bytes there are from a to the end of the region x: a range from there on lies inside where it has no more
+pub found_room : (rs : List Region) (a i room : ℕ) (x : Region) (m : Memory) → memory_of rs ≡ m → AreApart rs
+    → position (touches a) rs ≡ Some i → x ≡ get_or rs i x → a + room ≡ end_of x
+    → (n : ℕ) → (n ≤ room) ↔ Inside m a n
+found_room rs a i room x m same h found is rest n =
+    let test = found_holds rs a n i room x m same h found is rest in
+    (λ within. test.0 (grind (arith, nat_tests)), λ inside. grind (arith, nat_tests, test.1 inside))
+
+-- the bytes from an address on that has so much room are the rest of its region
+pub rest_is : (m : Memory) (a room : ℕ) (bytes : List ℕ) → ((n : ℕ) → (n ≤ room) ↔ Inside m a n) → length bytes ≡ room
+    → bytes ≡ part_of m a room → IsRest m a bytes
+rest_is m a room bytes fits size are = record {
+  inside = (fits (length bytes)).0 (omega (arith, size));
+  longest = λ n inside. omega (arith, size, (fits n).1 inside);
+  are = are ∙ ap (part_of m a) (sym size);
+}

@@ -1,0 +1,13 @@
+use Rattle.std.proofs.Common.{subst, sym}
+use Rattle.guest_memory.specs.Faults.{AreGood}
+use Rattle.guest_memory.specs.Regions.{AreRegions}
+use Rattle.guest_memory.proofs.Faults.{good_ends, good_regions}
+use Rattle.guest_memory.proofs.memory.GuestMemory.with_regions.Goals as goal
+
+pub zeroed-requires : goal.zeroed-requires
+zeroed-requires g c = good_ends c.args.regions.now (c.fault_of_regions.ensures.good.0 c.in_default.is)
+
+pub invariant_of-result : goal.invariant_of-result
+invariant_of-result g c =
+    let good : AreGood c.args.regions.now = c.fault_of_regions.ensures.good.0 c.in_default.is in
+    subst AreRegions (sym c.in-Ok.ensures) (good_regions c.args.regions.now good)
