@@ -1,10 +1,10 @@
 -- What a call does to a board over an image.
-use Rattle.std.specs.Prelude.{◌≡◌, ℕ, ◌<◌, ◌≤◌, ◌+◌, ◌++◌, ◌↔◌, ◌≢◌, Bool, List, Some, None, IsTrue, IsErrOf, IsSomeAnd, length, min, take, drop, false, Result}
+use Rattle.std.specs.Prelude.{◌≡◌, ℕ, ◌<◌, ◌≤◌, ◌+◌, ◌++◌, ◌↔◌, ◌≢◌, Bool, List, Some, IsTrue, IsErrOf, IsSomeAnd, length, min, take, drop, false, Result}
 use Rattle.chain.specs.declared.budget.Progress.{Progress}
 use Rattle.std.specs.List.{slice_get}
 use Rattle.std.specs.Option.{option_map}
 use Rattle.std.specs.Global.{Global}
-use Rattle.guest_memory.specs.Memory.{region_at}
+use Rattle.guest_memory.specs.Memory.{Inside, Memory}
 use Rattle.board.specs.declared.event.EventKind.{EventKind}
 use Rattle.board.specs.declared.reply.Reply.{Reply}
 use Rattle.board.specs.declared.saved.RestoreFault.{RestoreFault}
@@ -44,17 +44,23 @@ pub record MovesOutput (slot : ℕ) (into_old into_new : List ℕ) (taken : ℕ)
   pub moved : into_new ≡ take taken (output_of slot old) ++ drop taken into_old
   pub left : IsTaken old slot (length into_old) (take taken (output_of slot old)) new
 
+-- a region holds the address, and has so many bytes from there on
+pub record HasRoom (m : Memory) (addr len : ℕ) : Type 0 where
+  pub holds : Inside m addr 1
+  pub inside : Inside m addr len
+  pub longest : (n : ℕ) → Inside m addr n → n ≤ len
+
 -- There is such a slot, of which nothing is paused. A region of its memory holds the address, and has so many bytes from there
 -- on. Nothing changes.
 pub record HasMemory (slot addr len : ℕ) (old new : SessionState) : Type 0 where
   pub idle : IsIdle slot old
-  pub there : IsSomeAnd (slice_get old.slots slot) (λ found. IsSomeAnd (region_at found.memory addr) (λ lent. len ≡ length lent))
+  pub there : IsSomeAnd (slice_get old.slots slot) (λ found. HasRoom found.memory addr len)
   pub kept : new ≡ old
 
 -- There is such a slot, of which nothing is paused. No region of its memory holds the address. Nothing changes.
 pub record HasNoRegion (slot addr code : ℕ) (old new : SessionState) : Type 0 where
   pub idle : IsIdle slot old
-  pub there : IsSomeAnd (slice_get old.slots slot) (λ found. region_at found.memory addr ≡ None)
+  pub there : IsSomeAnd (slice_get old.slots slot) (λ found. ¬ Inside found.memory addr 1)
   pub bad_range : code ≡ 4
   pub kept : new ≡ old
 

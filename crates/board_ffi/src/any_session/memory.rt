@@ -1,9 +1,10 @@
 //! A guest's memory between its accesses.
 
-ghost use Rattle.std.specs.Prelude.{◌≡◌, ◌≢◌, None, IsSomeAnd, length};
-ghost use Rattle.guest_memory.specs.Memory.{region_at};
+ghost use Rattle.std.specs.Prelude.{◌≡◌, ◌≢◌, length};
+ghost use Rattle.guest_memory.specs.Memory.{Inside};
 ghost use Rattle.board.specs.declared.event.EventKind.{EventKind};
 ghost use Rattle.board.specs.declared.reply.Reply.{Reply};
+ghost use Rattle.board_ffi.specs.OfImage.{HasRoom};
 ghost use Rattle.board_ffi.specs.Calls.{HasMemory, HasNoRegion, IsBusy, IsMissing, Takes};
 
 use crate::any_session::AnySession;
@@ -56,8 +57,8 @@ impl AnySession {
 
 // Tells where the byte of an address of a memory lies.
 fn place(memory: &GuestMemory, addr: u64, bytes: &mut *mut u8, len: &mut usize) -> u32
-    ensures done { result ≡ 0 → IsSomeAnd (region_at memory.now addr) (λ lent. len.new ≡ length lent) }
-    ensures outside { result ≢ 0 → (result ≡ 4) × (region_at memory.now addr ≡ None) }
+    ensures done { result ≡ 0 → HasRoom memory.now addr len.new }
+    ensures outside { result ≢ 0 → (result ≡ 4) × ¬ Inside memory.now addr 1 }
     ensures kept { result ≢ 0 → (bytes.new ≡ bytes.old) × (len.new ≡ len.old) }
 {
     let Some(lent) = memory.region(addr) else {
