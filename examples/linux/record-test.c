@@ -131,7 +131,7 @@ static void begin(FILE *mistakes)
 {
     size_t len;
     must(kalyubos_memory(&board, 0, BASE, &memory, &len) == KALYUBOS_DONE && len == LEN, "the memory");
-    watch_guest(0, &(struct queue_memory){ BASE, memory, LEN }, mistakes);
+    watch_guest(0, &(struct memory){ 1, { { BASE, LEN, memory } } }, mistakes);
 }
 
 static void use_image(FILE *mistakes)
@@ -208,7 +208,8 @@ static void ask_for_what_fails(void)
 
 static void serve_disks(FILE *mistakes)
 {
-    const struct kalyubos_slot slots[] = { SLOT, SLOT };
+    struct kalyubos_slot slots[] = { SLOT, SLOT };
+    slots[1].regions[1] = (struct kalyubos_region){ BASE + 2 * LEN, 0x1000 };
     must(record_create_hosted(&board, slots, 2) == KALYUBOS_DONE, "create_hosted");
     begin(mistakes);
     bring_up(KALYUBOS_BLOCK, 0, BASE + TABLE);

@@ -8,11 +8,12 @@
 #include "words.h"
 
 /* FNV-1a of 64 bits. */
-static uint64_t sum_of(const uint8_t *bytes, size_t len)
+static uint64_t sum_of(const struct memory *memory)
 {
     uint64_t sum = 0xcbf29ce484222325;
-    for (size_t i = 0; i < len; i++)
-        sum = (sum ^ bytes[i]) * 0x100000001b3;
+    for (const struct region *region = memory->regions; region < memory->regions + memory->count; region++)
+        for (size_t i = 0; i < region->len; i++)
+            sum = (sum ^ region->bytes[i]) * 0x100000001b3;
     return sum;
 }
 
@@ -64,7 +65,7 @@ bool report_machine(const struct machine *machine, const char *folder)
             (unsigned long long)machine->cpu.cycles);
     report_window(report, "block", &machine->counts[0]);
     report_window(report, "console", &machine->counts[1]);
-    fprintf(report, "memory: %016llx\n", (unsigned long long)sum_of(board_memory(machine->slot), MEMORY_LEN));
+    fprintf(report, "memory: %016llx\n", (unsigned long long)sum_of(board_memory(machine->slot)));
     fclose(report);
     fclose(machine->terminal.log);
     fclose(machine->early);
