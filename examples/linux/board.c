@@ -187,12 +187,22 @@ static void begin(const struct watch_call *call)
     served[call->slot] = *call;
 }
 
+static void count_runs(uint8_t slot)
+{
+    const struct memory *memory = &memories[slot];
+    for (uint32_t i = 0; i < disks[slot].asked.runs; i++)
+        for (size_t j = 0; j < memory->count; j++)
+            flights[slot].runs[j] += disks[slot].runs[i].at - memory->regions[j].base < memory->regions[j].len;
+}
+
 /* An operation of the slot's disk begins. */
 static void take_off(uint8_t slot)
 {
     file_disk_begin(&disks[slot]);
     flies[slot] = true;
     flights[slot].operations++;
+    if (disks[slot].asked.kind != KALYUBOS_ZEROES)
+        count_runs(slot);
 }
 
 /*

@@ -63,9 +63,12 @@ bool board_is_paused(uint8_t slot);
 uint32_t board_complete(uint8_t slot);
 void board_wait(void);
 
-/* Of a slot's disk that the host serves: its operations so far, and how many calls other guests made during them. */
+/*
+ * Of a slot's disk that the host serves: its operations so far, how many calls other guests made during them, and how many of
+ * their runs lay in which region of its memory.
+ */
 struct board_flights {
-    size_t operations, calls;
+    size_t operations, calls, runs[MEMORY_REGIONS];
 };
 struct board_flights board_flights(uint8_t slot);
 

@@ -10,7 +10,7 @@ use Rattle.session.specs.Hosted.{IsHostedRefusedFor, new_hosted_session}
 use Rattle.session.specs.Session.{new_session, slots_of}
 use Rattle.session.specs.Refusing.{AreOutlets, IsRefusedFor}
 use Rattle.board_ffi.specs.declared.any_session.AnySession.TheVariants.{Hosted, OfImage}
-use Rattle.board_ffi.specs.declared.create.Region.{Region}
+use Rattle.board_ffi.specs.declared.region.Region.{Region}
 use Rattle.board_ffi.specs.declared.create.Slot.{Slot}
 use Rattle.board_ffi.specs.Codes.{fault_code}
 use Rattle.board_ffi.specs.Handle.{Held}

@@ -9,13 +9,14 @@ ghost use Rattle.session.specs.Refusing.{AreOutlets, IsBoardFault, IsRefusedFor}
 ghost use Rattle.session.specs.Session.{new_session, slots_of};
 ghost use Rattle.board_ffi.specs.declared.any_session.AnySession.{AnySession};
 ghost use Rattle.board_ffi.specs.Codes.{board_code};
-ghost use Rattle.board_ffi.specs.Create.{AreSized, IsMade, IsNotMade, budget_of, guest_of, regions_of, spec_of};
+ghost use Rattle.board_ffi.specs.Create.{AreSized, IsMade, IsNotMade, budget_of, guest_of};
 
 use crate::any_session::AnySession;
 use crate::codes::{BAD_SIZE, DONE, HAS_BOARD, NO_BOARD, NO_MEMORY, of_fault};
 use crate::handle::Handle;
+use crate::region::{Region, regions};
 use sector_cache::are_whole_sectors;
-use session::{Budget, Extent, GuestSpec, MOST_REGIONS, RegionSpec, Regions, Session, SessionFault, SlotSpec};
+use session::{Budget, Extent, GuestSpec, Session, SessionFault, SlotSpec};
 use std::alloc::{AllocError, Global};
 
 /// How many bytes of a console's output may wait at most.
@@ -23,26 +24,6 @@ const MOST_WAITING: u32 = 0x100_0000;
 
 /// How many bytes a slot of this version has.
 const SLOT_SIZE: usize = size_of::<Slot>();
-
-/// A region of a guest's memory, as C describes it.
-#[derive(Clone, Copy)]
-#[repr(C)]
-pub struct Region {
-    pub base: u64,
-    pub len: u64,
-}
-
-impl Region {
-    // What the board calls it.
-    fn spec(self) -> RegionSpec
-        ensures { result ≡ spec_of self }
-    {
-        RegionSpec {
-            base: self.base,
-            len: self.len,
-        }
-    }
-}
 
 /// A slot, as C describes it.
 #[derive(Clone, Copy)]
@@ -82,21 +63,6 @@ impl Slot {
             outlet: self.outlet,
         }
     }
-}
-
-// The regions before the first that has no bytes.
-fn regions(all: &[Region; MOST_REGIONS]) -> Regions
-    ensures { result ≡ regions_of all.now }
-{
-    let count = all.iter().take_while(|region| region.len > 0).count();
-    Regions::new(&specs(all)[..count]).unwrap()
-}
-
-// What the board calls each place of an array.
-fn specs(all: &[Region; MOST_REGIONS]) -> [RegionSpec; MOST_REGIONS]
-    ensures { result ≡ map spec_of all.now }
-{
-    all.map(|region| region.spec())
 }
 
 /// Makes a board of these slots over a copy of the image, with a cache of at most `cache` sectors, and puts
