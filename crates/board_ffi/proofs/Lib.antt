@@ -1,5 +1,4 @@
 pub mod AsBox
 pub mod HandleSteps
 pub mod Outlets
-pub mod Places
 pub mod Runs

@@ -1,5 +1,5 @@
 -- What comes of making a board.
-use Rattle.std.specs.Prelude.{◌≡◌, ℕ, ◌/◌, ◌==◌, nat_lt, if◌then◌else◌, List, Option, Some, None, length, map, All}
+use Rattle.std.specs.Prelude.{◌≡◌, ℕ, ◌/◌, ◌==◌, nat_lt, if◌then◌else◌, List, Option, Some, None, length, All}
 use Rattle.std.specs.List.{take_while}
 use Rattle.chain.specs.declared.budget.Budget.{Budget}
 use Rattle.guest_memory.specs.declared.spec.RegionSpec.{RegionSpec}
@@ -10,18 +10,13 @@ use Rattle.session.specs.Hosted.{IsHostedRefusedFor, new_hosted_session}
 use Rattle.session.specs.Session.{new_session, slots_of}
 use Rattle.session.specs.Refusing.{AreOutlets, IsRefusedFor}
 use Rattle.board_ffi.specs.declared.any_session.AnySession.TheVariants.{Hosted, OfImage}
-use Rattle.board_ffi.specs.declared.region.Region.{Region}
 use Rattle.board_ffi.specs.declared.create.Slot.{Slot}
 use Rattle.board_ffi.specs.Codes.{fault_code}
 use Rattle.board_ffi.specs.Handle.{Held}
 
--- a region that C describes
-abbrev pub spec_of : Region → RegionSpec
-spec_of region = record { base = region.base; len = region.len }
-
--- the regions of an array of them: those before the first that has no bytes
-abbrev pub regions_of : List Region → List RegionSpec
-regions_of regions = map spec_of (take_while (λ region. nat_lt 0 region.len) regions)
+-- the regions that C describes: those before the first that has no bytes
+abbrev pub regions_of : List RegionSpec → List RegionSpec
+regions_of = take_while (λ region. nat_lt 0 region.len)
 
 -- the guest of a slot that C describes
 abbrev pub guest_of : Slot → GuestSpec

@@ -14,7 +14,8 @@ ghost use Rattle.board_ffi.specs.Create.{AreSized, IsMade, IsNotMade, budget_of,
 use crate::any_session::AnySession;
 use crate::codes::{BAD_SIZE, DONE, HAS_BOARD, NO_BOARD, NO_MEMORY, of_fault};
 use crate::handle::Handle;
-use crate::region::{Region, regions};
+use crate::region::regions;
+use guest_memory::{MOST_REGIONS, RegionSpec};
 use sector_cache::are_whole_sectors;
 use session::{Budget, Extent, GuestSpec, Session, SessionFault, SlotSpec};
 use std::alloc::{AllocError, Global};
@@ -32,7 +33,7 @@ pub struct Slot {
     /// How many bytes the host's slot has: later versions have more.
     pub size: usize,
     /// The regions of its memory: the first that has no bytes, and those behind it, are none.
-    pub regions: [Region; 8],
+    pub regions: [RegionSpec; MOST_REGIONS],
     pub start: u64,
     pub count: u64,
     pub cols: u16,
