@@ -236,10 +236,13 @@ struct kalyubos_operation {
 /*
  * Makes a board of `slots_len` slots over a copy of the image, with a cache of at most `cache` sectors before it,
  * and puts it into an empty handle. A refusal leaves the handle as it was and keeps no memory. The first of these that
- * holds is answered: BAD_SIZE, where a slot's `size` isn't sizeof(struct kalyubos_slot), and nothing behind it is read;
- * BAD_IMAGE; BAD_OUTLET; NO_SLOTS; TOO_MANY_SLOTS; slot by slot NO_REGIONS, then region by region BAD_MEMORY_SIZE,
- * BAD_MEMORY_BASE and REGIONS_NOT_APART, then EXTENT_OUTSIDE and EXTENTS_OVERLAP; BAD_CACHE. NO_MEMORY may come in the place
- * of one of the numbers from NO_SLOTS on.
+ * holds is answered:
+ *  - BAD_SIZE, where a slot's `size` isn't sizeof(struct kalyubos_slot), and nothing behind it is read; BAD_IMAGE; BAD_OUTLET;
+ *    NO_SLOTS; TOO_MANY_SLOTS;
+ *  - slot by slot NO_REGIONS, then region by region BAD_MEMORY_SIZE, BAD_MEMORY_BASE and REGIONS_NOT_APART, then
+ *    EXTENT_OUTSIDE and EXTENTS_OVERLAP;
+ *  - BAD_CACHE.
+ * NO_MEMORY may come in the place of one of the numbers from NO_SLOTS on.
  *
  * `chains` and `bytes` are the budget of one call, and 0 is no limit: a call serves no more than so many chains, and
  * begins no further chain once those before it had so many bytes in their buffers. So one call moves `bytes` and one
