@@ -12,8 +12,8 @@ use Rattle.guest_memory.specs.declared.fault.RegionFault.{RegionFault}
 use Rattle.guest_memory.specs.declared.spec.RegionSpec.{RegionSpec}
 use Rattle.guest_memory.specs.Limits.{IsSize, IsBase}
 use Rattle.guest_memory.specs.Memory.{zeroed}
-use Rattle.guest_memory.specs.Regions.{Region, end_of, AreApart, AreRegions}
-use Rattle.guest_memory.specs.Faults.{IsGoodRegion, GoodBelow, AreGood, IsFaultOf, HasFaultAt, IsRefusedAt, IsRefused, size_of, zeroed_region, zeroed_regions}
+use Rattle.guest_memory.specs.Regions.{Region, AreApart, AreRegions, memory_of}
+use Rattle.guest_memory.specs.Faults.{IsGoodRegion, GoodBelow, AreGood, IsFaultOf, HasFaultAt, IsRefusedAt, IsRefused, size_of, spec_of, zeroed_region, zeroed_regions}
 use Rattle.guest_memory.proofs.InRegions.{some_region, one_apart, more_apart, first_base, ends_last, zeroed_region as zeroed_region_is}
 
 -- a fault of the region at this place
@@ -166,19 +166,15 @@ good_rest r rs good i s below there =
 good_first : (r : RegionSpec) (rs : List RegionSpec) → GoodBelow (r ∷ rs) (length (r ∷ rs)) → IsGoodRegion [] r
 good_first r rs good = good 0 r (omega arith) refl
 
--- a region of zeros ends where it is to end
-ends_at : (r : RegionSpec) → end_of (zeroed_region r) ≡ r.base + r.len
-ends_at r = ap (λ (n : ℕ). r.base + n) (length-replicate {A = ℕ} r.len 0)
-
 -- good regions are apart
-good_apart : (rs : List RegionSpec) → 1 ≤ length rs → GoodBelow rs (length rs) → AreApart (map zeroed_region rs)
+good_apart : (rs : List Region) → 1 ≤ length (map spec_of rs) → GoodBelow (map spec_of rs) (length (map spec_of rs)) → AreApart rs
 good_apart [] some good = absurd (omega (arith, some))
-good_apart (r ∷ []) some good = one_apart (zeroed_region r) (omega (arith, ends_at r, (good_first r [] good).place.own.below))
+good_apart (r ∷ []) some good = one_apart r (omega (arith, (good_first (spec_of r) [] good).place.own.below))
 good_apart (r ∷ (s ∷ rs)) some good =
-    let second : IsGoodRegion (r ∷ []) s = good 1 s (omega arith) refl in
-    more_apart (zeroed_region r) (zeroed_region s) (map zeroed_region rs)
-    (omega (arith, ends_at r, All-head (λ other. other.base + other.len < s.base) r [] second.above))
-    (good_apart (s ∷ rs) (omega arith) (good_rest r (s ∷ rs) good))
+    let second : IsGoodRegion (spec_of r ∷ []) (spec_of s) = good 1 (spec_of s) (omega arith) refl in
+    more_apart r s rs
+    (omega (arith, All-head (λ other. other.base + other.len < s.base) (spec_of r) [] second.above))
+    (good_apart (s ∷ rs) (omega arith) (good_rest (spec_of r) (map spec_of (s ∷ rs)) good))
 
 -- the last ends less than 2^64 addresses behind the first byte
 last_spans : (r : RegionSpec) (rs : List RegionSpec) (i : ℕ) (d : RegionSpec) → GoodBelow (r ∷ rs) (length (r ∷ rs)) → i < length (r ∷ rs)
@@ -188,28 +184,36 @@ last_spans r rs (suc i) d good within =
     let one : IsGoodRegion (r ∷ take i rs) (get_or rs i d) = good (suc i) (get_or rs i d) within (slice_get-get_or (r ∷ rs) (suc i) d within) in
     All-head (λ other. (get_or rs i d).base + (get_or rs i d).len < other.base + 2 ^ 64) r (take i rs) one.place.spans
 
-spans_less : (rs : List RegionSpec) (apart : AreApart (map zeroed_region rs)) → GoodBelow rs (length rs) → length (zeroed_regions rs).bytes < 2 ^ 64
+spans_less : (rs : List Region) (apart : AreApart rs) → GoodBelow (map spec_of rs) (length (map spec_of rs)) → length (memory_of rs).bytes < 2 ^ 64
 spans_less [] apart good = absurd (omega (arith, some_region [] apart))
 spans_less (r ∷ rs) apart good =
     let last : ℕ = length rs in
-    let regions : List Region = map zeroed_region (r ∷ rs) in
-    let many : suc last ≡ length regions = sym (length-map (r ∷ rs) zeroed_region) in
-    let end = ends_last regions last (zeroed_region r) apart many in
-    let is : get_or regions last (zeroed_region r) ≡ zeroed_region (get_or (r ∷ rs) last r) = get_or-map zeroed_region (r ∷ rs) last r (zeroed_region r) (omega arith) in
+    let end = ends_last (r ∷ rs) last r apart refl in
+    let is : get_or (map spec_of (r ∷ rs)) last (spec_of r) ≡ spec_of (get_or (r ∷ rs) last r) = get_or-map spec_of (r ∷ rs) last r (spec_of r) (omega arith) in
+    let within : last < length (spec_of r ∷ map spec_of rs) = omega (arith, length-map rs spec_of) in
     omega (
       arith,
       end,
-      ap end_of is,
-      ends_at (get_or (r ∷ rs) last r),
-      last_spans r rs last r good (omega arith),
-      first_base (zeroed_region r) (map zeroed_region rs),
+      ap (λ (s : RegionSpec). s.base + s.len) is,
+      last_spans (spec_of r) (map spec_of rs) last (spec_of r) good within,
+      first_base r rs,
     )
 
 -- good regions are those of a memory
-pub good_regions : (rs : List RegionSpec) → AreGood rs → AreRegions (map zeroed_region rs)
+pub good_regions : (rs : List Region) → AreGood (map spec_of rs) → AreRegions rs
 good_regions rs good =
     let apart = good_apart rs good.some good.each in
     record { apart = apart; spans = spans_less rs apart good.each }
+
+-- regions of zeros are where they are to be, and as large
+specs_again : (rs : List RegionSpec) → map spec_of (map zeroed_region rs) ≡ rs
+specs_again [] = refl
+specs_again (r ∷ rs) =
+    ap (λ (n : ℕ). record { base = r.base; len = n } ∷ map spec_of (map zeroed_region rs)) (length-replicate {A = ℕ} r.len 0)
+    ∙ ap (λ (ss : List RegionSpec). r ∷ ss) (specs_again rs)
+
+pub good_zeroed : (rs : List RegionSpec) → AreGood rs → AreRegions (map zeroed_region rs)
+good_zeroed rs good = good_regions (map zeroed_region rs) (subst AreGood (sym (specs_again rs)) good)
 
 -- each ends by 2^64
 pub good_ends : (rs : List RegionSpec) → AreGood rs → All (λ r. r.base + r.len ≤ 2 ^ 64) rs

@@ -72,6 +72,10 @@ abbrev pub Refuses : List RegionSpec → MemoryFault → Type 0
 Refuses regions NoMemory = AreGood regions
 Refuses regions fault = IsRefused regions fault
 
+-- a region's address and size
+abbrev pub spec_of : Region → RegionSpec
+spec_of r = record { base = r.base; len = length r.bytes }
+
 -- a region of zeros
 abbrev pub zeroed_region : RegionSpec → Region
 zeroed_region r = record { base = r.base; bytes = replicate r.len 0 }

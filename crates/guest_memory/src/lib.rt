@@ -15,4 +15,5 @@ mod spec;
 pub use fault::{MemoryFault, RegionFault, fault_of, fault_of_regions};
 pub use laws::a_range_is_tested;
 pub use memory::GuestMemory;
+pub use region::Region;
 pub use spec::{MOST_REGIONS, RegionSpec, Regions};

@@ -1,11 +1,11 @@
 //! The regions of a guest's memory, and the test whether a range lies in one of them.
 
-ghost use Rattle.std.specs.Prelude.{◌≡◌, ◌+◌, ◌^◌, ◌≤◌, ◌<◌, ◌↔◌, ℕ, All, length, map, IsTrue, IsSome, IfOk, IfErr, OnOk, IfSome, slice_index_or};
+ghost use Rattle.std.specs.Prelude.{◌≡◌, ◌+◌, ◌^◌, ◌≤◌, ◌<◌, ◌↔◌, ◌⊎◌, ℕ, All, length, map, IsTrue, IsSome, IfOk, IfErr, OnOk, IfSome, slice_index_or};
 ghost use Rattle.std.specs.List.{position};
 ghost use Rattle.guest_memory.specs.Limits.{IsSize, IsBase};
 ghost use Rattle.guest_memory.specs.Memory.{Inside, IsRest, SameRange, is_inside, part_of, zeroed};
 ghost use Rattle.guest_memory.specs.Regions.{touches, IsIn, AreApart, memory_of};
-ghost use Rattle.guest_memory.specs.Faults.{AreGood, IsRefused, Refuses, zeroed_region, zeroed_regions};
+ghost use Rattle.guest_memory.specs.Faults.{AreGood, IsRefused, Refuses, spec_of, zeroed_region, zeroed_regions};
 ghost use Rattle.guest_memory.specs.Lending.{LendsPart};
 ghost use Rattle.guest_memory.specs.declared.fault.MemoryFault.{MemoryFault};
 ghost use Rattle.std.specs.Borrow.{sem};
@@ -51,6 +51,16 @@ fn place_inside<A: Allocator>(regions: &[Region<A>], addr: u64, n: u64) -> usize
         return 0;
     }
     place_of(regions, addr).unwrap_or(0)
+}
+
+/// Where the regions are and how large.
+fn specs<A: Allocator + Copy>(
+    alloc: A,
+    regions: &[Region<A>],
+) -> Result<Vec<RegionSpec, A>, AllocError>
+    ensures { IfOk result (λ specs. specs.items ≡ map spec_of regions.now) }
+{
+    regions.iter().map(|region| region.spec()).collect(alloc)
 }
 
 /// The regions, of zeros.
@@ -114,6 +124,22 @@ impl<A: Allocator + Copy> GuestMemory<A> {
         match zeroed(alloc, regions) {
             Ok(regions) => Ok(GuestMemory { regions }),
             Err(_) => Err(MemoryFault::NoMemory),
+        }
+    }
+
+    /// A memory of these regions, whose bytes are there already. None is copied or read.
+    pub fn of_regions(alloc: A, regions: Vec<Region<A>, A>) -> Result<GuestMemory<A>, MemoryFault>
+        ensures made { IfOk result (λ m. m ≡ memory_of regions.items) }
+        ensures ok { OnOk result (AreGood (map spec_of regions.items)) }
+        ensures fault { IfErr result (λ fault.
+            (fault ≡ MemoryFault.NoMemory) ⊎ IsRefused (map spec_of regions.items) fault) }
+    {
+        let Ok(specs) = specs(alloc, &regions) else {
+            return Err(MemoryFault::NoMemory);
+        };
+        match fault_of_regions(&specs) {
+            None => Ok(GuestMemory { regions }),
+            Some(RegionFault { region: _, fault }) => Err(fault),
         }
     }
 }

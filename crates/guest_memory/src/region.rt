@@ -2,10 +2,12 @@
 
 ghost use Rattle.std.specs.Prelude.{◌≡◌, ◌+◌, ◌-◌, ◌^◌, ◌≤◌, ◌↔◌, ◌⊎◌, length, take, drop, IsTrue, slice_index_or};
 ghost use Rattle.guest_memory.specs.Regions.{end_of, touches, IsIn};
+ghost use Rattle.guest_memory.specs.Faults.{spec_of};
 ghost use Rattle.guest_memory.specs.Memory.{put_at};
 ghost use Rattle.guest_memory.specs.Lending.{LendsRegion};
 ghost use Rattle.std.specs.Borrow.{sem};
 
+use crate::spec::RegionSpec;
 use std::alloc::{Allocator, Global};
 use std::marker::Model;
 
@@ -28,7 +30,7 @@ impl<A: Allocator> Model for Region<A> {
 }
 
 impl<A: Allocator> Region<A> {
-    /// The bytes from address `base` on.
+    /// These bytes, from address `base` on.
     pub fn new(base: u64, bytes: Vec<u8, A>) -> Region<A>
         requires { base + length bytes.items ≤ 2 ^ 64 }
         ensures base { result.base ≡ base }
@@ -52,11 +54,14 @@ impl<A: Allocator> Region<A> {
         self.bytes.len() as u64
     }
 
-    /// Its bytes.
-    pub fn bytes(&self) -> &[u8]
-        ensures { result.now ≡ self.now.bytes }
+    /// Where it is and how large.
+    pub fn spec(&self) -> RegionSpec
+        ensures { result ≡ spec_of self.now }
     {
-        &self.bytes
+        RegionSpec {
+            base: self.base,
+            len: self.len(),
+        }
     }
 
     /// Whether `addr` lies in the region, or is its end.

@@ -7,8 +7,9 @@ use std::marker::Model;
 /// The most regions that a guest's memory may have.
 pub const MOST_REGIONS: usize = 8;
 
-/// A region of a guest's memory, as it is to be.
-#[derive(Clone, Copy, Debug, PartialEq, Eq)]
+/// A region of a guest's memory, as it is to be. C has it as it is.
+#[derive(Clone, Copy, Debug, Default, PartialEq, Eq)]
+#[repr(C)]
 pub struct RegionSpec {
     /// The address of its first byte.
     pub base: u64,

@@ -1,7 +1,7 @@
 use Rattle.std.proofs.Common.{subst, sym}
 use Rattle.guest_memory.specs.Faults.{AreGood}
 use Rattle.guest_memory.specs.Regions.{AreRegions}
-use Rattle.guest_memory.proofs.Faults.{good_ends, good_regions}
+use Rattle.guest_memory.proofs.Faults.{good_ends, good_zeroed}
 use Rattle.guest_memory.proofs.memory.GuestMemory.with_regions.Goals as goal
 
 pub zeroed-requires : goal.zeroed-requires
@@ -10,4 +10,4 @@ zeroed-requires g c = good_ends c.args.regions.now (c.fault_of_regions.ensures.g
 pub invariant_of-result : goal.invariant_of-result
 invariant_of-result g c =
     let good : AreGood c.args.regions.now = c.fault_of_regions.ensures.good.0 c.in_default.is in
-    subst AreRegions (sym c.in-Ok.ensures) (good_regions c.args.regions.now good)
+    subst AreRegions (sym c.in-Ok.ensures) (good_zeroed c.args.regions.now good)
