@@ -441,8 +441,9 @@ uint32_t kalyubos_save(struct kalyubos *board, uint8_t slot, uint8_t *into, size
 
 /*
  * Puts the slot's devices into the state of a snapshot, and the guest goes on where it was saved. Memory and disk stay.
- * The slot may be of any board of either kind. Its regions, `count`, `read_only` and `identity` are those of the slot that
- * was saved, or the answer is OTHER_SLOT. The console's size is the snapshot's. `pending` is what then waits.
+ * The slot may be of any board of either kind. Where its memory begins and ends, `count`, `read_only` and `identity` are as of
+ * the slot that was saved, or the answer is OTHER_SLOT. That its regions are the same is the host's to see. The console's size
+ * is the snapshot's. `pending` is what then waits.
  *
  * Each snapshot that kalyubos_save wrote of such a slot is taken. Of other bytes BAD_SNAPSHOT, OTHER_SLOT or BAD_STATE says
  * what is wrong, or they are taken as they spell: there is no checksum. A snapshot that was changed on its way harms its
