@@ -70,13 +70,13 @@ enum {
     KALYUBOS_NO_BOARD = 1,          /* the handle is empty */
     KALYUBOS_HAS_BOARD = 2,         /* the handle holds a board already, and goes on holding it */
     KALYUBOS_BAD_SLOT = 3,          /* the board has no such slot; nothing changed */
-    KALYUBOS_BAD_RANGE = 4,         /* not all of the range lies in one region of the memory, or in the image; nothing changed */
+    KALYUBOS_BAD_RANGE = 4,         /* no region of the memory, nor the image, holds all of the range; nothing changed */
     KALYUBOS_NO_MEMORY = 5,         /* the heap refused; only the calls that make a board answer this */
     KALYUBOS_BAD_WINDOW = 6,        /* no window has this number; nothing changed */
     KALYUBOS_BAD_IMAGE = 7,         /* the image isn't whole sectors of 512 bytes */
     KALYUBOS_NO_SLOTS = 8,          /* a board needs a slot */
     KALYUBOS_TOO_MANY_SLOTS = 9,    /* a board has sixty-four slots at most */
-    KALYUBOS_BAD_MEMORY_SIZE = 10,  /* a region's size is no multiple of 4096 from 4096 on, or the regions have more than 2^46 bytes */
+    KALYUBOS_BAD_MEMORY_SIZE = 10,  /* a region's size is no multiple of 4096, or with it there are more than 2^46 bytes */
     KALYUBOS_BAD_MEMORY_BASE = 11,  /* a region's base is no multiple of 4096, or the region passes 2^64 */
     KALYUBOS_EXTENT_OUTSIDE = 12,   /* an extent passes the image's end, or a disk 2^64 bytes */
     KALYUBOS_EXTENTS_OVERLAP = 13,  /* two extents share a sector */
@@ -197,7 +197,7 @@ struct kalyubos_region {
  */
 struct kalyubos_slot {
     size_t size;          /* sizeof(struct kalyubos_slot) */
-    struct kalyubos_region regions[KALYUBOS_REGIONS]; /* of its memory; the first one of `len` 0 and those behind it are none */
+    struct kalyubos_region regions[KALYUBOS_REGIONS]; /* of its memory: those before the first one of `len` 0 */
     uint64_t start;       /* the first sector of the image that its disk shows */
     uint64_t count;       /* how many sectors it shows */
     uint16_t cols;        /* the columns of its console */
