@@ -4,8 +4,7 @@ use Rattle.std.specs.Prelude.{All, Any}
 use Rattle.std.specs.List.{slice_get}
 use Rattle.std.proofs.lemmas.Bool.{cases_order}
 use Rattle.std.proofs.lemmas.Option.{slice_get_within}
-use Rattle.guest_memory.specs.declared.fault.MemoryFault.{MemoryFault}
-use Rattle.guest_memory.specs.declared.fault.MemoryFault.TheVariants.{BadSize, BadBase}
+use Rattle.guest_memory.proofs.Faults.{one_fault as one_memory_fault, refused_not_good}
 use Rattle.sector_cache.specs.Fault.{IsCapacity}
 use Rattle.sector_cache.specs.declared.fault.CacheFault.TheVariants.{BadCapacity}
 use Rattle.board.specs.declared.fault.BoardFault.{BoardFault}
@@ -28,9 +27,7 @@ shared_not_all earlier spec some all =
 pub faulty_not_good : (sectors : ℕ) (earlier : List SlotSpec) (spec : SlotSpec) (fault : BoardFault) → IsFaultOf sectors earlier spec fault → IsGoodSlot sectors earlier spec → ⊥
 faulty_not_good sectors earlier spec NoSlots is good = is
 faulty_not_good sectors earlier spec TooManySlots is good = is
-faulty_not_good sectors earlier spec (Memory BadSize) is good = is good.memory.size
-faulty_not_good sectors earlier spec (Memory BadBase) is good = is.1 good.memory.base_ok
-faulty_not_good sectors earlier spec (Memory MemoryFault.NoMemory) is good = is
+faulty_not_good sectors earlier spec (Memory fault) is good = refused_not_good spec.regions is.place fault is.by_it good.memory
 faulty_not_good sectors earlier spec ExtentOutside is good = absurd (omega (arith, is.outside, good.within))
 faulty_not_good sectors earlier spec ExtentsOverlap is good = shared_not_all earlier spec is.shared good.apart
 faulty_not_good sectors earlier spec (Cache fault) is good = is
@@ -38,45 +35,29 @@ faulty_not_good sectors earlier spec BoardFault.NoMemory is good = is
 
 -- a slot has one fault that counts
 pub one_of_slot : (sectors : ℕ) (earlier : List SlotSpec) (spec : SlotSpec) (f g : BoardFault) → IsFaultOf sectors earlier spec f → IsFaultOf sectors earlier spec g → f ≡ g
-one_of_slot sectors earlier spec (Memory BadSize) (Memory BadSize) is also = refl
-one_of_slot sectors earlier spec (Memory BadSize) (Memory BadBase) is also = absurd (is also.0)
-one_of_slot sectors earlier spec (Memory BadSize) ExtentOutside is also = absurd (is also.memory.size)
-one_of_slot sectors earlier spec (Memory BadSize) ExtentsOverlap is also = absurd (is also.memory.size)
-one_of_slot sectors earlier spec (Memory BadSize) NoSlots is also = absurd also
-one_of_slot sectors earlier spec (Memory BadSize) TooManySlots is also = absurd also
-one_of_slot sectors earlier spec (Memory BadSize) (Memory MemoryFault.NoMemory) is also = absurd also
-one_of_slot sectors earlier spec (Memory BadSize) (Cache fault) is also = absurd also
-one_of_slot sectors earlier spec (Memory BadSize) BoardFault.NoMemory is also = absurd also
-one_of_slot sectors earlier spec (Memory BadBase) (Memory BadSize) is also = absurd (also is.0)
-one_of_slot sectors earlier spec (Memory BadBase) (Memory BadBase) is also = refl
-one_of_slot sectors earlier spec (Memory BadBase) ExtentOutside is also = absurd (is.1 also.memory.base_ok)
-one_of_slot sectors earlier spec (Memory BadBase) ExtentsOverlap is also = absurd (is.1 also.memory.base_ok)
-one_of_slot sectors earlier spec (Memory BadBase) NoSlots is also = absurd also
-one_of_slot sectors earlier spec (Memory BadBase) TooManySlots is also = absurd also
-one_of_slot sectors earlier spec (Memory BadBase) (Memory MemoryFault.NoMemory) is also = absurd also
-one_of_slot sectors earlier spec (Memory BadBase) (Cache fault) is also = absurd also
-one_of_slot sectors earlier spec (Memory BadBase) BoardFault.NoMemory is also = absurd also
-one_of_slot sectors earlier spec ExtentOutside (Memory BadSize) is also = absurd (also is.memory.size)
-one_of_slot sectors earlier spec ExtentOutside (Memory BadBase) is also = absurd (also.1 is.memory.base_ok)
+one_of_slot sectors earlier spec (Memory f) (Memory g) is also = ap Memory (one_memory_fault spec.regions f g is also)
+one_of_slot sectors earlier spec (Memory f) ExtentOutside is also = absurd (refused_not_good spec.regions is.place f is.by_it also.memory)
+one_of_slot sectors earlier spec (Memory f) ExtentsOverlap is also = absurd (refused_not_good spec.regions is.place f is.by_it also.memory)
+one_of_slot sectors earlier spec (Memory f) NoSlots is also = absurd also
+one_of_slot sectors earlier spec (Memory f) TooManySlots is also = absurd also
+one_of_slot sectors earlier spec (Memory f) (Cache fault) is also = absurd also
+one_of_slot sectors earlier spec (Memory f) BoardFault.NoMemory is also = absurd also
+one_of_slot sectors earlier spec ExtentOutside (Memory g) is also = absurd (refused_not_good spec.regions also.place g also.by_it is.memory)
 one_of_slot sectors earlier spec ExtentOutside ExtentOutside is also = refl
 one_of_slot sectors earlier spec ExtentOutside ExtentsOverlap is also = absurd (omega (arith, is.outside, also.within))
 one_of_slot sectors earlier spec ExtentOutside NoSlots is also = absurd also
 one_of_slot sectors earlier spec ExtentOutside TooManySlots is also = absurd also
-one_of_slot sectors earlier spec ExtentOutside (Memory MemoryFault.NoMemory) is also = absurd also
 one_of_slot sectors earlier spec ExtentOutside (Cache fault) is also = absurd also
 one_of_slot sectors earlier spec ExtentOutside BoardFault.NoMemory is also = absurd also
-one_of_slot sectors earlier spec ExtentsOverlap (Memory BadSize) is also = absurd (also is.memory.size)
-one_of_slot sectors earlier spec ExtentsOverlap (Memory BadBase) is also = absurd (also.1 is.memory.base_ok)
+one_of_slot sectors earlier spec ExtentsOverlap (Memory g) is also = absurd (refused_not_good spec.regions also.place g also.by_it is.memory)
 one_of_slot sectors earlier spec ExtentsOverlap ExtentOutside is also = absurd (omega (arith, also.outside, is.within))
 one_of_slot sectors earlier spec ExtentsOverlap ExtentsOverlap is also = refl
 one_of_slot sectors earlier spec ExtentsOverlap NoSlots is also = absurd also
 one_of_slot sectors earlier spec ExtentsOverlap TooManySlots is also = absurd also
-one_of_slot sectors earlier spec ExtentsOverlap (Memory MemoryFault.NoMemory) is also = absurd also
 one_of_slot sectors earlier spec ExtentsOverlap (Cache fault) is also = absurd also
 one_of_slot sectors earlier spec ExtentsOverlap BoardFault.NoMemory is also = absurd also
 one_of_slot sectors earlier spec NoSlots g is also = absurd is
 one_of_slot sectors earlier spec TooManySlots g is also = absurd is
-one_of_slot sectors earlier spec (Memory MemoryFault.NoMemory) g is also = absurd is
 one_of_slot sectors earlier spec (Cache fault) g is also = absurd is
 one_of_slot sectors earlier spec BoardFault.NoMemory g is also = absurd is
 

@@ -8,8 +8,9 @@ use Rattle.std.proofs.lemmas.Option.{slice_get-get_or, slice_get_within}
 use Rattle.block_device.specs.Extent.{sector_len}
 use Rattle.board.specs.declared.fault.BoardFault.{BoardFault}
 use Rattle.board.specs.declared.fault.BoardFault.TheVariants.{NoSlots, TooManySlots, Memory, ExtentOutside, ExtentsOverlap, Cache, NoMemory}
+use Rattle.guest_memory.specs.Faults.{AreGood as AreGoodRegions}
 use Rattle.board.specs.declared.spec.SlotSpec.{SlotSpec}
-use Rattle.board.specs.Fault.{AreGoodHosted, GoodHostedBelow, HasFirstHostedFault, IsFaultOf, IsGoodHosted, IsMemory, RefusesHosted, most_sectors, with_own_disk}
+use Rattle.board.specs.Fault.{AreGoodHosted, GoodHostedBelow, HasFirstHostedFault, IsFaultOf, IsGoodHosted, RefusesHosted, most_sectors, with_own_disk}
 use Rattle.board.proofs.Faults.{faulty_not_good, one_of_slot}
 
 more_at : (slots : List SlotSpec) (n : ℕ) (last : SlotSpec) → GoodHostedBelow slots n → IsGoodHosted last → slice_get slots n ≡ Some last → (i : ℕ) (spec : SlotSpec) → i < n + 1 → slice_get slots i ≡ Some spec → (i < n) ⊎ (n ≤ i) → IsGoodHosted spec
@@ -41,7 +42,7 @@ good_hosted_all slots n all good i spec below there = good i spec (omega arith) 
 
 -- every memory that is asked for may be had, and the bytes of every disk are counted in 64 bits
 pub hosted_ready : (slots : List SlotSpec) → AreGoodHosted slots → (k : ℕ) (d : SlotSpec) → k < length slots
-    → IsMemory (get_or slots k d).base (get_or slots k d).len × (sector_len * (get_or slots k d).extent.count < 2 ^ 64)
+    → AreGoodRegions (get_or slots k d).regions × (sector_len * (get_or slots k d).extent.count < 2 ^ 64)
 hosted_ready slots good k d below =
     let spec = get_or slots k d in
     let one : IsGoodHosted spec = good.each k spec below (slice_get-get_or slots k d below) in

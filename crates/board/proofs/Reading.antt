@@ -1,5 +1,5 @@
 -- What a read of memory may give, told by whether its range lies inside.
-use Rattle.std.proofs.Common.{◌≡◌, inl, inr, ℕ, ◌<◌, Bool, true, false, List, refl, sym, ap}
+use Rattle.std.proofs.Common.{◌≡◌, inl, inr, ℕ, ◌<◌, Bool, true, false, List, refl}
 use Rattle.guest_memory.specs.Memory.{Inside, is_inside, part_of}
 use Rattle.guest_memory.proofs.Ranges.{is_inside-tells}
 use Rattle.board.specs.declared.event.EventKind.TheVariants.{MemRead}

@@ -1,7 +1,6 @@
 -- A restore as an event: it has one outcome, and a slot that takes up a snapshot gives it.
-use Rattle.std.proofs.Common.{◌≡◌, ◌∙◌, inl, inr, ℕ, List, Option, Some, None, Result, Ok, Err, refl, sym, ap, subst}
+use Rattle.std.proofs.Common.{◌≡◌, ◌∙◌, inl, inr, ℕ, List, Result, Ok, Err, refl, sym, ap, subst}
 use Rattle.std.specs.Prelude.{IfErr, IsOkAnd, OnErr, OnOk}
-use Rattle.mmio_window.specs.Window.{WindowState}
 use Rattle.sector_cache.specs.Sector.{extent_of}
 use Rattle.snapshot.specs.declared.fault.SnapshotFault.{SnapshotFault}
 use Rattle.snapshot.specs.declared.saved.SavedSlot.{SavedSlot}
@@ -12,7 +11,7 @@ use Rattle.board.specs.declared.saved.RestoreFault.{RestoreFault}
 use Rattle.board.specs.declared.saved.RestoreFault.TheVariants.{Snapshot, OtherSlot, BadBlock, BadConsole}
 use Rattle.board.specs.Image.{Health, sectors_of}
 use Rattle.board.specs.Outcome.{Outcome, does, replies}
-use Rattle.board.specs.Restoring.{IsNotTakenUp, IsRestoring, IsTakenUp, restore_reply, slot_in}
+use Rattle.board.specs.Restoring.{IsRestoring, IsTakenUp, restore_reply, slot_in}
 use Rattle.board.specs.Saved.{IsCauseOf, IsRestored, Prevents, Suits, TakesUp}
 use Rattle.board.specs.Slot.{BoardSlot, SlotState, state_of}
 use Rattle.board.specs.World.{MayGive}

@@ -1,18 +1,19 @@
 -- Descriptions of boards: what is known after some slots were found good, and what a refusal says.
-use Rattle.std.proofs.Common.{◌≡◌, ◌⊎◌, inl, inr, ℕ, ◌+◌, ◌<◌, ◌≤◌, List, [], ◌∷◌, false, length, map, take, Some, get_or, refl, sym, ap, subst, arith, length-take-le}
+use Rattle.std.proofs.Common.{◌≡◌, ◌⊎◌, inl, inr, ℕ, ◌+◌, ◌<◌, ◌≤◌, List, [], ◌∷◌, ◌++◌, false, length, map, take, Some, get_or, refl, sym, ◌∙◌, ap, subst, arith, length-take-le}
 use Rattle.std.specs.Prelude.{All, AllPairs}
 use Rattle.std.specs.List.{slice_get}
 use Rattle.std.proofs.lemmas.Bool.{cases_lt}
-use Rattle.std.proofs.lemmas.List.{get_or-take, get_or-map, length-map}
+use Rattle.std.proofs.lemmas.List.{get_or-take, get_or-map, length-map, map_more}
 use Rattle.std.proofs.lemmas.List.Elements.{All-map}
 use Rattle.std.proofs.lemmas.Option.{slice_get-get_or}
+use Rattle.guest_memory.specs.Faults.{AreGood as AreGoodRegions}
 use Rattle.board.specs.declared.fault.BoardFault.{BoardFault}
 use Rattle.board.specs.declared.fault.BoardFault.TheVariants.{NoSlots, TooManySlots, Memory, ExtentOutside, ExtentsOverlap, Cache}
 use Rattle.board.specs.declared.spec.SlotSpec.{SlotSpec}
 use Rattle.block_device.specs.declared.extent.Extent.{Extent}
 use Rattle.block_device.specs.Extent.{IsWithin}
 use Rattle.board.specs.Extent.{IsApart, AreSound}
-use Rattle.board.specs.Fault.{IsMemory, IsGoodSlot, GoodBelow, AreGood, IsFaultOf, Refuses, cache_refusal}
+use Rattle.board.specs.Fault.{IsGoodSlot, GoodBelow, AreGood, IsFaultOf, Refuses, cache_refusal}
 use Rattle.board.specs.Slot.{opened}
 use Rattle.board.specs.World.{extents_of}
 use Rattle.sector_cache.specs.Fault.{RefusesCapacity}
@@ -54,7 +55,7 @@ pub good_all : (sectors : ℕ) (slots : List SlotSpec) (n : ℕ) → length slot
 good_all sectors slots n all good i spec below there = good i spec (omega arith) there
 
 -- every memory that is asked for may be had
-pub memories : (sectors : ℕ) (slots : List SlotSpec) → AreGood sectors slots → All (λ spec. IsMemory spec.base spec.len) slots
+pub memories : (sectors : ℕ) (slots : List SlotSpec) → AreGood sectors slots → All (λ spec. AreGoodRegions spec.regions) slots
 memories sectors slots good k d below = (good.each k (get_or slots k d) below (slice_get-get_or slots k d below)).memory
 
 -- a cache that is refused refuses the board
@@ -75,7 +76,7 @@ apart_at sectors slots good i j d before below =
 
 apart_all : (sectors : ℕ) (slots : List SlotSpec) → AreGood sectors slots → AllPairs IsApart (map (λ (spec : SlotSpec). spec.extent) slots)
 apart_all sectors slots good i j d before below =
-    let some : SlotSpec = record { base = 0; len = 0; extent = d; read_only = false; cols = 0; rows = 0; identity = [] } in
+    let some : SlotSpec = record { regions = []; extent = d; read_only = false; cols = 0; rows = 0; identity = [] } in
     let extent : SlotSpec → Extent = λ spec. spec.extent in
     let fits : j < length slots = omega (arith, length-map slots extent) in
     rw (get_or-map extent slots i some d (omega arith), get_or-map extent slots j some d fits) (apart_at sectors slots good i j some before fits)
@@ -87,3 +88,12 @@ sound sectors slots good =
       within = All-map (IsWithin sectors) (λ (spec : SlotSpec). spec.extent) slots (λ k d below. (good.each k (get_or slots k d) below (slice_get-get_or slots k d below)).within);
       apart = apart_all sectors slots good;
     })
+
+-- one slot more was opened
+pub opened_more : {X : Type 0} → (made : SlotSpec → X) (specs : List SlotSpec) (i : ℕ) (spec : SlotSpec) (slots new : List X) (slot : X) → i < length specs → spec ≡ get_or specs i spec
+    → slots ≡ map made (take i specs) → slot ≡ made spec → new ≡ slots ++ slot ∷ [] → new ≡ map made (take (i + 1) specs)
+opened_more {X} made specs i spec slots new slot below is before slot_is pushed =
+    pushed
+    ∙ ap (λ (xs : List X). xs ++ slot ∷ []) before
+    ∙ ap (λ (x : X). map made (take i specs) ++ x ∷ []) (slot_is ∙ ap made is)
+    ∙ sym (map_more made specs i spec below)

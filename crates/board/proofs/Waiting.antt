@@ -1,5 +1,5 @@
 -- What waits for what is in flight, and what doesn't end it.
-use Rattle.std.proofs.Common.{◌≡◌, ◌⊎◌, inl, inr, ℕ, Bool, true, false, Option, Some, None, List, [], length, refl, sym, ◌∙◌, ap, subst}
+use Rattle.std.proofs.Common.{◌≡◌, inl, inr, ℕ, Bool, true, false, Option, Some, None, List, [], length, refl, sym, ◌∙◌, ap, subst}
 use Rattle.std.specs.Prelude.{⊤, if◌then◌else◌}
 use Rattle.guest_memory.specs.Memory.{Memory, is_inside, part_of, put}
 use Rattle.block_device.specs.declared.operation.Verdict.{Verdict}

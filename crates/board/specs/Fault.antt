@@ -1,8 +1,7 @@
 -- Which boards there may be, and why others are refused.
 use Rattle.std.specs.Prelude.{◌≡◌, ℕ, Bool, true, false, ◌+◌, ◌-◌, ◌/◌, ◌^◌, ◌<◌, ◌≤◌, List, [], length, take, All, Any, Some}
 use Rattle.std.specs.List.{slice_get}
-use Rattle.guest_memory.specs.Limits.{IsSize, IsBase}
-use Rattle.guest_memory.specs.declared.fault.MemoryFault.TheVariants.{BadSize, BadBase}
+use Rattle.guest_memory.specs.Faults.{AreGood as AreGoodRegions, IsRefused}
 use Rattle.guest_memory.specs.declared.fault.MemoryFault.TheVariants as memory
 use Rattle.sector_cache.specs.Fault.{IsCapacity}
 use Rattle.sector_cache.specs.declared.fault.CacheFault.{CacheFault}
@@ -14,14 +13,9 @@ use Rattle.board.specs.declared.spec.SlotSpec.{SlotSpec}
 use Rattle.block_device.specs.Extent.{IsWithin}
 use Rattle.board.specs.Extent.{IsApart, Overlaps}
 
--- a guest may have a memory of this base and size
-pub record IsMemory (base len : ℕ) : Type 0 where
-  pub size : IsSize len
-  pub base_ok : IsBase base len
-
 -- a slot may be had on an image of that many sectors, beside the slots before it
 pub record IsGoodSlot (sectors : ℕ) (earlier : List SlotSpec) (spec : SlotSpec) : Type 0 where
-  pub memory : IsMemory spec.base spec.len
+  pub memory : AreGoodRegions spec.regions
   pub within : IsWithin sectors spec.extent
   pub apart : All (λ other. IsApart other.extent spec.extent) earlier
 
@@ -39,20 +33,18 @@ pub record AreGood (sectors : ℕ) (slots : List SlotSpec) : Type 0 where
 
 -- an extent that passes the image's end, of a slot whose memory is good
 pub record HasExtentOutside (sectors : ℕ) (spec : SlotSpec) : Type 0 where
-  pub memory : IsMemory spec.base spec.len
+  pub memory : AreGoodRegions spec.regions
   pub outside : sectors < spec.extent.start + spec.extent.count
 
 -- an extent inside the image that has a sector of an earlier slot's, of a slot whose memory is good
 pub record HasSharedSector (sectors : ℕ) (earlier : List SlotSpec) (spec : SlotSpec) : Type 0 where
-  pub memory : IsMemory spec.base spec.len
+  pub memory : AreGoodRegions spec.regions
   pub within : IsWithin sectors spec.extent
   pub shared : Any (λ other. Overlaps other.extent spec.extent) earlier
 
--- a slot's fault, of which the first counts: its memory's size, then its base, then its extent's end,
--- then a sector that it shares
+-- a slot's fault, of which the first counts: its memory's, then its extent's end, then a sector that it shares
 abbrev pub IsFaultOf : ℕ → List SlotSpec → SlotSpec → BoardFault → Type 0
-IsFaultOf sectors earlier spec (Memory BadSize) = ¬ IsSize spec.len
-IsFaultOf sectors earlier spec (Memory BadBase) = IsSize spec.len × ¬ IsBase spec.base spec.len
+IsFaultOf sectors earlier spec (Memory fault) = IsRefused spec.regions fault
 IsFaultOf sectors earlier spec ExtentOutside = HasExtentOutside sectors spec
 IsFaultOf sectors earlier spec ExtentsOverlap = HasSharedSector sectors earlier spec
 IsFaultOf sectors earlier spec _ = ⊥

@@ -117,18 +117,18 @@ words_of state = (block_irq state.slot, console_irq state.slot)
 abbrev pub with_memory : Memory → HostedState → HostedState
 with_memory memory state = record state { slot = record state.slot { memory = memory } }
 
--- a slot with these bytes in its memory, from the first one on
-abbrev pub with_bytes : HostedState → List ℕ → HostedState
-with_bytes state bytes = with_memory (put state.slot.memory state.slot.memory.base bytes) state
+-- a slot with these bytes in its memory, from this address on
+abbrev pub with_bytes : ℕ → HostedState → List ℕ → HostedState
+with_bytes addr state bytes = with_memory (put state.slot.memory addr bytes) state
 
 -- slots of which this one was slot h: it has these bytes in its memory
-abbrev pub put_back : ℕ → Option HostedState → List ℕ → List HostedState → List HostedState
-put_back h None bytes slots = slots
-put_back h (Some found) bytes slots = slice_set slots h (with_bytes found bytes)
+abbrev pub put_back : ℕ → Option HostedState → ℕ → List ℕ → List HostedState → List HostedState
+put_back h None addr bytes slots = slots
+put_back h (Some found) addr bytes slots = slice_set slots h (with_bytes addr found bytes)
 
 -- a board with these bytes in the memory of slot h
-abbrev pub with_slot_bytes : ℕ → List HostedState → List ℕ → List HostedState
-with_slot_bytes h slots bytes = put_back h (slice_get slots h) bytes slots
+abbrev pub with_slot_bytes : ℕ → ℕ → List HostedState → List ℕ → List HostedState
+with_slot_bytes h addr slots bytes = put_back h (slice_get slots h) addr bytes slots
 
 -- what a call is answered for a range of a slot's memory that isn't there, where there are so many slots
 abbrev pub out_of_range : {A : Type 0} → ℕ → ℕ → Reply A

@@ -9,19 +9,19 @@ use Rattle.board.specs.Slot.{BoardSlot}
 use Rattle.board.specs.World.{BoardState}
 use Rattle.board.specs.contracts.slot.Slot.{the_row as slot_row}
 
--- a slot with these bytes in its memory, from the first one on
-abbrev pub with_bytes : BoardSlot → List ℕ → BoardSlot
-with_bytes slot bytes = record slot { memory = put slot.memory slot.memory.base bytes }
+-- a slot with these bytes in its memory, from this address on
+abbrev pub with_bytes : ℕ → BoardSlot → List ℕ → BoardSlot
+with_bytes addr slot bytes = record slot { memory = put slot.memory addr bytes }
 
 -- a slot, whose allocator is of type A, ends with the bytes last behind r
-abbrev pub LendsBytes : (A : RattleType) → Ghosts A.Denot → MutBor BoardSlot → MutBor (List ℕ) → Fml
-LendsBytes A heap slot r = Lends (slot_row A heap) (Array u8 0) slot r (with_bytes slot.now)
+abbrev pub LendsBytes : (A : RattleType) → Ghosts A.Denot → MutBor BoardSlot → ℕ → MutBor (List ℕ) → Fml
+LendsBytes A heap slot addr r = Lends (slot_row A heap) (Array u8 0) slot r (with_bytes addr slot.now)
 
 -- slots of which this one was slot i: it has these bytes in its memory
-abbrev pub put_back : ℕ → Option BoardSlot → List ℕ → List BoardSlot → List BoardSlot
-put_back i None bytes slots = slots
-put_back i (Some found) bytes slots = slice_set slots i (with_bytes found bytes)
+abbrev pub put_back : ℕ → Option BoardSlot → ℕ → List ℕ → List BoardSlot → List BoardSlot
+put_back i None addr bytes slots = slots
+put_back i (Some found) addr bytes slots = slice_set slots i (with_bytes addr found bytes)
 
 -- a board with these bytes in the memory of slot i
-abbrev pub with_slot_bytes : {I : Type 0} → ℕ → BoardState I → List ℕ → BoardState I
-with_slot_bytes i board bytes = record board { slots = put_back i (slice_get board.slots i) bytes board.slots }
+abbrev pub with_slot_bytes : {I : Type 0} → ℕ → ℕ → BoardState I → List ℕ → BoardState I
+with_slot_bytes i addr board bytes = record board { slots = put_back i (slice_get board.slots i) addr bytes board.slots }

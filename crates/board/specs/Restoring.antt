@@ -1,5 +1,5 @@
 -- A restore as an event of a slot: what its guest finds that takes up a snapshot.
-use Rattle.std.specs.Prelude.{◌≡◌, ◌⊎◌, ℕ, Bool, false, List, Ok, Err, Result}
+use Rattle.std.specs.Prelude.{◌≡◌, ◌⊎◌, ℕ, false, List, Ok, Err, Result}
 use Rattle.board.specs.declared.reply.Reply.{Reply}
 use Rattle.board.specs.declared.reply.Reply.TheVariants.{BadSlot, BadState, Busy, Done}
 use Rattle.board.specs.declared.saved.RestoreFault.{RestoreFault}

@@ -60,8 +60,8 @@ pub record IsSavedTo (slot : BoardSlot) (old new : List ℕ) (len : ℕ) : Type 
 
 -- ---- what takes it up
 
--- The slot is of the description that was saved: its memory has the same addresses, its disk as many sectors, the same
--- mode and the same identity, and its devices offer the same features.
+-- The slot is of the description that was saved: its memory begins and ends at the same addresses, its disk has as many
+-- sectors, the same mode and the same identity, and its devices offer the same features.
 pub record Suits (saved : SavedSlot) (slot : BoardSlot) : Type 0 where
   pub base : saved.base ≡ slot.memory.base
   pub len : saved.len ≡ length slot.memory.bytes

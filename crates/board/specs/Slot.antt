@@ -1,6 +1,7 @@
 -- A slot: what its guest can see, and what the board keeps of it.
 use Rattle.std.specs.Prelude.{◌≡◌, ℕ, ◌+◌, Bool, false, if◌then◌else◌, nat_lt, List, [], length, ◌≤◌}
-use Rattle.guest_memory.specs.Memory.{Memory, SameRange, zeroed}
+use Rattle.guest_memory.specs.Faults.{zeroed_regions}
+use Rattle.guest_memory.specs.Memory.{Memory, SameRange}
 use Rattle.negotiation.specs.Features.{block_seg_max, block_ro, block_blk_size, block_flush, block_write_zeroes, console_size, console_emerg_write, indirect_desc, event_idx, version_1, ring_packed, notification_data}
 use Rattle.mmio_window.specs.declared.device_kind.DeviceKind.TheVariants.{Block, Console}
 use Rattle.mmio_window.specs.Interrupts.{interrupt_bits}
@@ -117,7 +118,7 @@ pub record IsSoundSlot (memory : Memory) (read_only : Bool) (block console : Win
 -- a refusal yet, and the rest is as it was asked for
 abbrev pub opened : SlotSpec → BoardSlot
 opened spec = record {
-  memory = zeroed spec.base spec.len;
+  memory = zeroed_regions spec.regions;
   extent = spec.extent;
   read_only = spec.read_only;
   identity = spec.identity;

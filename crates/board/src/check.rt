@@ -9,7 +9,7 @@ ghost use Rattle.board.specs.Fault.{AreGoodHosted, IsGoodSlot, AreGood, IsFaultO
 use crate::fault::BoardFault;
 use crate::spec::SlotSpec;
 use block_device::Extent;
-use guest_memory::fault_of;
+use guest_memory::{RegionFault, fault_of_regions};
 
 /// How many slots a board may have.
 const MOST_SLOTS: usize = 64;
@@ -70,7 +70,7 @@ fn slot(spec: &SlotSpec, earlier: &[SlotSpec], sectors: u64) -> Result<(), Board
     ensures ok { OnOk result (IsGoodSlot sectors earlier.now spec.now) }
     ensures fault { IfErr result (λ fault. IsFaultOf sectors earlier.now spec.now fault) }
 {
-    if let Some(fault) = fault_of(spec.base, spec.len) {
+    if let Some(RegionFault { region: _, fault }) = fault_of_regions(spec.regions.as_slice()) {
         return Err(BoardFault::Memory(fault));
     }
     if !is_within(spec.extent, sectors) {

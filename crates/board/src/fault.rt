@@ -17,7 +17,7 @@ pub enum BoardFault {
     /// There are more than sixty-four slots.
     #[error("a board has sixty-four slots at most")]
     TooManySlots,
-    /// A slot's memory has a bad size or a bad base.
+    /// A slot's memory can't be had.
     #[error("a guest's memory: {0}")]
     Memory(MemoryFault),
     /// A slot's extent passes the end of the image.

@@ -32,7 +32,7 @@ pub use chain::Budget;
 pub use console_device::Outlet;
 pub use event::{Event, EventKind};
 pub use fault::BoardFault;
-pub use guest_memory::{GuestMemory, MemoryFault};
+pub use guest_memory::{GuestMemory, MemoryFault, RegionSpec, Regions};
 pub use hosted::{
     HostedBoard, HostedTaken, a_flight_outlasts_own_events, a_hosted_guest_alone_has_one_run,
     an_honest_host_serves, each_hosted_guest_is_alone, one_hosted_outcome,

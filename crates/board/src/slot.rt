@@ -6,9 +6,9 @@
 //! from outside.
 
 ghost use Rattle.std.specs.Prelude.{◌≡◌, ◌≢◌, ◌<◌, ◌≤◌, ◌||◌, ℕ, List, All, map, length, Some, IfOk};
-ghost use Rattle.guest_memory.specs.Memory.{Inside, first_region};
+ghost use Rattle.guest_memory.specs.Faults.{AreGood as AreGoodRegions};
+ghost use Rattle.guest_memory.specs.Memory.{Inside, IsRest};
 ghost use Rattle.block_device.specs.Extent.{IsWithin, TouchesExtent};
-ghost use Rattle.board.specs.Fault.{IsMemory};
 ghost use Rattle.board.specs.Image.{Tells, bytes_of, health_of};
 ghost use Rattle.board.specs.Lending.{LendsBytes};
 ghost use Rattle.board.specs.Pausing.{Begins, GoesOn, HasLimit, ServesTurn, lacks_memory_in, met_in};
@@ -88,10 +88,10 @@ struct Answer<A: Allocator = Global> {
 impl<A: Allocator + Copy> Slot<A> {
     /// Opens a slot.
     pub(crate) fn open(alloc: A, spec: &SlotSpec) -> Result<Slot<A>, AllocError>
-        requires { IsMemory spec.now.base spec.now.len }
+        requires { AreGoodRegions spec.now.regions }
         ensures { IfOk result (λ slot. slot ≡ opened spec.now) }
     {
-        let Ok(memory) = GuestMemory::new(alloc, spec.base, spec.len) else {
+        let Ok(memory) = GuestMemory::with_regions(alloc, spec.regions.as_slice()) else {
             return Err(AllocError);
         };
         let Ok(console_device) = ConsoleDevice::new(alloc, spec.cols, spec.rows) else {
@@ -263,14 +263,13 @@ impl<A: Allocator> Slot<A> {
         &self.memory
     }
 
-    /// The bytes of the first region of the guest's memory, to be written.
-    pub(crate) fn memory_mut(&mut self) -> &mut [u8]
-        ensures* writes_back { sem 𝓛 (LendsBytes A.row A.Allocator self.entry result) }
-        ensures value { result.now ≡ first_region self.old.memory }
-        ensures inside { Inside self.old.memory self.old.memory.base (length result.now) }
+    /// The bytes of the guest's memory from `addr` to the end of the region that holds it, to be written.
+    pub(crate) fn memory_mut(&mut self, addr: u64) -> &mut [u8]
+        requires { Inside self.old.memory addr 1 }
+        ensures* writes_back { sem 𝓛 (LendsBytes A.row A.Allocator self.entry addr result) }
+        ensures rest { IsRest self.old.memory addr result.now }
     {
-        let (base, len) = (self.memory.base(), self.memory.first_region().len());
-        self.memory.part_mut(base, len as u64)
+        self.memory.region_mut(addr)
     }
 
     /// InterruptStatus of the block window and of the console window.
@@ -288,7 +287,7 @@ pub(crate) fn open_all<A: Allocator + Copy>(
     alloc: A,
     specs: &[SlotSpec],
 ) -> Result<Vec<Slot<A>, A>, AllocError>
-    requires { All (λ spec. IsMemory spec.base spec.len) specs.now }
+    requires { All (λ spec. AreGoodRegions spec.regions) specs.now }
     ensures { IfOk result (λ slots. slots.items ≡ map opened specs.now) }
 {
     let mut slots = Vec::with_capacity(alloc, specs.len())?;

@@ -1,14 +1,13 @@
 //! What a board is made of.
 
 use block_device::Extent;
+use guest_memory::Regions;
 
 /// What a slot is to be.
 #[derive(Clone, Copy, Debug, PartialEq, Eq)]
 pub struct SlotSpec {
-    /// The first address of the guest's memory.
-    pub base: u64,
-    /// The size of the guest's memory, in bytes.
-    pub len: u64,
+    /// The regions of the guest's memory.
+    pub regions: Regions,
     /// The sectors that the guest's block device shows.
     pub extent: Extent,
     /// Whether the block device refuses writes (VIRTIO_BLK_F_RO, 5.2.3).

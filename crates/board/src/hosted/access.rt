@@ -7,7 +7,7 @@ ghost use Rattle.std.specs.Bool.{OnTrue, OnFalse};
 ghost use Rattle.std.specs.Borrow.{sem, u8, Array, Lends};
 ghost use Rattle.std.specs.List.{slice_get};
 ghost use Rattle.std.specs.Option.{option_map};
-ghost use Rattle.guest_memory.specs.Memory.{Inside, first_region, part_of, put};
+ghost use Rattle.guest_memory.specs.Memory.{Inside, IsRest, part_of, put};
 ghost use Rattle.board.specs.declared.event.EventKind.{EventKind};
 ghost use Rattle.board.specs.declared.reply.Reply.{Reply};
 ghost use Rattle.board.specs.HostedLine.{KeepsOtherGuests, TakesQuietly, read_reply, with_memory, with_slot_bytes, words_of, write_reply};
@@ -45,18 +45,17 @@ impl<A: Allocator> HostedBoard<A> {
         Some(slot.memory())
     }
 
-    /// The bytes of the first region of the slot's memory, to be read and written: all that there are where it is one
-    /// region. `slots` tells which slots there are.
-    pub fn memory_mut(&mut self, slot: u8) -> &mut [u8]
-        requires { slot < length self.old }
+    /// The bytes of the slot's memory from `addr` to the end of the region that holds it, to be read and written.
+    /// `slots` tells which slots there are, and `holds` of `memory` whether a region holds the address.
+    pub fn memory_mut(&mut self, slot: u8, addr: u64) -> &mut [u8]
+        requires there { slot < length self.old }
+        requires held { IsSomeAnd (slice_get self.old slot) (λ found. Inside found.slot.memory addr 1) }
         ensures* writes_back { sem 𝓛 (Lends (the_row A.row A.Allocator) (Array u8 0) self.entry
-            result (with_slot_bytes slot self.old)) }
-        ensures value { IsSomeAnd (slice_get self.old slot) (λ found. result.now ≡ first_region found.slot.memory) }
-        ensures inside { IsSomeAnd (slice_get self.old slot)
-            (λ found. Inside found.slot.memory found.slot.memory.base (length result.now)) }
+            result (with_slot_bytes slot addr self.old)) }
+        ensures rest { IsSomeAnd (slice_get self.old slot) (λ found. IsRest found.slot.memory addr result.now) }
     {
         let found = &mut self.slots[slot as usize];
-        found.memory_mut()
+        found.memory_mut(addr)
     }
 
     /// Copies bytes out of the slot's memory, from address `addr` on: the event of that read, for who wants the bytes in

@@ -8,7 +8,7 @@ ghost use Rattle.std.specs.Prelude.{◌≡◌, ◌≤◌, ◌<◌, ◌*◌, ◌^
 ghost use Rattle.block_device.specs.Extent.{sector_len};
 ghost use Rattle.block_device.specs.Operation.{LiesInside};
 ghost use Rattle.board.specs.declared.event.EventKind.{EventKind};
-ghost use Rattle.board.specs.Fault.{IsMemory};
+ghost use Rattle.guest_memory.specs.Faults.{AreGood as AreGoodRegions};
 ghost use Rattle.board.specs.Image.{sectors_of};
 ghost use Rattle.board.specs.Machine.{block_irq, console_irq};
 ghost use Rattle.board.specs.Hosting.{IsOwn, LooksAtQueue, TakesHosted, flight_by, hosted_opened, must_wait, operation_in};
@@ -54,7 +54,7 @@ impl<A: Allocator> Model for HostedSlot<A> {
 impl<A: Allocator + Copy> HostedSlot<A> {
     /// Opens a slot. Its disk has as many sectors as the extent counts, from the first on.
     pub(crate) fn open(alloc: A, spec: &SlotSpec) -> Result<HostedSlot<A>, AllocError>
-        requires memory { IsMemory spec.now.base spec.now.len }
+        requires memory { AreGoodRegions spec.now.regions }
         requires disk { sector_len * spec.now.extent.count < 2 ^ 64 }
         ensures { IfOk result (λ slot. slot ≡ hosted_opened spec.now) }
     {

@@ -3,7 +3,7 @@
 ghost use Rattle.std.specs.Prelude.{◌≡◌, ℕ, List, length};
 ghost use Rattle.std.specs.Bool.{OnTrue, OnFalse};
 ghost use Rattle.std.specs.Borrow.{sem, u8, Array, Lends};
-ghost use Rattle.guest_memory.specs.Memory.{Inside, first_region, is_inside, put};
+ghost use Rattle.guest_memory.specs.Memory.{Inside, IsRest, is_inside, put};
 ghost use Rattle.board.specs.declared.event.EventKind.{EventKind};
 ghost use Rattle.board.specs.declared.reply.Reply.{Reply};
 ghost use Rattle.board.specs.Hosting.{TakesHosted, device_at, hosted_slot};
@@ -35,14 +35,14 @@ impl<A: Allocator> HostedSlot<A> {
         self.slot.memory()
     }
 
-    /// The bytes of the first region of the guest's memory, to be written.
-    pub(crate) fn memory_mut(&mut self) -> &mut [u8]
+    /// The bytes of the guest's memory from `addr` to the end of the region that holds it, to be written.
+    pub(crate) fn memory_mut(&mut self, addr: u64) -> &mut [u8]
+        requires { Inside self.old.slot.memory addr 1 }
         ensures* writes_back { sem 𝓛 (Lends (the_row A.row A.Allocator) (Array u8 0) self.entry
-            result (with_bytes self.old)) }
-        ensures value { result.now ≡ first_region self.old.slot.memory }
-        ensures inside { Inside self.old.slot.memory self.old.slot.memory.base (length result.now) }
+            result (with_bytes addr self.old)) }
+        ensures rest { IsRest self.old.slot.memory addr result.now }
     {
-        self.slot.memory_mut()
+        self.slot.memory_mut(addr)
     }
 
     /// Puts bytes into the memory, where all of the range lies in it.

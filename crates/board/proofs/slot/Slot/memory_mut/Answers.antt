@@ -6,8 +6,8 @@ use Rattle.board.proofs.slot.Slot.memory_mut.Goals as goal
 
 pub invariant_of-self-lent : goal.invariant_of-self-lent
 invariant_of-self-lent g c w =
-    let new : Memory = put c.self.inside.memory c.base-base.result w in
-    let same : SameRange c.self.inside.memory new = put_range c.self.inside.memory c.base-base.result w in
+    let new : Memory = put c.self.inside.memory c.args.addr w in
+    let same : SameRange c.self.inside.memory new = put_range c.self.inside.memory c.args.addr w in
     record {
       block_kind = c.self.invariant.block_kind;
       block_offers = c.self.invariant.block_offers;
