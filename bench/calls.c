@@ -188,14 +188,14 @@ static void open_board(uint8_t guests, bool is_hosted)
     size_t memory_len;
     for (uint8_t i = 0; i < guests; i++)
         slots[i] = (struct kalyubos_slot){
-            .size = sizeof *slots, .base = MEMORY, .len = 0x100000, .count = i + 1 == guests ? SECTORS : 0,
+            .size = sizeof *slots, .regions = { { MEMORY, 0x100000 } }, .count = i + 1 == guests ? SECTORS : 0,
             .cols = 80, .rows = 25, .outlet = OUTLET,
         };
     must(is_hosted ? kalyubos_create_hosted(&board, slots, guests)
                    : kalyubos_create(&board, slots, guests, image, sizeof image, 8, 0, 0));
     guest = guests - 1;
     idx = 0;
-    must(kalyubos_memory(&board, guest, &memory, &memory_len));
+    must(kalyubos_memory(&board, guest, MEMORY, &memory, &memory_len));
 }
 
 int main(void)

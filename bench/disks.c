@@ -129,13 +129,13 @@ static void power_on(struct guest *guest, const char *path, uint32_t block)
     need(stat(path, &file) == 0, path);
     *guest = (struct guest){ .path = path, .block = block, .blocks = (uint64_t)file.st_size / block };
     struct kalyubos_slot slot = {
-        .size = sizeof slot, .base = MEMORY, .len = (DATA + (uint64_t)RING * block + 0xfff) & ~(uint64_t)0xfff,
+        .size = sizeof slot, .regions = { { MEMORY, (DATA + (uint64_t)RING * block + 0xfff) & ~(uint64_t)0xfff } },
         .count = (uint64_t)file.st_size / SECTOR,
     };
     size_t len;
     need(kalyubos_create_hosted(&guest->board, &slot, 1) == KALYUBOS_DONE, "create_hosted");
-    need(kalyubos_memory(&guest->board, 0, &guest->memory, &len) == KALYUBOS_DONE, "memory");
-    const char *wrong = file_disk_open(&guest->disk, &guest->board, 0, MEMORY, path, slot.count * SECTOR, way);
+    need(kalyubos_memory(&guest->board, 0, MEMORY, &guest->memory, &len) == KALYUBOS_DONE, "memory");
+    const char *wrong = file_disk_open(&guest->disk, &guest->board, 0, path, slot.count * SECTOR, way);
     need(wrong == NULL, wrong);
     need(guest->disk.way == way, "no io_uring");
 }

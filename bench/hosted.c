@@ -72,12 +72,12 @@ static void power_on(struct guest *guest, bool is_hosted)
     const uint32_t at = (uint32_t)MEMORY;
     const uint32_t steps[][2] = { { 0x70, 1 }, { 0x70, 3 }, { 0x24, 1 }, { 0x20, 1 }, { 0x70, 11 }, { 0x38, 4 },
                                   { 0x80, at + TABLE }, { 0x90, at + AVAIL }, { 0xa0, at + 0x3000 }, { 0x44, 1 }, { 0x70, 15 } };
-    struct kalyubos_slot slot = { .size = sizeof slot, .base = MEMORY, .len = MEMORY_LEN, .count = SECTORS };
+    struct kalyubos_slot slot = { .size = sizeof slot, .regions = { { MEMORY, MEMORY_LEN } }, .count = SECTORS };
     struct kalyubos_pending pending;
     size_t len;
     need((is_hosted ? kalyubos_create_hosted(&guest->board, &slot, 1)
                     : kalyubos_create(&guest->board, &slot, 1, image, sizeof image, 8, 0, 0)) == KALYUBOS_DONE, "a board");
-    need(kalyubos_memory(&guest->board, 0, &guest->memory, &len) == KALYUBOS_DONE, "memory");
+    need(kalyubos_memory(&guest->board, 0, MEMORY, &guest->memory, &len) == KALYUBOS_DONE, "memory");
     for (size_t i = 0; i < sizeof steps / sizeof *steps; i++)
         need(kalyubos_write(&guest->board, 0, KALYUBOS_BLOCK, (uint16_t)steps[i][0], 4, steps[i][1], &pending) ==
              KALYUBOS_DONE, "a store");

@@ -43,7 +43,7 @@ static void bring_up(uint8_t guest, uint32_t len, uint16_t buffers)
                                   { 0x44, 1 }, { 0x70, 15 } };
     struct kalyubos_pending pending;
     size_t memory_len;
-    must(kalyubos_memory(&board, guest, &memory[guest], &memory_len));
+    must(kalyubos_memory(&board, guest, BASE, &memory[guest], &memory_len));
     for (size_t i = 0; i < sizeof steps / sizeof *steps; i++)
         must(kalyubos_write(&board, guest, KALYUBOS_BLOCK, (uint16_t)steps[i][0], 4, steps[i][1], &pending));
     descriptor(guest, 0, HEADER, 16, 1, 1);
@@ -77,7 +77,7 @@ static void fill_in(struct kalyubos_slot *slots)
 {
     for (uint8_t i = 0; i < GUESTS; i++)
         slots[i] = (struct kalyubos_slot){
-            .size = sizeof *slots, .base = BASE, .len = i ? 0x20000 : 0x20000 + LARGE,
+            .size = sizeof *slots, .regions = { { BASE, i ? 0x20000 : 0x20000 + LARGE } },
             .start = i ? SECTORS + (uint64_t)i * LEN / 512 : 0, .count = i ? LEN / 512 : SECTORS,
             .cols = 80, .rows = 25, .outlet = 0x1000,
         };

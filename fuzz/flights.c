@@ -13,12 +13,11 @@ enum { SECTOR = 512, MOST_AT_END = 40 };
 
 void open_disk(struct seat *seat, const uint8_t *bytes, bool is_hostile)
 {
-    size_t len = (size_t)seat->guest->count * SECTOR, memory_len;
+    size_t len = (size_t)seat->guest->count * SECTOR;
     seat->disk = calloc(1, sizeof *seat->disk);
     need(seat->disk != NULL && (seat->disk->bytes = malloc(len + 1)) != NULL, "no memory", len);
     memcpy(seat->disk->bytes, bytes, len);
     seat->disk->is_hostile = is_hostile;
-    need(kalyubos_memory(seat->board, seat->slot, &seat->disk->memory, &memory_len) == KALYUBOS_DONE, "memory", seat->slot);
 }
 
 void close_disk(struct seat *seat)
@@ -44,7 +43,7 @@ static void check_inside(const struct seat *seat)
     for (uint32_t i = 0; i < disk->asked.runs; i++) {
         const struct kalyubos_run *run = &disk->runs[i];
         need(run->len != 0, "an empty run", i);
-        need(is_inside(run->at, run->len, is_of_disk ? 0 : guest->base, is_of_disk ? disk_len : guest->len),
+        need(is_of_disk ? is_inside(run->at, run->len, 0, disk_len) : is_in_memory(guest, run->at, run->len),
              "a run lies outside", run->at);
         len += is_of_disk ? 0 : run->len;
     }
@@ -102,6 +101,15 @@ void take_answer(struct seat *seat, uint32_t answer)
 
 /* ---- what the host does */
 
+/* Where the byte of an address of the guest's memory lies. */
+static uint8_t *place_of_byte(const struct seat *seat, uint64_t addr)
+{
+    uint8_t *at;
+    size_t len;
+    need(kalyubos_memory(seat->board, seat->slot, addr, &at, &len) == KALYUBOS_DONE, "memory", addr);
+    return at;
+}
+
 /* Moves the bytes of the runs from `first` on and before `end`. */
 static void transfer(struct seat *seat, uint32_t first, uint32_t end)
 {
@@ -109,7 +117,7 @@ static void transfer(struct seat *seat, uint32_t first, uint32_t end)
     uint8_t *bytes = disk->bytes + disk->asked.start;
     for (uint32_t i = 0; i < end; i++) {
         const struct kalyubos_run *run = &disk->runs[i];
-        uint8_t *at = disk->memory + (run->at - seat->guest->base);
+        uint8_t *at = disk->asked.kind == KALYUBOS_ZEROES ? NULL : place_of_byte(seat, run->at);
         if (disk->asked.kind == KALYUBOS_ZEROES)
             memset(disk->bytes + run->at, 0, run->len);
         else if (i >= first)
@@ -135,15 +143,19 @@ void complete(struct seat *seat)
     take_answer(seat, answer);
 }
 
-/* Writes over some bytes of the memory's first part, where queues, tables and headers lie, or of a run. */
+/* Writes over some bytes of a region's first part, where queues, tables and headers lie, or of a run. */
 static void scribble(struct seat *seat)
 {
     struct disk *disk = seat->disk;
-    uint64_t most = seat->guest->len < 0x6000 ? seat->guest->len : 0x6000, at = chance(seat, most), len = 1 + chance(seat, 64);
+    const struct region *region = &seat->guest->regions[seat->guest->regions_len > 1 ? chance(seat, seat->guest->regions_len) : 0];
+    uint64_t at = region->base + chance(seat, region->len < 0x6000 ? region->len : 0x6000), len = 1 + chance(seat, 64);
+    size_t left;
+    uint8_t *bytes;
     if (disk->asked.runs != 0 && disk->asked.kind != KALYUBOS_ZEROES && chance(seat, 3) == 0)
-        at = disk->runs[chance(seat, disk->asked.runs)].at - seat->guest->base;
-    for (uint64_t i = at; i < at + len && i < seat->guest->len; i++)
-        disk->memory[i] = (uint8_t)chance(seat, chance(seat, 2) ? 4 : 256);
+        at = disk->runs[chance(seat, disk->asked.runs)].at;
+    need(kalyubos_memory(seat->board, seat->slot, at, &bytes, &left) == KALYUBOS_DONE, "memory", at);
+    for (uint64_t i = 0; i < len && i < left; i++)
+        bytes[i] = (uint8_t)chance(seat, chance(seat, 2) ? 4 : 256);
 }
 
 void serve_by_chance(struct seat *seat)

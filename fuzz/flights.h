@@ -6,7 +6,7 @@
 
 /* The disk's own bytes, and the guest's operation as it was told when it began. */
 struct disk {
-    uint8_t *bytes, *memory;
+    uint8_t *bytes;
     bool is_asked, is_hostile;
     struct kalyubos_operation asked;
     struct kalyubos_run runs[KALYUBOS_RUNS];

@@ -86,7 +86,7 @@ static void check_busy(struct seat *seat)
     uint32_t value;
     uint8_t byte;
     need(kalyubos_read(seat->board, seat->slot, 0, 0, 4, &value) == KALYUBOS_BUSY, "a read isn't busy", seat->slot);
-    need(kalyubos_read_memory(seat->board, seat->slot, seat->guest->base, &byte, 1) == KALYUBOS_BUSY,
+    need(kalyubos_read_memory(seat->board, seat->slot, seat->guest->regions[0].base, &byte, 1) == KALYUBOS_BUSY,
          "a read of memory isn't busy", seat->slot);
     check_no_save(seat);
 }
@@ -216,7 +216,8 @@ static void tell_rest(struct seat *seat, uint64_t first_sector)
         tell_disk(seat);
     else
         tell_sectors(seat, first_sector);
-    read_memory(seat, seat->guest->base, (size_t)seat->guest->len);
+    for (size_t i = 0; i < seat->guest->regions_len; i++)
+        read_memory(seat, seat->guest->regions[i].base, (size_t)seat->guest->regions[i].len);
     take(seat, TAKEN_AT_ONCE);
     look(seat);
 }
@@ -238,12 +239,14 @@ static struct seat seat_of(struct kalyubos *board, uint8_t slot, size_t guest)
 static struct kalyubos_slot slot_of(size_t guest, uint64_t start)
 {
     const struct guest *it = &trace.guests[guest];
-    return (struct kalyubos_slot){
-        .size = sizeof(struct kalyubos_slot), .base = it->base, .len = it->len, .start = start, .count = it->count,
-        .cols = it->cols, .rows = it->rows,
+    struct kalyubos_slot slot = {
+        .size = sizeof slot, .start = start, .count = it->count, .cols = it->cols, .rows = it->rows,
         .outlet = OUTLETS[(seed / MOST_GUESTS + guest) % (sizeof OUTLETS / sizeof *OUTLETS)], .read_only = it->read_only,
         .identity = { 'g', (uint8_t)guest },
     };
+    for (size_t i = 0; i < it->regions_len; i++)
+        slot.regions[i] = (struct kalyubos_region){ it->regions[i].base, it->regions[i].len };
+    return slot;
 }
 
 /* The board of all guests: their seats, which events have begun, and how many of the first ones have. */
@@ -415,7 +418,7 @@ static void print_features(void)
     static const uint8_t windows[] = { KALYUBOS_BLOCK, KALYUBOS_CONSOLE, KALYUBOS_BLOCK };
     static uint8_t image[SECTOR];
     struct kalyubos board = { NULL };
-    struct kalyubos_slot slot = { .size = sizeof slot, .base = 0, .len = 0x1000, .count = 1 };
+    struct kalyubos_slot slot = { .size = sizeof slot, .regions = { { 0, 0x1000 } }, .count = 1 };
     make(&board, &slot, 1, image, SECTOR, 1, NO_LIMIT);
     for (uint32_t i = 0; i < 3; i++) {
         struct kalyubos_pending pending;

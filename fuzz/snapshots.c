@@ -16,6 +16,9 @@
 #include "shut_heap.h"
 
 enum { GUESTS = 2, MEMORY_LEN = 0x4000, SECTORS = 4, OUTLET = 64, MOST_INPUT = 4096, ROOM = 300 + MOST_INPUT, KEPT = 64 };
+
+/* A second region behind a gap: buffers lie in it, in the gap, and across its borders. */
+enum { GAP = 0x1000, SECOND_LEN = 0x2000, SPAN = MEMORY_LEN + GAP + SECOND_LEN };
 static const uint64_t MEMORY = 0x80000000;
 
 /* Where the fields of a snapshot stand (crates/snapshot/README.md): in the whole, in a window, and in a queue. */
@@ -185,7 +188,7 @@ static void fill_descriptor(uint8_t *at, int queue, uint64_t place, uint64_t num
         next = chance(number + 1);
         len = lens[chance(8)];
     }
-    put(at, MEMORY + (is_sane ? 16 * chance(MEMORY_LEN / 16 - 32) : chance(MEMORY_LEN + 16)), 8);
+    put(at, MEMORY + (is_sane ? 16 * chance(MEMORY_LEN / 16 - 32) : chance(SPAN + 16)), 8);
     put(at + 8, len, 4);
     put(at + 12, is_packed ? next | (flags | 1u << (chance(4) == 0 ? 15 : 7)) << 16 : flags | next << 16, 4);
 }
@@ -289,7 +292,7 @@ static void bring_up(struct guest *guest, uint8_t window)
 static uint64_t odd_number(void)
 {
     static const uint64_t edges[] = { 0, 1, 2, 3, 4, 8, 0x7f, 0x80, 0xff, 0x8000, 0xffff, 0x10000, UINT32_MAX, UINT64_MAX };
-    return chance(2) ? edges[chance(sizeof edges / sizeof *edges)] : MEMORY + chance(MEMORY_LEN + 32) - 16;
+    return chance(2) ? edges[chance(sizeof edges / sizeof *edges)] : MEMORY + chance(SPAN + 32) - 16;
 }
 
 /* The block window of one, and the console of the other. */
@@ -387,15 +390,16 @@ static void make_boards(struct kalyubos *boards, struct guest guests[][GUESTS])
     static const uint8_t image[GUESTS * SECTORS * 512] = { 1 };
     struct kalyubos_slot slots[GUESTS];
     for (size_t i = 0; i < GUESTS; i++)
-        slots[i] = (struct kalyubos_slot){ .size = sizeof *slots, .base = MEMORY, .len = MEMORY_LEN, .start = SECTORS * i,
-                                           .count = SECTORS, .cols = 80, .rows = 25, .outlet = OUTLET, .identity = "alike" };
+        slots[i] = (struct kalyubos_slot){ .size = sizeof *slots, .start = SECTORS * i, .count = SECTORS, .cols = 80,
+                                           .regions = { { MEMORY, MEMORY_LEN }, { MEMORY + MEMORY_LEN + GAP, SECOND_LEN } },
+                                           .rows = 25, .outlet = OUTLET, .identity = "alike" };
     make(&boards[0], slots, GUESTS, image, sizeof image, 2, (struct budget){ 2, 0 });
     make_hosted(&boards[1], slots, GUESTS);
     for (uint8_t i = 0; i < 2 * GUESTS; i++) {
         struct guest *guest = &guests[i / GUESTS][i % GUESTS];
         size_t len;
         *guest = (struct guest){ .board = &boards[i / GUESTS], .slot = i % GUESTS, .is_hosted = i / GUESTS == 1 };
-        need(kalyubos_memory(guest->board, guest->slot, &guest->memory, &len) == KALYUBOS_DONE, "memory", i);
+        need(kalyubos_memory(guest->board, guest->slot, MEMORY, &guest->memory, &len) == KALYUBOS_DONE, "memory", i);
     }
 }
 

@@ -33,8 +33,8 @@
  * version takes its own size alone, and answers KALYUBOS_BAD_SIZE for any other before it looks at another field. A
  * later version that this header fits (kalyubos_version) also takes this version's size, and then does what this
  * version does. It adds fields behind all others. The structs of an array lie `size` bytes apart, so all have one size.
- * The handle, struct kalyubos_pending and struct kalyubos_block have no size and never change: a later version tells
- * more by further calls.
+ * The handle, struct kalyubos_region, struct kalyubos_pending and struct kalyubos_block have no size and never change: a
+ * later version tells more by further calls.
  *
  * There are two kinds of board. kalyubos_create makes one whose disks are parts of an image in the library's memory.
  * kalyubos_create_hosted makes one whose disks the host serves: the board says what it wants of a disk, the host does it
@@ -55,8 +55,8 @@
 extern "C" {
 #endif
 
-/* The version of this header, 0.2.0: 10000 for each major version, 100 for each minor one, and the patch. */
-#define KALYUBOS_VERSION 200
+/* The version of this header, 0.3.0: 10000 for each major version, 100 for each minor one, and the patch. */
+#define KALYUBOS_VERSION 300
 
 /*
  * The KALYUBOS_VERSION that the library was built with. A host fits a library of the same major version and, before
@@ -70,14 +70,14 @@ enum {
     KALYUBOS_NO_BOARD = 1,          /* the handle is empty */
     KALYUBOS_HAS_BOARD = 2,         /* the handle holds a board already, and goes on holding it */
     KALYUBOS_BAD_SLOT = 3,          /* the board has no such slot; nothing changed */
-    KALYUBOS_BAD_RANGE = 4,         /* not all of the range lies in the memory or the image; nothing changed */
+    KALYUBOS_BAD_RANGE = 4,         /* no region of the memory, nor the image, holds all of the range; nothing changed */
     KALYUBOS_NO_MEMORY = 5,         /* the heap refused; only the calls that make a board answer this */
     KALYUBOS_BAD_WINDOW = 6,        /* no window has this number; nothing changed */
     KALYUBOS_BAD_IMAGE = 7,         /* the image isn't whole sectors of 512 bytes */
     KALYUBOS_NO_SLOTS = 8,          /* a board needs a slot */
     KALYUBOS_TOO_MANY_SLOTS = 9,    /* a board has sixty-four slots at most */
-    KALYUBOS_BAD_MEMORY_SIZE = 10,  /* a memory's size is no multiple of 4096 from 4096 to 2^46 */
-    KALYUBOS_BAD_MEMORY_BASE = 11,  /* a memory's base is no multiple of 4096, or the memory passes 2^64 */
+    KALYUBOS_BAD_MEMORY_SIZE = 10,  /* a region's size is no multiple of 4096, or with it there are more than 2^46 bytes */
+    KALYUBOS_BAD_MEMORY_BASE = 11,  /* a region's base is no multiple of 4096, or the region passes 2^64 */
     KALYUBOS_EXTENT_OUTSIDE = 12,   /* an extent passes the image's end, or a disk 2^64 bytes */
     KALYUBOS_EXTENTS_OVERLAP = 13,  /* two extents share a sector */
     KALYUBOS_BAD_CACHE = 14,        /* a cache keeps 1 to 65536 sectors */
@@ -92,7 +92,9 @@ enum {
     KALYUBOS_BAD_SNAPSHOT = 23,     /* the bytes are no snapshot; nothing changed */
     KALYUBOS_OTHER_SLOT = 24,       /* the snapshot is of a slot of another description; nothing changed */
     KALYUBOS_BAD_STATE = 25,        /* the snapshot has a state that no driver can bring a window into; nothing changed */
-    KALYUBOS_SHORT_BUFFER = 26      /* the snapshot doesn't fit into the buffer; nothing is written */
+    KALYUBOS_SHORT_BUFFER = 26,     /* the snapshot doesn't fit into the buffer; nothing is written */
+    KALYUBOS_NO_REGIONS = 27,       /* a slot has no region of memory */
+    KALYUBOS_REGIONS_NOT_APART = 28 /* a region doesn't begin behind a gap after the one before it */
 };
 
 /* What an answer says, as a sentence for a person. It is never null: a number of a later version has a sentence too. */
@@ -108,7 +110,7 @@ static inline const char *kalyubos_answer(uint32_t number)
     case KALYUBOS_BAD_SLOT:
         return "the board has no such slot";
     case KALYUBOS_BAD_RANGE:
-        return "the range isn't all inside the memory or the image";
+        return "the range isn't all inside one region of the memory, or inside the image";
     case KALYUBOS_NO_MEMORY:
         return "out of memory";
     case KALYUBOS_BAD_WINDOW:
@@ -120,9 +122,9 @@ static inline const char *kalyubos_answer(uint32_t number)
     case KALYUBOS_TOO_MANY_SLOTS:
         return "a board has sixty-four slots at most";
     case KALYUBOS_BAD_MEMORY_SIZE:
-        return "a memory's size is a multiple of 4096, from 4096 to 2^46";
+        return "a region's size is a multiple of 4096, and a guest has 2^46 bytes at most";
     case KALYUBOS_BAD_MEMORY_BASE:
-        return "a memory begins at a multiple of 4096, and ends at 2^64 or before";
+        return "a region begins at a multiple of 4096, and ends at 2^64 or before";
     case KALYUBOS_EXTENT_OUTSIDE:
         return "a slot's sectors pass the image's end, or its disk 2^64 bytes";
     case KALYUBOS_EXTENTS_OVERLAP:
@@ -153,6 +155,10 @@ static inline const char *kalyubos_answer(uint32_t number)
         return "the snapshot has a state that no driver can bring a window into";
     case KALYUBOS_SHORT_BUFFER:
         return "the buffer is shorter than the snapshot: kalyubos_saved_len tells its length";
+    case KALYUBOS_NO_REGIONS:
+        return "a slot needs a region of memory";
+    case KALYUBOS_REGIONS_NOT_APART:
+        return "regions stand in ascending order, with a gap between each two";
     default:
         return "a number that this version of kalyubos.h doesn't know";
     }
@@ -176,11 +182,22 @@ struct kalyubos_pending {
     uint64_t output;  /* how many bytes of its console's output wait to be taken */
 };
 
-/* One guest. */
+/* How many regions the memory of a guest has at most. */
+enum { KALYUBOS_REGIONS = 8 };
+
+/* `len` bytes of a guest's memory, from address `base` on. */
+struct kalyubos_region {
+    uint64_t base;
+    uint64_t len;
+};
+
+/*
+ * One guest. Its regions stand in ascending order, with a gap between each two: what follows a region without a gap is part
+ * of it. A range that a driver names lies inside where one region holds all of it.
+ */
 struct kalyubos_slot {
     size_t size;          /* sizeof(struct kalyubos_slot) */
-    uint64_t base;        /* the first address of its memory */
-    uint64_t len;         /* the size of its memory, in bytes */
+    struct kalyubos_region regions[KALYUBOS_REGIONS]; /* of its memory: those before the first one of `len` 0 */
     uint64_t start;       /* the first sector of the image that its disk shows */
     uint64_t count;       /* how many sectors it shows */
     uint16_t cols;        /* the columns of its console */
@@ -219,9 +236,13 @@ struct kalyubos_operation {
 /*
  * Makes a board of `slots_len` slots over a copy of the image, with a cache of at most `cache` sectors before it,
  * and puts it into an empty handle. A refusal leaves the handle as it was and keeps no memory. The first of these that
- * holds is answered: BAD_SIZE, where a slot's `size` isn't sizeof(struct kalyubos_slot), and nothing behind it is read;
- * BAD_IMAGE; BAD_OUTLET; the numbers from NO_SLOTS to BAD_CACHE, those of a slot looked for slot by slot. NO_MEMORY may
- * come in the place of one of these numbers.
+ * holds is answered:
+ *  - BAD_SIZE, where a slot's `size` isn't sizeof(struct kalyubos_slot), and nothing behind it is read; BAD_IMAGE; BAD_OUTLET;
+ *    NO_SLOTS; TOO_MANY_SLOTS;
+ *  - slot by slot NO_REGIONS, then region by region BAD_MEMORY_SIZE, BAD_MEMORY_BASE and REGIONS_NOT_APART, then
+ *    EXTENT_OUTSIDE and EXTENTS_OVERLAP;
+ *  - BAD_CACHE.
+ * NO_MEMORY may come in the place of one of the numbers from NO_SLOTS on.
  *
  * `chains` and `bytes` are the budget of one call, and 0 is no limit: a call serves no more than so many chains, and
  * begins no further chain once those before it had so many bytes in their buffers. So one call moves `bytes` and one
@@ -245,7 +266,8 @@ static inline size_t kalyubos_slot_at_fault(uint32_t answer, const struct kalyub
     struct kalyubos none = { NULL };
     size_t good = 0, refused = slots_len; /* so many first slots are all good, and so many aren't */
     bool is_of_a_slot = answer == KALYUBOS_BAD_SIZE || answer == KALYUBOS_BAD_OUTLET ||
-                        (answer >= KALYUBOS_BAD_MEMORY_SIZE && answer <= KALYUBOS_EXTENTS_OVERLAP);
+                        (answer >= KALYUBOS_BAD_MEMORY_SIZE && answer <= KALYUBOS_EXTENTS_OVERLAP) ||
+                        answer == KALYUBOS_NO_REGIONS || answer == KALYUBOS_REGIONS_NOT_APART;
     while (is_of_a_slot && refused - good > 1) {
         size_t count = good + (refused - good) / 2;
         uint32_t told = kalyubos_create(&none, slots, count, image, image_len, 0, 0, 0);
@@ -257,6 +279,26 @@ static inline size_t kalyubos_slot_at_fault(uint32_t answer, const struct kalyub
             good = count;
     }
     return is_of_a_slot ? good : slots_len;
+}
+
+/*
+ * Which region of the slot at fault the answer is about: its place in `regions`; or KALYUBOS_REGIONS where it is about no
+ * region, or the heap has no room to ask. It asks kalyubos_create about a board of this slot with its first regions, without
+ * disk and cache, so no board is made.
+ */
+static inline size_t kalyubos_region_at_fault(uint32_t answer, const struct kalyubos_slot *slot)
+{
+    bool is_of_a_region = answer == KALYUBOS_BAD_MEMORY_SIZE || answer == KALYUBOS_BAD_MEMORY_BASE ||
+                          answer == KALYUBOS_REGIONS_NOT_APART;
+    struct kalyubos none = { NULL };
+    struct kalyubos_slot asked = { 0 };
+    asked.size = slot->size;
+    for (size_t place = 0; is_of_a_region && place < KALYUBOS_REGIONS; place++) {
+        asked.regions[place] = slot->regions[place];
+        if (kalyubos_create(&none, &asked, 1, asked.identity, 0, 0, 0, 0) == answer)
+            return place;
+    }
+    return KALYUBOS_REGIONS;
 }
 
 /*
@@ -340,12 +382,13 @@ uint32_t kalyubos_operation(struct kalyubos *board, uint8_t slot, struct kalyubo
 uint32_t kalyubos_completed(struct kalyubos *board, uint8_t slot, bool failed, struct kalyubos_pending *pending);
 
 /*
- * Lends the slot's memory in place: `bytes` is where its first byte lies, that of address `base`, and `len` how many
- * there are. Both stay until kalyubos_destroy. Read and write the bytes as you like between calls for the slot, or map
- * them to its CPUs; what is written in place is the event of a memory write of that guest. The memory is one block of
- * the heap, of exactly `len` bytes: a heap that begins such blocks at a page makes it fit to be mapped.
+ * Lends the slot's memory in place, from address `addr` to the end of the region that holds it: `bytes` is where the byte
+ * of `addr` lies, and `len` how many there are from it on. BAD_RANGE where no region holds `addr`. Both stay until
+ * kalyubos_destroy. Read and write the bytes as you like between calls for the slot, or map them to its CPUs; what is
+ * written in place is the event of a memory write of that guest. Each region is one block of the heap, of exactly as many
+ * bytes: a heap that begins such blocks at a page makes it fit to be mapped.
  */
-uint32_t kalyubos_memory(struct kalyubos *board, uint8_t slot, uint8_t **bytes, size_t *len);
+uint32_t kalyubos_memory(struct kalyubos *board, uint8_t slot, uint64_t addr, uint8_t **bytes, size_t *len);
 
 /* Copies bytes out of the slot's memory, and into it, from address `addr` on. */
 uint32_t kalyubos_read_memory(struct kalyubos *board, uint8_t slot, uint64_t addr, uint8_t *into, size_t into_len);
@@ -398,8 +441,9 @@ uint32_t kalyubos_save(struct kalyubos *board, uint8_t slot, uint8_t *into, size
 
 /*
  * Puts the slot's devices into the state of a snapshot, and the guest goes on where it was saved. Memory and disk stay.
- * The slot may be of any board of either kind. `base`, `len`, `count`, `read_only` and `identity` are those of the slot that
- * was saved, or the answer is OTHER_SLOT. The console's size is the snapshot's. `pending` is what then waits.
+ * The slot may be of any board of either kind. Where its memory begins and ends, `count`, `read_only` and `identity` are as of
+ * the slot that was saved, or the answer is OTHER_SLOT. That its regions are the same is the host's to see. The console's size
+ * is the snapshot's. `pending` is what then waits.
  *
  * Each snapshot that kalyubos_save wrote of such a slot is taken. Of other bytes BAD_SNAPSHOT, OTHER_SLOT or BAD_STATE says
  * what is wrong, or they are taken as they spell: there is no checksum. A snapshot that was changed on its way harms its
@@ -412,9 +456,13 @@ uint32_t kalyubos_restore(struct kalyubos *board, uint8_t slot, const uint8_t *f
                           struct kalyubos_pending *pending);
 
 /*
- * The image's length in bytes, and a copy of bytes of it from byte `start` on, as they stand. NO_IMAGE of a board whose
- * disks the host serves.
+ * Lends the image in place, to read between calls: `bytes` is where its first byte lies, and `len` how many there are. Both
+ * stay until kalyubos_destroy. Of an image of no bytes `bytes` is left as it was. NO_IMAGE of a board whose disks the host
+ * serves.
  */
+uint32_t kalyubos_image(struct kalyubos *board, const uint8_t **bytes, size_t *len);
+
+/* The image's length in bytes, and a copy of bytes of it from byte `start` on, as they stand; NO_IMAGE as kalyubos_image. */
 uint32_t kalyubos_image_len(struct kalyubos *board, size_t *len);
 uint32_t kalyubos_read_image(struct kalyubos *board, size_t start, uint8_t *into, size_t into_len);
 

@@ -238,7 +238,7 @@ static void check_seed(uint64_t seed)
     struct kalyubos board = { NULL };
     struct guest guests[GUESTS], host = { .state = 0x2545f4914f6cdd1d * (seed + 1) };
     for (int i = 0; i < GUESTS; i++)
-        slots[i] = (struct kalyubos_slot){ sizeof *slots, MEMORY, MEMORY_LEN, COUNT * (uint64_t)i, COUNT, 80, 25,
+        slots[i] = (struct kalyubos_slot){ sizeof *slots, { { MEMORY, MEMORY_LEN } }, COUNT * (uint64_t)i, COUNT, 80, 25,
                                            OUTLETS[(seed + (uint64_t)i) % 4], i % 5 == 4, { 'g', (uint8_t)i } };
     make(&board, slots, GUESTS, image, sizeof image, 8, NO_LIMIT);
     for (int i = 0; i < GUESTS; i++)
@@ -298,8 +298,8 @@ static void check_full_outlet(void)
     static uint8_t out[OUTLET];
     static const uint8_t again[2] = { (2 * CHAINS) & 255, (2 * CHAINS) >> 8 };
     struct kalyubos board = { NULL };
-    struct kalyubos_slot two[2] = { { sizeof *two, MEMORY, 0x20000, 0, 1, 80, 25, OUTLET, false, "full" },
-                                    { sizeof *two, MEMORY, 0x1000, 1, 1, 80, 25, 1, false, "other" } };
+    struct kalyubos_slot two[2] = { { sizeof *two, { { MEMORY, 0x20000 } }, 0, 1, 80, 25, OUTLET, false, "full" },
+                                    { sizeof *two, { { MEMORY, 0x1000 } }, 1, 1, 80, 25, 1, false, "other" } };
     make(&board, two, 2, image, 1024, 8, NO_LIMIT);
     offer_all(&board);
     set_console(&board, 0, 0x50, 1, KALYUBOS_DONE);

@@ -18,9 +18,9 @@
 #include "shut_heap.h"
 
 enum { GUESTS = 8, TURNS = 400, PLACES = 8, RING = 32, SECTOR = 512, SECTORS = 16, MOST = 4 /* sectors of a request */ };
-enum { TABLE = 0x0, AVAIL = 0x200, USED = 0x300, HEADERS = 0x600, DATA = 0x1000, MEMORY_LEN = 0x8000 };
+enum { TABLE = 0x0, AVAIL = 0x200, USED = 0x300, HEADERS = 0x600, MEMORY_LEN = 0x1000, DATA_LEN = 0x8000 };
 enum { IN = 0, OUT = 1, FLUSH = 4, GET_ID = 8, WRITE_ZEROES = 13, OK = 0, IOERR = 1, UNSUPP = 2 };
-static const uint64_t MEMORY = 0x80000000;
+static const uint64_t MEMORY = 0x80000000, DATA = 0x100000000; /* the regions of the rings and headers, and of the data */
 
 struct request {
     uint32_t type, count;
@@ -31,7 +31,7 @@ struct request {
 
 struct guest {
     struct kalyubos *board;
-    uint8_t slot, *memory;
+    uint8_t slot, *memory, *data;
     uint64_t state, turns, done, failures;
     bool can_flush;
 
@@ -64,7 +64,13 @@ static struct request *request_at(struct guest *guest, uint16_t number)
 
 static uint8_t *data_of(struct guest *guest, uint16_t number)
 {
-    return guest->memory + DATA + (size_t)(number % PLACES) * MOST * SECTOR;
+    return guest->data + (size_t)(number % PLACES) * MOST * SECTOR;
+}
+
+/* The address of what a region's pointer points to. */
+static uint64_t address_of(const struct guest *guest, const uint8_t *data)
+{
+    return DATA + (uint64_t)(data - guest->data);
 }
 
 /* ---- the host */
@@ -82,7 +88,7 @@ static void compare_with_request(struct guest *guest)
     bool moves = request->type == IN || request->type == OUT;
     bool is_stable = !guest->can_flush && (request->type == OUT || request->type == WRITE_ZEROES);
     uint64_t start = request->sector * SECTOR, len = request->count * SECTOR;
-    uint64_t at = moves ? MEMORY + (uint64_t)(data_of(guest, guest->asked) - guest->memory) : start;
+    uint64_t at = moves ? address_of(guest, data_of(guest, guest->asked)) : start;
     need(it->kind == kinds[request->type] && it->stable == is_stable, "another operation", it->kind);
     need(it->start == (moves ? start : 0) && it->len == (moves ? len : 0), "other bytes", it->len);
     need(it->runs == (request->type != FLUSH && len != 0), "other runs", it->runs);
@@ -109,7 +115,7 @@ static void take_answer(struct guest *guest, uint32_t answer)
 static void move(struct guest *guest)
 {
     const struct kalyubos_run *run = guest->runs;
-    uint8_t *at = guest->memory + (run->at - MEMORY), *bytes = guest->disk + guest->operation.start;
+    uint8_t *at = guest->data + (run->at - DATA), *bytes = guest->disk + guest->operation.start;
     guest->is_moved = true;
     if (guest->operation.runs == 0)
         return;
@@ -153,9 +159,9 @@ static void bring_up(struct guest *guest)
         set(guest, (uint16_t)steps[i][0], steps[i][1]);
 }
 
-static void describe(struct guest *guest, unsigned place, uint64_t at, uint32_t len, uint16_t flags)
+static void describe(struct guest *guest, unsigned place, uint64_t addr, uint32_t len, uint16_t flags)
 {
-    struct { uint64_t addr; uint32_t len; uint16_t flags, next; } it = { MEMORY + at, len, flags, 0 };
+    struct { uint64_t addr; uint32_t len; uint16_t flags, next; } it = { addr, len, flags, 0 };
     it.next = (uint16_t)(place + 1);
     memcpy(guest->memory + TABLE + 16 * place, &it, sizeof it);
 }
@@ -178,17 +184,18 @@ static void offer(struct guest *guest)
     struct request it = *request_at(guest, number) = draw(guest);
     struct { uint32_t type, reserved; uint64_t sector; } header = { it.type, 0, it.sector };
     struct { uint64_t sector; uint32_t count, flags; } zeroed = { it.sector, it.count, 0 };
-    uint32_t at = HEADERS + 32 * (number % PLACES), data = (uint32_t)(data_of(guest, number) - guest->memory);
+    uint32_t at = HEADERS + 32 * (number % PLACES);
+    uint8_t *data = data_of(guest, number);
     uint32_t len = it.type == GET_ID ? 20 : it.type == WRITE_ZEROES ? sizeof zeroed : it.count * SECTOR;
     bool is_read = it.type == IN || it.type == GET_ID;
     memcpy(guest->memory + at, &header, sizeof header);
     guest->memory[at + 16] = 0xff;
-    memset(guest->memory + data, (int)chance(guest, 256), MOST * SECTOR);
+    memset(data, (int)chance(guest, 256), MOST * SECTOR);
     if (it.type == WRITE_ZEROES)
-        memcpy(guest->memory + data, &zeroed, sizeof zeroed);
-    describe(guest, head, at, sizeof header, 1);
-    describe(guest, head + 1u, data, len, is_read ? 3 : 1);
-    describe(guest, head + 2u, at + 16, 1, 2);
+        memcpy(data, &zeroed, sizeof zeroed);
+    describe(guest, head, MEMORY + at, sizeof header, 1);
+    describe(guest, head + 1u, address_of(guest, data), len, is_read ? 3 : 1);
+    describe(guest, head + 2u, MEMORY + at + 16, 1, 2);
     memcpy(guest->memory + AVAIL + 4 + 2 * (number % RING), &head, sizeof head);
     memcpy(guest->memory + AVAIL + 2, &guest->offered, sizeof guest->offered);
 }
@@ -263,22 +270,22 @@ static void set(struct guest *guest, uint16_t offset, uint32_t value)
 }
 
 /* Leaves these bytes alone, or writes over them. */
-static void scramble(struct guest *guest, uint32_t at, uint32_t len)
+static void scramble(struct guest *guest, uint8_t *at, uint32_t len)
 {
     bool is_left = chance(guest, 2);
-    for (uint32_t i = at; i < at + len && !is_left; i++)
-        guest->memory[i] = (uint8_t)chance(guest, chance(guest, 2) ? 4 : 256);
+    for (uint32_t i = 0; i < len && !is_left; i++)
+        at[i] = (uint8_t)chance(guest, chance(guest, 2) ? 4 : 256);
 }
 
 /* Writes over parts of the request in flight, but for its data and status. It was judged when it began, and is done as it was then. */
 static void rewrite(struct guest *guest)
 {
     uint32_t number = guest->asked, place = number % PLACES;
-    scramble(guest, TABLE + 16 * 4 * place, 3 * 16);
-    scramble(guest, AVAIL + 4 + 2 * (number % RING), 2);
-    scramble(guest, HEADERS + 32 * place, 16);
+    scramble(guest, guest->memory + TABLE + 16 * 4 * place, 3 * 16);
+    scramble(guest, guest->memory + AVAIL + 4 + 2 * (number % RING), 2);
+    scramble(guest, guest->memory + HEADERS + 32 * place, 16);
     if (guest->operation.kind == KALYUBOS_ZEROES)
-        scramble(guest, (uint32_t)(data_of(guest, guest->asked) - guest->memory), 16);
+        scramble(guest, data_of(guest, guest->asked), 16);
 }
 
 static void turn(struct guest *guest)
@@ -319,7 +326,8 @@ static void power_on(struct guest *guest, struct kalyubos *board, uint8_t slot, 
     size_t len;
     *guest = (struct guest){ .board = board, .slot = slot, .state = 0x9e3779b97f4a7c15 * (number + 1), .turns = TURNS,
                              .can_flush = number % 2 };
-    need(kalyubos_memory(board, slot, &guest->memory, &len) == KALYUBOS_DONE, "memory", slot);
+    need(kalyubos_memory(board, slot, MEMORY, &guest->memory, &len) == KALYUBOS_DONE, "memory", slot);
+    need(kalyubos_memory(board, slot, DATA, &guest->data, &len) == KALYUBOS_DONE, "memory", slot);
     for (size_t i = 0; i < sizeof guest->disk; i++)
         guest->disk[i] = guest->mind[i] = (uint8_t)chance(guest, 256);
     memset(guest->is_known, true, sizeof guest->is_known);
@@ -343,7 +351,7 @@ static void *run(void *user)
     return NULL;
 }
 
-static const struct kalyubos_slot SLOT = { sizeof SLOT, MEMORY, MEMORY_LEN, 0, SECTORS, 80, 25, 64, false, "drivers" };
+static const struct kalyubos_slot SLOT = { sizeof SLOT, { { MEMORY, MEMORY_LEN }, { DATA, DATA_LEN } }, 0, SECTORS, 80, 25, 64, false, "drivers" };
 
 static void run_together(uint64_t seed)
 {

@@ -82,7 +82,7 @@ static void open_disk(struct guest *guest)
     size_t len = strlen(DISKS[guest->slot]);
     const char *wrong = "can't be written";
     if (file >= 0 && ftruncate(file, DISK_LEN) == 0 && write(file, DISKS[guest->slot], len) == (ssize_t)len)
-        wrong = file_disk_open(&guest->disk, &board, guest->slot, MEMORY, path, DISK_LEN, &file_thread);
+        wrong = file_disk_open(&guest->disk, &board, guest->slot, path, DISK_LEN, &file_thread);
     if (wrong != NULL) {
         fprintf(stderr, "%s: %s\n", path, wrong);
         exit(1);
@@ -142,7 +142,7 @@ static void map_memory(const struct guest *guest)
 {
     uint8_t *bytes;
     size_t len;
-    must(kalyubos_memory(&board, guest->slot, &bytes, &len), "memory");
+    must(kalyubos_memory(&board, guest->slot, MEMORY, &bytes, &len), "memory");
     memcpy(bytes + (PROGRAM - MEMORY), GUEST, sizeof GUEST);
     cpu_must(uc_mem_map_ptr(guest->cpu, MEMORY, len, UC_PROT_ALL, bytes), "the memory");
 }
@@ -203,8 +203,8 @@ static void create(struct guest *guests, bool hosted)
 {
     static uint8_t image[GUESTS * DISK_LEN];
     struct kalyubos_slot slots[GUESTS] = {
-        { sizeof *slots, MEMORY, MEMORY_LEN, 0, 2, 80, 25, OUTLET, false, "first half" },
-        { sizeof *slots, MEMORY, MEMORY_LEN, 2, 2, 80, 25, OUTLET, false, "second half" },
+        { sizeof *slots, { { MEMORY, MEMORY_LEN } }, 0, 2, 80, 25, OUTLET, false, "first half" },
+        { sizeof *slots, { { MEMORY, MEMORY_LEN } }, 2, 2, 80, 25, OUTLET, false, "second half" },
     };
     for (uint8_t slot = 0; slot < GUESTS; slot++) {
         guests[slot].slot = slot;

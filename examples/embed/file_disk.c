@@ -20,15 +20,18 @@ static const struct kalyubos_run *run_of(const struct file_disk *disk, uint64_t 
     return run;
 }
 
-/* Copies the next bytes of the runs into the buffer, or out of it. */
+/* Copies the next bytes of the runs into the buffer, or out of it. Each run lies inside the guest's memory. */
 static void copy(struct file_disk *disk, uint64_t len, bool into_buffer)
 {
     uint64_t at, part;
     const struct kalyubos_run *run = run_of(disk, &at);
     for (uint64_t copied = 0; copied < len; copied += part, run++, at = 0) {
-        uint8_t *memory = disk->memory + (run->at - disk->base) + at, *buffer = disk->buffer + copied;
+        uint8_t *buffer = disk->buffer + copied;
         part = MIN(run->len - at, len - copied);
-        memcpy(into_buffer ? buffer : memory, into_buffer ? memory : buffer, part);
+        if (into_buffer)
+            kalyubos_read_memory(disk->board, disk->slot, run->at + at, buffer, part);
+        else
+            kalyubos_write_memory(disk->board, disk->slot, run->at + at, buffer, part);
     }
 }
 
@@ -106,19 +109,16 @@ static bool has_result(struct file_disk *disk, int32_t *result)
 
 const struct file_way file_thread = { "a thread", open_thread, submit, has_result };
 
-const char *file_disk_open(struct file_disk *disk, struct kalyubos *board, uint8_t slot, uint64_t base, const char *path,
-                           uint64_t len, const struct file_way *way)
+const char *file_disk_open(struct file_disk *disk, struct kalyubos *board, uint8_t slot, const char *path, uint64_t len,
+                           const struct file_way *way)
 {
-    size_t memory_len;
-    *disk = (struct file_disk){ .board = board, .slot = slot, .base = base, .way = way, .buffer = malloc(FILE_BUFFER) };
+    *disk = (struct file_disk){ .board = board, .slot = slot, .way = way, .buffer = malloc(FILE_BUFFER) };
     disk->file = open(path, O_RDWR | O_CLOEXEC);
     if (disk->file < 0 || disk->buffer == NULL)
         return strerror(errno);
     off_t file_len = lseek(disk->file, 0, SEEK_END);
     if (file_len < 0 || (uint64_t)file_len < len)
         return "is shorter than the disk";
-    if (kalyubos_memory(board, slot, &disk->memory, &memory_len) != KALYUBOS_DONE)
-        return "has no slot";
     return way->open(disk) ? NULL : strerror(errno);
 }
 

@@ -26,8 +26,7 @@ struct file_disk {
     int ready; /* can be read, as poll tells, once a step has ended */
     int file;
     struct kalyubos *board;
-    uint8_t slot, *memory, *buffer; /* the guest's memory, whose first byte has address `base` */
-    uint64_t base;
+    uint8_t slot, *buffer;
 
     struct kalyubos_operation asked;
     struct kalyubos_run runs[KALYUBOS_RUNS];
@@ -50,12 +49,9 @@ struct file_way {
 extern const struct file_way file_thread; /* of file_disk.c */
 extern const struct file_way file_ring;   /* of file_ring.c: io_uring, or a thread where that isn't to be had */
 
-/*
- * Serves a slot's disk from a file of at least `len` bytes; `base` is where the guest's memory begins. Answers NULL, or what
- * is wrong.
- */
-const char *file_disk_open(struct file_disk *disk, struct kalyubos *board, uint8_t slot, uint64_t base, const char *path,
-                           uint64_t len, const struct file_way *way);
+/* Serves a slot's disk from a file of at least `len` bytes. Answers NULL, or what is wrong. */
+const char *file_disk_open(struct file_disk *disk, struct kalyubos *board, uint8_t slot, const char *path, uint64_t len,
+                           const struct file_way *way);
 
 /* Begins what the slot waits for: after each call that is answered KALYUBOS_IO. */
 void file_disk_begin(struct file_disk *disk);

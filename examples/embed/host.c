@@ -162,7 +162,7 @@ int main(void)
     static uint8_t image[2 * 512];
     strcpy((char *)image + 512, "hello from sector 1\n");
     struct kalyubos_slot slot = {
-        .size = sizeof slot, .base = MEMORY, .len = MEMORY_LEN, .start = 0, .count = 2, .cols = 80, .rows = 25,
+        .size = sizeof slot, .regions = { { MEMORY, MEMORY_LEN } }, .start = 0, .count = 2, .cols = 80, .rows = 25,
         .outlet = OUTLET, .identity = "a disk of two",
     };
     must(kalyubos_create(&board, &slot, 1, image, sizeof image, 8, CHAINS, 0), "create");

@@ -45,13 +45,13 @@ static void must(const char *wrong)
 static void serve_file(void)
 {
     struct kalyubos_slot slot = {
-        .size = sizeof slot, .base = MEMORY, .len = MEMORY_LEN, .start = 0, .count = SECTORS, .outlet = 8,
+        .size = sizeof slot, .regions = { { MEMORY, MEMORY_LEN } }, .start = 0, .count = SECTORS, .outlet = 8,
     };
     size_t len;
     must(in_place_open(path, IMAGE_LEN));
     need(kalyubos_create(&board, &slot, 1, in_place_image(), IMAGE_LEN, 1, 0, 0) == KALYUBOS_DONE, "create");
     must(in_place_serve(&board));
-    need(kalyubos_memory(&board, 0, &memory, &len) == KALYUBOS_DONE, "memory");
+    need(kalyubos_memory(&board, 0, MEMORY, &memory, &len) == KALYUBOS_DONE, "memory");
 }
 
 static void end_board(void)

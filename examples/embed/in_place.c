@@ -115,29 +115,11 @@ const uint8_t *in_place_image(void)
     return image;
 }
 
-/* Whether the board's image has this as its last byte. */
-static bool ends_in(struct kalyubos *board, uint8_t byte)
-{
-    uint8_t seen;
-    return kalyubos_read_image(board, image_len - 1, &seen, 1) == KALYUBOS_DONE && seen == byte;
-}
-
-/* Whether the block is the board's image: it has the file's bytes, and the board sees a byte that is changed there. */
-static bool is_image(struct kalyubos *board)
-{
-    if (block == NULL || memcmp(block, image, image_len) != 0)
-        return false;
-    uint8_t *last = &block[image_len - 1];
-    bool stood = ends_in(board, *last);
-    *last ^= 0xff;
-    bool changed = ends_in(board, *last);
-    *last ^= 0xff;
-    return stood && changed;
-}
-
 const char *in_place_serve(struct kalyubos *board)
 {
-    if (!is_image(board))
+    const uint8_t *bytes;
+    size_t len;
+    if (kalyubos_image(board, &bytes, &len) != KALYUBOS_DONE || bytes != block || len != image_len)
         return "can't be mapped: the library has its image elsewhere";
     if (mmap(block, image_len, PROT_READ | PROT_WRITE, MAP_SHARED | MAP_FIXED, file, 0) == MAP_FAILED)
         return fault("can't be mapped");

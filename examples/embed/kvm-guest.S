@@ -1,6 +1,7 @@
 # A guest in real mode: it finds its devices, reads sector 0 over a virtqueue, and puts out "hello from " and the line that
-# it found there. After each request it halts until its device's interrupt. It ends halted for good, with ax = 0 or the
-# number of the step that failed. kvm.c runs it at 1000; `./assemble kvm-guest` makes bytes of it.
+# it found there. The sector goes to the end of its memory's second region. After each request it halts until its device's
+# interrupt. It ends halted for good, with ax = 0 or the number of the step that failed. kvm.c runs it at 1000;
+# `./assemble kvm-guest` makes bytes of it.
 
         .code16
 
@@ -8,9 +9,10 @@
         .equ    BLOCK, 0x0000
         .equ    CONSOLE, 0x1000
 
-        .equ    BLOCK_USED, 0x2000              # what lies behind the program: the used rings,
+        .equ    BLOCK_USED, 0x2000              # what lies behind the program: the used rings
         .equ    CONSOLE_USED, 0x2100
-        .equ    SECTOR, 0x2200                  # and what is read
+        .equ    REGION, 0x2000                  # the segment of the second region,
+        .equ    SECTOR, 0xfe00                  # and where in it lies what is read
 
         .equ    NEXT, 1                         # a descriptor's flags
         .equ    WRITE, 2
@@ -92,6 +94,8 @@ _start:
         movw    $_start, %sp                    # the stack lies below the program
         movw    $WINDOWS, %ax
         movw    %ax, %es
+        movw    $REGION, %ax
+        movw    %ax, %fs
         movw    $on_block, 4 * 0x20             # the vectors of the block device and of the console
         movw    $0, 4 * 0x20 + 2
         movw    $on_console, 4 * 0x21
@@ -121,7 +125,7 @@ _start:
         jne     failed
 
         movw    $SECTOR, %si                    # its line ends where a line ends
-line:   lodsb
+line:   lodsb   %fs:(%si), %al
         cmpb    $'\n', %al
         jne     line
         subw    $SECTOR, %si
@@ -166,14 +170,14 @@ hello_end:
 block_table:
         .long   header, 0, 16                   # an address of 8 bytes, a length of 4, flags and next of 2 each
         .short  NEXT, 1
-        .long   SECTOR, 0, 512
+        .long   16 * REGION + SECTOR, 0, 512
         .short  NEXT | WRITE, 2
         .long   status, 0, 1
         .short  WRITE, 0
 console_table:
         .long   hello, 0, hello_end - hello
         .short  NEXT, 1
-        .long   SECTOR, 0
+        .long   16 * REGION + SECTOR, 0
 line_length:
         .long   0
         .short  0, 0

@@ -17,8 +17,10 @@ struct window {
 };
 
 static struct slot {
-    uint8_t *memory, disk[SECTOR], output[PAGE];
-    size_t len, outlet, waiting;
+    uint8_t *memory; /* from address 0 to the end of the last region */
+    uint8_t disk[SECTOR], output[PAGE];
+    struct kalyubos_region regions[2];
+    size_t outlet, waiting;
     struct window windows[2];
     bool hosted, in_flight;
 } guests[GUESTS];
@@ -85,10 +87,12 @@ static uint32_t serve_console(struct slot *guest, struct window *console)
 uint32_t kalyubos_create_hosted(struct kalyubos *board, const struct kalyubos_slot *slots, size_t slots_len)
 {
     for (size_t i = 0; i < slots_len; i++) {
-        guests[i] = (struct slot){ .memory = aligned_alloc(PAGE, slots[i].len), .len = slots[i].len, .outlet = slots[i].outlet };
+        size_t len = slots[i].regions[1].base + slots[i].regions[1].len;
+        guests[i] = (struct slot){ .memory = aligned_alloc(PAGE, len), .outlet = slots[i].outlet };
+        memcpy(guests[i].regions, slots[i].regions, sizeof guests[i].regions);
         if (guests[i].memory == NULL)
             return KALYUBOS_NO_MEMORY;
-        memset(guests[i].memory, 0, slots[i].len);
+        memset(guests[i].memory, 0, len);
         guests[i].hosted = true;
     }
     board->at = guests;
@@ -115,11 +119,26 @@ uint32_t kalyubos_destroy(struct kalyubos *board)
     return KALYUBOS_DONE;
 }
 
-uint32_t kalyubos_memory(struct kalyubos *board, uint8_t slot, uint8_t **bytes, size_t *len)
+/* It is asked by the base of a region. */
+uint32_t kalyubos_memory(struct kalyubos *board, uint8_t slot, uint64_t addr, uint8_t **bytes, size_t *len)
 {
     (void)board;
-    *bytes = guests[slot].memory;
-    *len = guests[slot].len;
+    *bytes = guests[slot].memory + addr;
+    *len = guests[slot].regions[addr == guests[slot].regions[1].base].len;
+    return KALYUBOS_DONE;
+}
+
+uint32_t kalyubos_read_memory(struct kalyubos *board, uint8_t slot, uint64_t addr, uint8_t *into, size_t into_len)
+{
+    (void)board;
+    memcpy(into, guests[slot].memory + addr, into_len);
+    return KALYUBOS_DONE;
+}
+
+uint32_t kalyubos_write_memory(struct kalyubos *board, uint8_t slot, uint64_t addr, const uint8_t *from, size_t from_len)
+{
+    (void)board;
+    memcpy(guests[slot].memory + addr, from, from_len);
     return KALYUBOS_DONE;
 }
 

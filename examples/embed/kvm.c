@@ -30,8 +30,12 @@
 #include "kvm-guest.h"
 #include "kvm-second.h"
 
-enum { GUESTS = 2, MEMORY_LEN = 0x10000, PROGRAM = 0x1000, WINDOWS = 0xd0000, PAGE = 0x1000, OUTLET = 64, NO_KVM = 77 };
+enum { GUESTS = 2, PROGRAM = 0x1000, WINDOWS = 0xd0000, PAGE = 0x1000, OUTLET = 64, NO_KVM = 77 };
 enum { CHAINS = 1 /* that a call serves */ };
+
+/* A guest's memory: the program and its rings lie in the first region, what it reads from its disk in the second. */
+enum { REGIONS = 2 };
+static const struct kalyubos_region MEMORY[REGIONS] = { { 0, 0x10000 }, { 0x20000, 0x10000 } };
 
 /* Where the second CPU's program lies, what it counts, and how many microseconds a call takes in which it mustn't. */
 enum { SECOND = 0x6000, COUNT = 0x7000, CALL_TIME = 200 };
@@ -47,7 +51,7 @@ struct guest {
     struct kalyubos_pending lines; /* as the last call of this guest left them */
     struct cpus cpus;
     struct kvm_run *second; /* of the second CPU, or null */
-    uint8_t *bytes;         /* its memory */
+    uint8_t *bytes;         /* its memory's first region */
     uint32_t count;         /* what its second CPU had counted when a call began, */
     bool ran_on;            /* and whether it went on in a call */
     pthread_t thread;       /* of its first CPU */
@@ -81,16 +85,24 @@ static void must_do(uint32_t answer, const char *what)
 
 /* ---- the machine */
 
-/* A guest's memory is the board's, where it lies; heap.c aligns it to pages, as KVM wants it. */
-static void map_memory(struct guest *guest, const uint8_t *program, size_t program_len)
+/* A region of a guest's memory is the board's, where it lies; heap.c aligns it to pages, as KVM wants it. */
+static uint8_t *map_region(const struct guest *guest, uint32_t number)
 {
+    uint8_t *bytes;
     size_t len;
-    must_do(kalyubos_memory(&board, guest->slot, &guest->bytes, &len), "memory");
-    memcpy(guest->bytes + PROGRAM, program, program_len);
+    must_do(kalyubos_memory(&board, guest->slot, MEMORY[number].base, &bytes, &len), "memory");
     struct kvm_userspace_memory_region region = {
-        .slot = 0, .guest_phys_addr = 0, .memory_size = len, .userspace_addr = (uintptr_t)guest->bytes,
+        .slot = number, .guest_phys_addr = MEMORY[number].base, .memory_size = len, .userspace_addr = (uintptr_t)bytes,
     };
     must(ioctl(guest->machine, KVM_SET_USER_MEMORY_REGION, &region), "KVM_SET_USER_MEMORY_REGION");
+    return bytes;
+}
+
+static void map_memory(struct guest *guest, const uint8_t *program, size_t program_len)
+{
+    guest->bytes = map_region(guest, 0);
+    map_region(guest, 1);
+    memcpy(guest->bytes + PROGRAM, program, program_len);
 }
 
 /* Adds a CPU to a guest, which begins at an address, and answers what it shares with KVM. */
@@ -160,7 +172,7 @@ static void open_disk(struct guest *guest)
     int file = must(mkstemp(path), "a disk");
     must(ftruncate(file, DISK_LEN), "a disk");
     must((int)write(file, DISKS[guest->slot], strlen(DISKS[guest->slot])), "a disk");
-    const char *wrong = file_disk_open(&guest->disk, &board, guest->slot, 0, path, DISK_LEN, &file_thread);
+    const char *wrong = file_disk_open(&guest->disk, &board, guest->slot, path, DISK_LEN, &file_thread);
     if (wrong != NULL) {
         fprintf(stderr, "%s: %s\n", path, wrong);
         exit(1);
@@ -404,12 +416,11 @@ static void create(struct guest *guests)
 {
     static uint8_t image[GUESTS * DISK_LEN];
     struct kalyubos_slot slots[GUESTS] = {
-        { .size = sizeof *slots, .len = MEMORY_LEN, .start = 0, .count = 2, .cols = 80, .rows = 25, .outlet = OUTLET,
-          .identity = "first half" },
-        { .size = sizeof *slots, .len = MEMORY_LEN, .start = 2, .count = 2, .cols = 80, .rows = 25, .outlet = OUTLET,
-          .identity = "second half" },
+        { .size = sizeof *slots, .start = 0, .count = 2, .cols = 80, .rows = 25, .outlet = OUTLET, .identity = "first half" },
+        { .size = sizeof *slots, .start = 2, .count = 2, .cols = 80, .rows = 25, .outlet = OUTLET, .identity = "second half" },
     };
     for (uint8_t slot = 0; slot < GUESTS; slot++) {
+        memcpy(slots[slot].regions, MEMORY, sizeof MEMORY);
         guests[slot].slot = slot;
         strcpy((char *)image + slot * DISK_LEN, DISKS[slot]);
     }

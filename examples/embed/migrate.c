@@ -38,12 +38,12 @@ static void must(uint32_t answer, const char *what)
 
 static void start(struct machine *machine, const char *name, const uint8_t *disk)
 {
-    struct kalyubos_slot slot = { .size = sizeof slot, .base = MEMORY, .len = MEMORY_LEN, .count = DISK_LEN / SECTOR,
+    struct kalyubos_slot slot = { .size = sizeof slot, .regions = { { MEMORY, MEMORY_LEN } }, .count = DISK_LEN / SECTOR,
                                   .cols = 80, .rows = 25, .outlet = 256, .identity = "the guest's disk" };
     size_t len;
     *machine = (struct machine){ .name = name };
     must(kalyubos_create(&machine->board, &slot, 1, disk, DISK_LEN, 1, 0, 0), "create");
-    must(kalyubos_memory(&machine->board, 0, &machine->memory, &len), "memory");
+    must(kalyubos_memory(&machine->board, 0, MEMORY, &machine->memory, &len), "memory");
 }
 
 static void show(struct machine *machine)

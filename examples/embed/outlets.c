@@ -33,7 +33,7 @@ static void power_on(struct kalyubos *board, uint32_t outlet)
     static const uint32_t steps[][2] = { { 0x70, 1 }, { 0x70, 3 }, { 0x24, 1 }, { 0x20, 1 }, { 0x70, 11 }, { 0x30, 1 },
                                          { 0x38, 4 }, { 0x80, 0x80001000 }, { 0x90, 0x80002000 },
                                          { 0xa0, 0x80003000 }, { 0x44, 1 }, { 0x70, 15 } };
-    struct kalyubos_slot slot = { .size = sizeof slot, .base = MEMORY, .len = 0x10000, .count = 1, .cols = 80,
+    struct kalyubos_slot slot = { .size = sizeof slot, .regions = { { MEMORY, 0x10000 } }, .count = 1, .cols = 80,
                                   .rows = 25, .outlet = outlet };
     make(board, &slot, 1, image, sizeof image, 1, NO_LIMIT);
     for (size_t i = 0; i < sizeof steps / sizeof *steps; i++)

@@ -38,7 +38,7 @@ static const uint8_t made_up[WITH_QUEUE] = {
 };
 
 static struct kalyubos board;
-static const struct kalyubos_slot slot = { .size = sizeof slot, .base = MEMORY, .len = MEMORY_LEN, .count = SECTORS,
+static const struct kalyubos_slot slot = { .size = sizeof slot, .regions = { { MEMORY, MEMORY_LEN } }, .count = SECTORS,
                                            .cols = 80, .rows = 25, .outlet = 16, .identity = "disk-a" };
 
 /* The slot is saved as these bytes, into buffers of three lengths; a shorter one is left as it was. */

@@ -56,6 +56,16 @@ size_t place_of(uint32_t answer, const struct kalyubos_slot *slots, size_t count
     return place;
 }
 
+size_t region_of(uint32_t answer, const struct kalyubos_slot *slot)
+{
+    uint64_t before = live;
+    is_open = true;
+    size_t place = kalyubos_region_at_fault(answer, slot);
+    is_open = false;
+    need(live == before, "blocks are kept by a question", live);
+    return place;
+}
+
 void make(struct kalyubos *board, const struct kalyubos_slot *slots, size_t count, const uint8_t *image,
           size_t image_len, uint32_t cache, struct budget budget)
 {

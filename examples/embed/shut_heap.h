@@ -22,6 +22,9 @@ uint32_t create(struct kalyubos *board, const struct kalyubos_slot *slots, size_
 /* Which slot it is refused for, as kalyubos_slot_at_fault answers. */
 size_t place_of(uint32_t answer, const struct kalyubos_slot *slots, size_t count, const uint8_t *image, size_t image_len);
 
+/* Which region of that slot, as kalyubos_region_at_fault answers. */
+size_t region_of(uint32_t answer, const struct kalyubos_slot *slot);
+
 /* Makes one, or ends the program. */
 void make(struct kalyubos *board, const struct kalyubos_slot *slots, size_t count, const uint8_t *image,
           size_t image_len, uint32_t cache, struct budget budget);

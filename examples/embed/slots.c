@@ -7,9 +7,9 @@
 
 #include "shut_heap.h"
 
-enum { MOST = 64, MEMORY_LEN = 0x7000, SIZE = 72, HOLD = 0xff };
+enum { MOST = 64, MEMORY_LEN = 0x7000, SIZE = 184, HOLD = 0xff };
 
-_Static_assert(sizeof(struct kalyubos_slot) == SIZE, "a slot of this version has 72 bytes");
+_Static_assert(sizeof(struct kalyubos_slot) == SIZE, "a slot of this version has 184 bytes");
 
 static const uint64_t MEMORY = 0x80000000;
 static uint8_t image[512];
@@ -17,7 +17,7 @@ static uint8_t image[512];
 /* Slot k has 20 bytes of 40 + k. */
 static struct kalyubos_slot slot_of(int number)
 {
-    struct kalyubos_slot slot = { .size = SIZE, .base = MEMORY, .len = MEMORY_LEN, .cols = 80, .rows = 25, .outlet = 1 };
+    struct kalyubos_slot slot = { .size = SIZE, .regions = { { MEMORY, MEMORY_LEN } }, .cols = 80, .rows = 25, .outlet = 1 };
     memset(slot.identity, 0x40 + number, sizeof slot.identity);
     return slot;
 }
@@ -73,7 +73,7 @@ static void check_order(void)
 {
     struct kalyubos board = { NULL };
     struct kalyubos_slot good = slot_of(0);
-    struct kalyubos_slot bad = { .size = SIZE - 1, .base = 1, .len = 1, .start = 1, .count = 1, .outlet = UINT32_MAX };
+    struct kalyubos_slot bad = { .size = SIZE - 1, .regions = { { 1, 1 } }, .start = 1, .count = 1, .outlet = UINT32_MAX };
     need(create(&board, &bad, 1, image, 511, 0, NO_LIMIT) == KALYUBOS_BAD_SIZE, "a size before all else", 0);
     make(&board, &good, 1, image, sizeof image, 1, NO_LIMIT);
     need(create(&board, &bad, 1, image, 511, 0, NO_LIMIT) == KALYUBOS_HAS_BOARD, "a full handle before a size", 0);
@@ -85,11 +85,13 @@ static void check_places(void)
 {
     static const struct { struct kalyubos_slot bad; uint32_t answer; } rows[] = {
         { { .size = SIZE - 1 }, KALYUBOS_BAD_SIZE },
-        { { .size = SIZE, .len = MEMORY_LEN, .outlet = (1 << 24) + 1 }, KALYUBOS_BAD_OUTLET },
-        { { .size = SIZE, .len = MEMORY_LEN + 1 }, KALYUBOS_BAD_MEMORY_SIZE },
-        { { .size = SIZE, .len = MEMORY_LEN, .base = 1 }, KALYUBOS_BAD_MEMORY_BASE },
-        { { .size = SIZE, .len = MEMORY_LEN, .count = 2 }, KALYUBOS_EXTENT_OUTSIDE },
-        { { .size = SIZE, .len = MEMORY_LEN, .count = 1 }, KALYUBOS_EXTENTS_OVERLAP },
+        { { .size = SIZE, .regions = { { .len = MEMORY_LEN } }, .outlet = (1 << 24) + 1 }, KALYUBOS_BAD_OUTLET },
+        { { .size = SIZE, .regions = { { .len = MEMORY_LEN + 1 } } }, KALYUBOS_BAD_MEMORY_SIZE },
+        { { .size = SIZE, .regions = { { 1, MEMORY_LEN } } }, KALYUBOS_BAD_MEMORY_BASE },
+        { { .size = SIZE }, KALYUBOS_NO_REGIONS },
+        { { .size = SIZE, .regions = { { .len = MEMORY_LEN }, { MEMORY_LEN, MEMORY_LEN } } }, KALYUBOS_REGIONS_NOT_APART },
+        { { .size = SIZE, .regions = { { .len = MEMORY_LEN } }, .count = 2 }, KALYUBOS_EXTENT_OUTSIDE },
+        { { .size = SIZE, .regions = { { .len = MEMORY_LEN } }, .count = 1 }, KALYUBOS_EXTENTS_OVERLAP },
     };
     struct kalyubos board = { NULL };
     struct kalyubos_slot slots[MOST];
@@ -108,6 +110,40 @@ static void check_places(void)
     need(place_of(KALYUBOS_BAD_MEMORY_SIZE, slots, 1, image, sizeof image) == 0, "the only place", 0);
     need(place_of(KALYUBOS_BAD_CACHE, slots, MOST, image, sizeof image) == MOST, "an answer of no slot", 0);
     need(place_of(KALYUBOS_NO_SLOTS, slots, 0, image, sizeof image) == 0, "no slot", 0);
+}
+
+/* ---- regions */
+
+/* What is wrong with a region is told with its place; one that can't be had behind those before it is the one. */
+static void check_regions(void)
+{
+    enum { PAGE = 0x1000 };
+    static const struct { struct kalyubos_region regions[KALYUBOS_REGIONS]; uint32_t answer; size_t place; } rows[] = {
+        { { { 0, PAGE }, { 2 * PAGE, PAGE } }, KALYUBOS_DONE, KALYUBOS_REGIONS },
+        { { { 0, PAGE }, { 0, 0 }, { 1, 1 } }, KALYUBOS_DONE, KALYUBOS_REGIONS }, /* one behind the first of 0 is none */
+        { { { PAGE, PAGE }, { 3 * PAGE, PAGE }, { 5 * PAGE, PAGE }, { 7 * PAGE, PAGE }, { 9 * PAGE, PAGE }, { 11 * PAGE, PAGE },
+            { 13 * PAGE, PAGE }, { -(uint64_t)PAGE, PAGE } }, KALYUBOS_DONE, KALYUBOS_REGIONS },
+        { { { 1, 0 } }, KALYUBOS_NO_REGIONS, KALYUBOS_REGIONS },
+        { { { 0, PAGE - 1 } }, KALYUBOS_BAD_MEMORY_SIZE, 0 },
+        { { { 0, PAGE }, { 2 * PAGE, 1 } }, KALYUBOS_BAD_MEMORY_SIZE, 1 },
+        { { { 0, PAGE }, { 2 * PAGE, 1ull << 46 } }, KALYUBOS_BAD_MEMORY_SIZE, 1 }, /* with the one before it */
+        { { { 0, PAGE }, { 2 * PAGE + 1, PAGE } }, KALYUBOS_BAD_MEMORY_BASE, 1 },
+        { { { 0, PAGE }, { -(uint64_t)PAGE, 2 * PAGE } }, KALYUBOS_BAD_MEMORY_BASE, 1 },
+        { { { 0, PAGE }, { -(uint64_t)PAGE, PAGE } }, KALYUBOS_BAD_MEMORY_BASE, 1 }, /* all 2^64 addresses */
+        { { { 0, PAGE }, { PAGE, PAGE } }, KALYUBOS_REGIONS_NOT_APART, 1 },
+        { { { 4 * PAGE, PAGE }, { 8 * PAGE, PAGE }, { 0, PAGE } }, KALYUBOS_REGIONS_NOT_APART, 2 },
+        { { { 0, PAGE }, { 0, PAGE } }, KALYUBOS_REGIONS_NOT_APART, 1 },
+    };
+    struct kalyubos board = { NULL };
+    for (size_t i = 0; i < sizeof rows / sizeof *rows; i++) {
+        struct kalyubos_slot slot = { .size = SIZE };
+        memcpy(slot.regions, rows[i].regions, sizeof slot.regions);
+        uint32_t answer = create(&board, &slot, 1, image, sizeof image, 1, NO_LIMIT);
+        need(answer == rows[i].answer, "a region that is wrong", i);
+        need(region_of(answer, &slot) == rows[i].place, "the region's place", i);
+        if (answer == KALYUBOS_DONE)
+            end(&board);
+    }
 }
 
 /* ---- identities */
@@ -171,7 +207,8 @@ int main(void)
     check_sizes();
     check_order();
     check_places();
+    check_regions();
     check_identities();
-    puts("slots: 64 and no more, each of its size, each disk with its own identity; a wrong one is told by its place");
+    puts("slots: 64 and no more, each of its size, each disk with its own identity; a wrong one and a wrong region are told by their place");
     return 0;
 }

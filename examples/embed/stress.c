@@ -14,7 +14,7 @@
 #include "kalyubos.h"
 
 enum { BOARDS = 4, SLOTS = 16, MOST = 65 /* one more than a board has */ };
-enum { MEMORY_LEN = 0x8000, SECTORS = 64, BUFFER = 2048, MOST_OUTPUT = 1 << 20 };
+enum { HALF = 0x4000, GAP = 0x1000, MEMORY_LEN = 2 * HALF + GAP, SECTORS = 64, BUFFER = 2048, MOST_OUTPUT = 1 << 20 };
 static const uint64_t MEMORY = 0x80000000;
 static const uint32_t OUTLETS[] = { 0, 1, 4095, 1 << 16 };
 
@@ -76,7 +76,7 @@ void rattle_dealloc(void *at)
 
 static struct kalyubos boards[BOARDS];
 static uint8_t image[SECTORS * 512];
-static struct kalyubos_slot slots[MOST]; /* those behind the first SLOTS have no sectors */
+static struct kalyubos_slot slots[MOST]; /* those behind the first SLOTS have no sectors; half of them have a gap in memory */
 static FILE *trace, *records;
 static uint64_t waiting; /* how many bytes of output the last call said to wait, of those that are told */
 
@@ -238,7 +238,7 @@ static void look(struct kalyubos *board, uint8_t slot)
 
 static uint64_t area(uint8_t window)
 {
-    return MEMORY + (window ? MEMORY_LEN / 2 : 0);
+    return MEMORY + (window ? HALF + GAP : 0);
 }
 
 /* How many chains each driver has put on offer since it brought its window up. */
@@ -342,10 +342,12 @@ static void open_files(const char *trace_path, const char *records_path)
         fail("files", 0);
     for (int i = 0; i < SLOTS; i++)
         slots[i].outlet = MOST_OUTPUT;
-    fprintf(trace, "vreplay 2\ncache 8\n");
+    fprintf(trace, "vreplay 3\ncache 8\n");
     for (int i = 0; i < SLOTS; i++) {
-        fprintf(trace, "slot %" PRIx64 " %x %" PRIx64 " %" PRIx64 " %s %x %x ", slots[i].base, MEMORY_LEN,
-                slots[i].start, slots[i].count, slots[i].read_only ? "ro" : "rw", slots[i].cols, slots[i].rows);
+        for (size_t j = 0; j < KALYUBOS_REGIONS && slots[i].regions[j].len != 0; j++)
+            fprintf(trace, "%s%" PRIx64 "+%" PRIx64, j == 0 ? "slot " : ",", slots[i].regions[j].base, slots[i].regions[j].len);
+        fprintf(trace, " %" PRIx64 " %" PRIx64 " %s %x %x ", slots[i].start, slots[i].count,
+                slots[i].read_only ? "ro" : "rw", slots[i].cols, slots[i].rows);
         put_bytes(trace, slots[i].identity, sizeof slots[i].identity);
         fputc('\n', trace);
     }
@@ -356,9 +358,10 @@ int main(int argc, char **argv)
     uint64_t calls = argc > 1 ? strtoull(argv[1], NULL, 10) : 1000;
     state = 0x9e3779b97f4a7c15 + (argc > 2 ? strtoull(argv[2], NULL, 10) : 0);
     for (int i = 0; i < MOST; i++)
-        slots[i] = (struct kalyubos_slot){ sizeof *slots, MEMORY, MEMORY_LEN, i < SLOTS ? 4 * (uint64_t)i : 0,
-                                           i < SLOTS ? 4 : 0, 80, 25, OUTLETS[i % 4], i % 5 == 4,
-                                           { 's', (uint8_t)i, 0xff, [19] = '!' } };
+        slots[i] = (struct kalyubos_slot){ sizeof *slots, { { MEMORY, i % 2 ? MEMORY_LEN : HALF },
+                                                            { MEMORY + HALF + GAP, i % 2 ? 0 : HALF } },
+                                           i < SLOTS ? 4 * (uint64_t)i : 0, i < SLOTS ? 4 : 0, 80, 25, OUTLETS[i % 4],
+                                           i % 5 == 4, { 's', (uint8_t)i, 0xff, [19] = '!' } };
     if (argc > 4)
         open_files(argv[3], argv[4]);
     heap_is_open = true;

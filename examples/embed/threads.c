@@ -11,7 +11,7 @@
 enum { THREADS = 4, TURNS = 500, MAGIC = 0x74726976, CONSOLE_EMERGENCY = 0x108 };
 
 static const struct kalyubos_slot SLOT = {
-    .size = sizeof(struct kalyubos_slot), .base = 0x80000000, .len = 0x10000, .start = 0, .count = 2, .cols = 80,
+    .size = sizeof(struct kalyubos_slot), .regions = { { 0x80000000, 0x10000 } }, .start = 0, .count = 2, .cols = 80,
     .rows = 25, .outlet = 1, .identity = "disk",
 };
 
@@ -42,8 +42,8 @@ static void turn(struct kalyubos *board, uint8_t mark)
     struct kalyubos_pending pending;
 
     must(kalyubos_read(board, 0, mark % 2, 0, 4, &magic) == KALYUBOS_DONE && magic == MAGIC, "read");
-    must(kalyubos_write_memory(board, 0, SLOT.base, &mark, 1) == KALYUBOS_DONE, "write_memory");
-    must(kalyubos_read_memory(board, 0, SLOT.base, &seen, 1) == KALYUBOS_DONE && seen == mark, "read_memory");
+    must(kalyubos_write_memory(board, 0, SLOT.regions[0].base, &mark, 1) == KALYUBOS_DONE, "write_memory");
+    must(kalyubos_read_memory(board, 0, SLOT.regions[0].base, &seen, 1) == KALYUBOS_DONE && seen == mark, "read_memory");
     must(kalyubos_write(board, 0, KALYUBOS_CONSOLE, CONSOLE_EMERGENCY, 4, mark, &pending) == KALYUBOS_DONE, "write");
     must(kalyubos_take_output(board, 0, out, 2, &count) == KALYUBOS_DONE && count == 1 && out[0] == mark, "output");
     must(kalyubos_input(board, 0, &mark, 1, &count, &pending) == KALYUBOS_DONE, "input");

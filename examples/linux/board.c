@@ -14,9 +14,12 @@
 
 enum { GUESTS = 16, COLUMNS = 80, ROWS = 25, QUEUE_NOTIFY = 0x050 };
 
+static const struct kalyubos_region SMALL[KALYUBOS_REGIONS] = { { MEMORY_BASE, MEMORY_LEN } };
+static const struct kalyubos_region LARGE[KALYUBOS_REGIONS] = { { MEMORY_BASE, 0x20000000 }, { 0x100000000, 0x20000000 } };
+
 static struct kalyubos board;
 static struct board_settings settings;
-static uint8_t *memories[GUESTS];
+static struct memory memories[GUESTS];
 static struct kalyubos_pending waits[GUESTS]; /* after the slot's last call */
 static struct watch_call served[GUESTS];      /* the last call that a service came of */
 static bool paused[GUESTS];                   /* and whether that is paused */
@@ -36,16 +39,22 @@ static void must(uint32_t answer, const char *what)
 
 /* ---- opening and closing */
 
-/* The slot's memory in place, or one of our own that calls copy. */
-static uint8_t *memory_of(uint8_t slot)
+/* A region of the slot's memory in place, or one of our own that calls copy. */
+static struct region region_of(uint8_t slot, const struct kalyubos_region *described)
 {
-    uint8_t *bytes;
-    size_t len;
+    struct region region = { .base = described->base, .len = described->len };
     if (!settings.copies)
-        must(kalyubos_memory(&board, slot, &bytes, &len), "memory");
-    else if ((bytes = calloc(MEMORY_LEN, 1)) == NULL)
+        must(kalyubos_memory(&board, slot, region.base, &region.bytes, &region.len), "memory");
+    else if ((region.bytes = calloc(region.len, 1)) == NULL)
         must(KALYUBOS_NO_MEMORY, "memory");
-    return bytes;
+    return region;
+}
+
+static void open_memory(uint8_t slot, const struct kalyubos_slot *described)
+{
+    struct memory *memory = &memories[slot];
+    for (memory->count = 0; described->regions[memory->count].len != 0; memory->count++)
+        memory->regions[memory->count] = region_of(slot, &described->regions[memory->count]);
 }
 
 /* The serial of a guest's disk: the name of its file, as far as it fits. */
@@ -59,7 +68,7 @@ static void name_disk(struct kalyubos_slot *slot, const char *path)
 static void open_disk(uint8_t slot)
 {
     const char *path = settings.names[slot];
-    const char *wrong = file_disk_open(&disks[slot], &board, slot, MEMORY_BASE, path, settings.sectors[slot] * 512,
+    const char *wrong = file_disk_open(&disks[slot], &board, slot, path, settings.sectors[slot] * 512,
                                        settings.threads ? &file_thread : &file_ring);
     if (wrong != NULL) {
         fprintf(stderr, "linux-machine: %s: %s\n", path, wrong);
@@ -90,8 +99,9 @@ void board_open(const struct board_settings *wanted)
     uint64_t start = 0;
     settings = *wanted;
     for (size_t i = 0; i < settings.guests; i++) {
-        slots[i] = (struct kalyubos_slot){ sizeof *slots, MEMORY_BASE, MEMORY_LEN, start, settings.sectors[i], COLUMNS,
-                                           ROWS, settings.outlet, false, { 0 } };
+        slots[i] = (struct kalyubos_slot){ .size = sizeof *slots, .start = start, .count = settings.sectors[i],
+                                           .cols = COLUMNS, .rows = ROWS, .outlet = settings.outlet };
+        memcpy(slots[i].regions, settings.large ? LARGE : SMALL, sizeof slots[i].regions);
         name_disk(&slots[i], settings.names[i]);
         start += settings.sectors[i];
     }
@@ -102,7 +112,7 @@ void board_open(const struct board_settings *wanted)
     else
         create(slots, start);
     for (size_t i = 0; i < settings.guests; i++)
-        memories[i] = memory_of(i);
+        open_memory(i, &slots[i]);
 }
 
 void board_close(void)
@@ -112,23 +122,24 @@ void board_close(void)
             if (board_complete(i) == KALYUBOS_MORE)
                 board_wait();
     for (size_t i = 0; i < settings.guests && settings.copies; i++)
-        free(memories[i]);
+        for (size_t j = 0; j < memories[i].count; j++)
+            free(memories[i].regions[j].bytes);
     must(kalyubos_destroy(&board), "destroy");
     disk_close();
     if (!record_end())
         must(KALYUBOS_NO_ROOM, "the record");
 }
 
-uint8_t *board_memory(uint8_t slot)
+const struct memory *board_memory(uint8_t slot)
 {
-    return memories[slot];
+    return &memories[slot];
 }
 
 /* A memory that calls copy isn't the board's while a call runs. */
 void board_watch(uint8_t slot, FILE *told)
 {
     if (!settings.copies)
-        watch_guest(slot, &(struct queue_memory){ MEMORY_BASE, memories[slot], MEMORY_LEN }, told);
+        watch_guest(slot, &memories[slot], told);
 }
 
 size_t board_mistakes(uint8_t slot)
@@ -141,14 +152,16 @@ size_t board_mistakes(uint8_t slot)
 /* Where memories are copied: what stands round each call that may look at a memory. */
 static void before(uint8_t slot)
 {
-    if (settings.copies)
-        must(kalyubos_write_memory(&board, slot, MEMORY_BASE, memories[slot], MEMORY_LEN), "write_memory");
+    const struct region *regions = memories[slot].regions;
+    for (size_t i = 0; settings.copies && i < memories[slot].count; i++)
+        must(kalyubos_write_memory(&board, slot, regions[i].base, regions[i].bytes, regions[i].len), "write_memory");
 }
 
 static void after(uint8_t slot)
 {
-    if (settings.copies)
-        must(kalyubos_read_memory(&board, slot, MEMORY_BASE, memories[slot], MEMORY_LEN), "read_memory");
+    const struct region *regions = memories[slot].regions;
+    for (size_t i = 0; settings.copies && i < memories[slot].count; i++)
+        must(kalyubos_read_memory(&board, slot, regions[i].base, regions[i].bytes, regions[i].len), "read_memory");
 }
 
 /* Counts a call of a guest for those whose operation is under way. */
@@ -174,12 +187,22 @@ static void begin(const struct watch_call *call)
     served[call->slot] = *call;
 }
 
+static void count_runs(uint8_t slot)
+{
+    const struct memory *memory = &memories[slot];
+    for (uint32_t i = 0; i < disks[slot].asked.runs; i++)
+        for (size_t j = 0; j < memory->count; j++)
+            flights[slot].runs[j] += disks[slot].runs[i].at - memory->regions[j].base < memory->regions[j].len;
+}
+
 /* An operation of the slot's disk begins. */
 static void take_off(uint8_t slot)
 {
     file_disk_begin(&disks[slot]);
     flies[slot] = true;
     flights[slot].operations++;
+    if (disks[slot].asked.kind != KALYUBOS_ZEROES)
+        count_runs(slot);
 }
 
 /*

@@ -8,8 +8,9 @@
 #include <stdio.h>
 
 #include "kalyubos.h"
+#include "memory.h"
 
-/* The size of each guest's memory, and where it begins. */
+/* Where each guest's memory begins, and its size; a large one has two regions, of 512 MiB each. */
 enum { MEMORY_LEN = 0x01000000 };
 static const uint64_t MEMORY_BASE = 0x80000000;
 
@@ -26,13 +27,14 @@ struct board_settings {
     bool copies;        /* each call copies a guest's whole memory into the board and back, and none is lent */
     bool hosted;        /* there is no image: each disk is the file of its name, which the host serves, */
     bool threads;       /* without io_uring */
+    bool large;         /* each guest's memory is a large one */
 };
 
 void board_open(const struct board_settings *settings);
 void board_close(void);
 
 /* A guest's memory, which its CPU may change between calls. */
-uint8_t *board_memory(uint8_t slot);
+const struct memory *board_memory(uint8_t slot);
 
 /* Tells what the guest's drivers do wrong, a line each (watch.h), unless memories are copied; and how often they did. */
 void board_watch(uint8_t slot, FILE *told);
@@ -61,9 +63,12 @@ bool board_is_paused(uint8_t slot);
 uint32_t board_complete(uint8_t slot);
 void board_wait(void);
 
-/* Of a slot's disk that the host serves: its operations so far, and how many calls other guests made during them. */
+/*
+ * Of a slot's disk that the host serves: its operations so far, how many calls other guests made during them, and how many of
+ * their runs lay in which region of its memory.
+ */
 struct board_flights {
-    size_t operations, calls;
+    size_t operations, calls, runs[MEMORY_REGIONS];
 };
 struct board_flights board_flights(uint8_t slot);
 

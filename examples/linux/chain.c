@@ -19,18 +19,17 @@ static const char NESTED[] = "an indirect table in an indirect table (2.7.5.3.1)
 
 /* ---- memory */
 
-static bool is_inside(const struct queue_memory *memory, uint64_t addr, uint64_t count)
+static bool is_inside(const struct memory *memory, uint64_t addr, uint64_t count)
 {
-    uint64_t offset = addr - memory->base;
-    return addr >= memory->base && offset <= memory->len && count <= memory->len - offset;
+    return memory_at(memory, addr, count) != NULL;
 }
 
-uint64_t queue_number(const struct queue_memory *memory, uint64_t addr, unsigned count)
+uint64_t queue_number(const struct memory *memory, uint64_t addr, unsigned count)
 {
+    const uint8_t *bytes = memory_at(memory, addr, count);
     uint64_t value = 0;
-    if (is_inside(memory, addr, count))
-        for (unsigned i = 0; i < count; i++)
-            value |= (uint64_t)memory->bytes[addr - memory->base + i] << 8 * i;
+    for (unsigned i = 0; bytes != NULL && i < count; i++)
+        value |= (uint64_t)bytes[i] << 8 * i;
     return value;
 }
 
@@ -41,7 +40,7 @@ struct descriptor {
     uint16_t flags, next;
 };
 
-static struct descriptor descriptor_at(const struct queue_memory *memory, uint64_t table, uint32_t index, bool packed)
+static struct descriptor descriptor_at(const struct memory *memory, uint64_t table, uint32_t index, bool packed)
 {
     uint64_t at = table + (uint64_t)index * DESCRIPTOR;
     uint16_t first = queue_number(memory, at + 12, 2), second = queue_number(memory, at + 14, 2);
@@ -51,7 +50,7 @@ static struct descriptor descriptor_at(const struct queue_memory *memory, uint64
 
 /* ---- one chain */
 
-static void append(struct chain *chain, const struct queue_memory *memory, const struct descriptor *buffer)
+static void append(struct chain *chain, const struct memory *memory, const struct descriptor *buffer)
 {
     if (!is_inside(memory, buffer->addr, buffer->len))
         chain->fault = OUTSIDE;
@@ -72,7 +71,7 @@ static void append(struct chain *chain, const struct queue_memory *memory, const
 }
 
 /* A path of a split ring or table from `index` on; ends before an indirect table, which `table` then is. */
-static bool walk(struct chain *chain, const struct queue_memory *memory, uint64_t from, uint32_t size, uint32_t index,
+static bool walk(struct chain *chain, const struct memory *memory, uint64_t from, uint32_t size, uint32_t index,
                  struct descriptor *table)
 {
     for (uint32_t members = 1;; members++) {
@@ -92,7 +91,7 @@ static bool walk(struct chain *chain, const struct queue_memory *memory, uint64_
     }
 }
 
-static void walk_table(struct chain *chain, const struct queue *queue, const struct queue_memory *memory,
+static void walk_table(struct chain *chain, const struct queue *queue, const struct memory *memory,
                        const struct descriptor *table, bool joined)
 {
     struct descriptor inner;
@@ -113,7 +112,7 @@ static void walk_table(struct chain *chain, const struct queue *queue, const str
     }
 }
 
-static struct chain split_chain(const struct queue *queue, const struct queue_memory *memory, uint32_t place)
+static struct chain split_chain(const struct queue *queue, const struct memory *memory, uint32_t place)
 {
     struct chain chain = { .place = place, .members = 1 };
     struct descriptor table;
@@ -123,7 +122,7 @@ static struct chain split_chain(const struct queue *queue, const struct queue_me
     return chain;
 }
 
-static struct chain packed_chain(const struct queue *queue, const struct queue_memory *memory, uint32_t place)
+static struct chain packed_chain(const struct queue *queue, const struct memory *memory, uint32_t place)
 {
     struct chain chain = { .place = place };
     struct descriptor one;
@@ -141,7 +140,7 @@ static struct chain packed_chain(const struct queue *queue, const struct queue_m
     return chain;
 }
 
-struct chain chain_at(const struct queue *queue, const struct queue_memory *memory, uint32_t place)
+struct chain chain_at(const struct queue *queue, const struct memory *memory, uint32_t place)
 {
     return queue->packed ? packed_chain(queue, memory, place) : split_chain(queue, memory, place);
 }

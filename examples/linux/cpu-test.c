@@ -57,9 +57,7 @@ static void run(uint32_t word)
 
 static void reset(void)
 {
-    cpu.memory = memory;
-    cpu.memory_base = BASE;
-    cpu.memory_len = MEMORY;
+    cpu.memory = (struct memory){ 1, { { BASE, MEMORY, memory } } };
     cpu.bus = (struct cpu_bus){ NULL, no_load, no_store, no_call };
     cpu_reset(&cpu, BASE + CODE);
     cpu.stvec = BASE + TRAPS;

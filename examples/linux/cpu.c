@@ -85,12 +85,6 @@ void cpu_line(struct cpu *cpu, unsigned interrupt, bool high)
 
 /* ---- memory */
 
-static uint8_t *host_of(struct cpu *cpu, uint64_t addr, uint64_t len)
-{
-    uint64_t offset = addr - cpu->memory_base;
-    return offset < cpu->memory_len && len <= cpu->memory_len - offset ? cpu->memory + offset : NULL;
-}
-
 static bool page_fault(struct cpu *cpu, enum cpu_access access, uint64_t addr)
 {
     static const enum cause causes[] = { FETCH_PAGE, LOAD_PAGE, STORE_PAGE };
@@ -129,7 +123,7 @@ static bool translate(struct cpu *cpu, uint64_t addr, enum cpu_access access, ui
     uint64_t table = (cpu->satp & PPN) << 12;
     for (unsigned shift = 30;; shift -= 9) {
         uint64_t entry;
-        uint8_t *at = host_of(cpu, table + (addr >> shift & 511) * 8, 8);
+        uint8_t *at = memory_at(&cpu->memory, table + (addr >> shift & 511) * 8, 8);
         if (at == NULL)
             return access_fault(cpu, access, addr);
         memcpy(&entry, at, 8);
@@ -151,7 +145,7 @@ static bool find(struct cpu *cpu, uint64_t addr, enum cpu_access access, uint8_t
 {
     if (!translate(cpu, addr, access, physical))
         return false;
-    *host = host_of(cpu, *physical, 1);
+    *host = memory_at(&cpu->memory, *physical, 1);
     if (*host != NULL)
         cpu->tlb[cpu->context][access][addr >> 12 & (CPU_TLB - 1)] =
             (struct cpu_translation){ addr & ~(uint64_t)0xfff, *host - (addr & 0xfff) };
@@ -702,7 +696,7 @@ void cpu_reset(struct cpu *cpu, uint64_t pc)
 
 void cpu_resume(struct cpu *cpu, const struct cpu *other)
 {
-    uint8_t *memory = cpu->memory;
+    struct memory memory = cpu->memory;
     struct cpu_bus bus = cpu->bus;
     *cpu = *other;
     cpu->memory = memory;

@@ -8,6 +8,8 @@
 #include <stdbool.h>
 #include <stdint.h>
 
+#include "memory.h"
+
 enum { CPU_TIMER_INTERRUPT = 5, CPU_EXTERNAL_INTERRUPT = 9 };
 
 /* One tick of the time register is so many cycles. */
@@ -45,8 +47,7 @@ struct cpu {
     enum cpu_context context;
     uint64_t sstatus, sie, sip, stvec, scounteren, sscratch, sepc, scause, stval, satp;
     uint64_t reservation; /* the address of the last LR, or all ones */
-    uint8_t *memory;
-    uint64_t memory_base, memory_len;
+    struct memory memory;
     struct cpu_bus bus;
     struct cpu_translation tlb[CPU_CONTEXTS][CPU_ACCESSES][CPU_TLB];
 };

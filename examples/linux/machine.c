@@ -246,16 +246,14 @@ static void call(void *user)
 
 static void place(struct machine *machine, uint64_t offset, struct machine_file file)
 {
-    memcpy(machine->cpu.memory + offset, file.bytes, file.len);
+    memcpy(machine->cpu.memory.regions[0].bytes + offset, file.bytes, file.len);
 }
 
 void machine_open(struct machine *machine, uint8_t slot)
 {
     machine->slot = slot;
     machine->timer = machine->due = NEVER;
-    machine->cpu.memory = board_memory(slot);
-    machine->cpu.memory_base = MEMORY_BASE;
-    machine->cpu.memory_len = MEMORY_LEN;
+    machine->cpu.memory = *board_memory(slot);
     machine->cpu.bus = (struct cpu_bus){ machine, bus_load, bus_store, call };
 }
 

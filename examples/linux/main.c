@@ -13,6 +13,7 @@
  *                     limit, as where it isn't said
  *   --bytes COUNT     begins no chain in a call after so many bytes: 65536 where it isn't said; 0 is no limit
  *   --late            takes them only where there is no room for more, and while the guest waits
+ *   --large           gives each guest 1 GiB in two regions, which the tree has to tell
  *   --copies          copies each guest's memory into the board and back round each call
  *   --without FEATURE a feature that no driver is shown, as RING_PACKED
  *   --cycles COUNT    leaves a guest that isn't off by then
@@ -168,7 +169,7 @@ static void open_guests(void)
         sectors[i] = guests[i].sectors;
     board_open(&(struct board_settings){ words.count, sectors, words.guests, served, words.cache, words.outlet,
                                          words.chains, words.bytes, words.record, words.copies, words.hosted,
-                                         words.threads });
+                                         words.threads, words.large });
     free(image);
     for (size_t i = 0; i < words.count; i++)
         if (guests[i].is_noise)

@@ -61,7 +61,7 @@ static void bring_up(struct noise *noise, unsigned window)
 /* A descriptor at random, whose buffer mostly lies in the memory, somewhere in a ring. */
 static void write_noise(struct noise *noise)
 {
-    uint8_t *area = board_memory(noise->slot) + at_random(noise) % (AREAS / AREA) * AREA;
+    uint8_t *area = board_memory(noise->slot)->regions[0].bytes + at_random(noise) % (AREAS / AREA) * AREA;
     uint32_t fields[4] = { MEMORY_BASE + at_random(noise) % AREAS, 0, at_random(noise) % 0x10000,
                            at_random(noise) };
     memcpy(area + at_random(noise) % 8 * 16, fields, sizeof fields);

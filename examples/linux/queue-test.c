@@ -4,7 +4,7 @@
 #include <stdio.h>
 #include <string.h>
 
-enum { BASE = 0x80000000u, LEN = 0x10000, RING = 0x1000, AVAILABLE = 0x2000, USED = 0x3000, TABLE = 0x4000 };
+enum { BASE = 0x80000000u, LEN = 0x10000, GAP = 0x1000, RING = 0x1000, AVAILABLE = 0x2000, USED = 0x3000, TABLE = 0x4000 };
 enum { N = 1, W = 2, I = 4, OFFERED = 0x80, GIVEN_BACK = 0x8080 }; /* the flags; those of a packed ring's first lap */
 
 /* Addresses count from the memory's first byte. `next` is the buffer id in a packed ring. */
@@ -37,6 +37,9 @@ static const struct row ROWS[] = {
       0 },
     { "five chains in four places", false, false, 5, 0, { { 0x8000, 1, 0, 0 } }, { { 0 } }, 1, "more chains", 0, 0, 0 },
     { "a buffer up to the end", false, false, 1, 0, { { 0xfff0, 16, W, 0 } }, { { 0 } }, 1, NULL, 0xffff, 1, 0 },
+    { "a buffer in the second region", false, false, 1, 0, { { LEN + GAP, 16, W, 0 } }, { { 0 } }, 1, NULL, LEN + GAP + 15, 1, 0 },
+    { "a buffer in the gap", false, false, 1, 0, { { LEN + GAP - 1, 1, W, 0 } }, { { 0 } }, 1, "isn't inside", 0, 1, 0 },
+    { "a buffer across the gap", false, false, 1, 0, { { LEN - 1, GAP + 2, W, 0 } }, { { 0 } }, 1, "isn't inside", 0, 1, 0 },
     { "a buffer past the end", false, false, 1, 0, { { 0xfff0, 17, W, 0 } }, { { 0 } }, 1, "isn't inside", 0, 1, 0 },
     { "a table", false, true, 1, 0, { { TABLE, 48, I, 0 } },
       { { 0x8000, 16, N, 1 }, { 0x9000, 4, N | W, 2 }, { 0xa000, 1, W, 0 } }, 1, NULL, 0xa000, 1, 16 },
@@ -63,7 +66,7 @@ static const struct row ROWS[] = {
 };
 
 static uint8_t bytes[LEN];
-static const struct queue_memory MEMORY = { BASE, bytes, LEN };
+static const struct memory MEMORY = { 2, { { BASE, LEN, bytes }, { BASE + LEN + GAP, LEN, bytes } } };
 
 static void put(uint32_t at, uint64_t value, unsigned count)
 {

@@ -5,19 +5,19 @@ enum { AVAIL = 0x80, USED = 0x8000, DESCRIPTOR = 16, INDICES = 0x10000 };
 
 static const char TOO_MANY_CHAINS[] = "more chains are on offer than the virtqueue has places (2.7.6)";
 
-static uint16_t packed_flags(const struct queue *queue, const struct queue_memory *memory, uint32_t place)
+static uint16_t packed_flags(const struct queue *queue, const struct memory *memory, uint32_t place)
 {
     return queue_number(memory, queue->areas[AREA_DESCRIPTORS] + place % queue->size * DESCRIPTOR + 14, 2);
 }
 
-static bool packed_is_offered(const struct queue *queue, const struct queue_memory *memory, uint32_t place)
+static bool packed_is_offered(const struct queue *queue, const struct memory *memory, uint32_t place)
 {
     uint16_t flags = packed_flags(queue, memory, place);
     bool wrap = place < queue->size;
     return ((flags & AVAIL) != 0) == wrap && ((flags & USED) != 0) != wrap;
 }
 
-static size_t split_offered(const struct queue *queue, const struct queue_memory *memory, struct chain *chains)
+static size_t split_offered(const struct queue *queue, const struct memory *memory, struct chain *chains)
 {
     uint32_t idx = queue_number(memory, queue->areas[AREA_DRIVER] + 2, 2);
     uint32_t left = (idx - queue->place) % INDICES;
@@ -33,7 +33,7 @@ static size_t split_offered(const struct queue *queue, const struct queue_memory
     return count;
 }
 
-static size_t packed_offered(const struct queue *queue, const struct queue_memory *memory, struct chain *chains)
+static size_t packed_offered(const struct queue *queue, const struct memory *memory, struct chain *chains)
 {
     struct queue at = *queue;
     size_t count = 0;
@@ -48,14 +48,14 @@ static size_t packed_offered(const struct queue *queue, const struct queue_memor
     return count;
 }
 
-size_t queue_offered(const struct queue *queue, const struct queue_memory *memory, struct chain chains[QUEUE_PLACES])
+size_t queue_offered(const struct queue *queue, const struct memory *memory, struct chain chains[QUEUE_PLACES])
 {
     if (!queue->ready || queue->size == 0 || queue->size > QUEUE_PLACES)
         return 0;
     return queue->packed ? packed_offered(queue, memory, chains) : split_offered(queue, memory, chains);
 }
 
-bool queue_is_used(const struct queue *queue, const struct queue_memory *memory, const struct chain *chain)
+bool queue_is_used(const struct queue *queue, const struct memory *memory, const struct chain *chain)
 {
     if (!queue->packed) {
         uint32_t idx = queue_number(memory, queue->areas[AREA_DEVICE] + 2, 2);

@@ -9,15 +9,10 @@
 #include <stddef.h>
 #include <stdint.h>
 
+#include "memory.h"
+
 /* The most places that a queue has, and the bytes that a block request begins with. */
 enum { QUEUE_PLACES = 256, QUEUE_HEADER = 16 };
-
-/* A guest's memory, to read. */
-struct queue_memory {
-    uint64_t base;
-    const uint8_t *bytes;
-    size_t len;
-};
 
 enum { AREA_DESCRIPTORS, AREA_DRIVER, AREA_DEVICE, AREAS };
 
@@ -41,18 +36,18 @@ struct chain {
 };
 
 /* The chain whose first place this is. */
-struct chain chain_at(const struct queue *queue, const struct queue_memory *memory, uint32_t place);
+struct chain chain_at(const struct queue *queue, const struct memory *memory, uint32_t place);
 
 /* The chains that are on offer, in their order and up to the first with a fault; how many they are. */
-size_t queue_offered(const struct queue *queue, const struct queue_memory *memory, struct chain chains[QUEUE_PLACES]);
+size_t queue_offered(const struct queue *queue, const struct memory *memory, struct chain chains[QUEUE_PLACES]);
 
 /* Whether the device gave a chain back. */
-bool queue_is_used(const struct queue *queue, const struct queue_memory *memory, const struct chain *chain);
+bool queue_is_used(const struct queue *queue, const struct memory *memory, const struct chain *chain);
 
 /* Moves the queue behind a chain. */
 void queue_pass(struct queue *queue, const struct chain *chain);
 
 /* Bytes of the memory as a number, or 0 where they lie outside. */
-uint64_t queue_number(const struct queue_memory *memory, uint64_t addr, unsigned count);
+uint64_t queue_number(const struct memory *memory, uint64_t addr, unsigned count);
 
 #endif

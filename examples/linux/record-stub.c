@@ -8,7 +8,7 @@
 
 #include "kalyubos.h"
 
-enum { LEN = 0x10000, GUESTS = 2, DEVICE_ID = 0x008, QUEUE_READY = 0x044, NOTIFY = 0x050, STATUS = 0x070, EMERGENCY = 0x108 };
+enum { BASE = 0x80000000u, LEN = 0x10000, PAGE = 0x1000, GUESTS = 2, DEVICE_ID = 0x008, QUEUE_READY = 0x044, NOTIFY = 0x050, STATUS = 0x070, EMERGENCY = 0x108 };
 
 static struct guest {
     uint8_t *memory;
@@ -45,7 +45,7 @@ static void put_out(struct guest *guest, const char *text)
 static uint32_t make(struct kalyubos *board)
 {
     for (int i = 0; i < GUESTS; i++)
-        if ((guests[i].memory = calloc(LEN, 1)) == NULL)
+        if ((guests[i].memory = calloc(LEN + PAGE, 1)) == NULL)
             return KALYUBOS_NO_MEMORY;
     board->at = guests;
     return KALYUBOS_DONE;
@@ -74,11 +74,11 @@ uint32_t kalyubos_destroy(struct kalyubos *board)
     return KALYUBOS_DONE;
 }
 
-uint32_t kalyubos_memory(struct kalyubos *board, uint8_t slot, uint8_t **bytes, size_t *len)
+uint32_t kalyubos_memory(struct kalyubos *board, uint8_t slot, uint64_t addr, uint8_t **bytes, size_t *len)
 {
     (void)board;
-    *bytes = guests[slot].memory;
-    *len = LEN;
+    *bytes = guests[slot].memory + (addr == BASE ? 0 : LEN); /* a second region behind the first */
+    *len = addr == BASE ? LEN : PAGE;
     return KALYUBOS_DONE;
 }
 

@@ -122,7 +122,7 @@ static void transmit_more_than_fits(void)
 /* ---- over an image */
 
 static const struct kalyubos_slot SLOT = {
-    .size = sizeof(struct kalyubos_slot), .base = BASE, .len = LEN, .count = SECTORS, .cols = 80, .rows = 25,
+    .size = sizeof(struct kalyubos_slot), .regions = { { BASE, LEN } }, .count = SECTORS, .cols = 80, .rows = 25,
     .outlet = 16, .identity = "a disk of two",
 };
 
@@ -130,8 +130,8 @@ static const struct kalyubos_slot SLOT = {
 static void begin(FILE *mistakes)
 {
     size_t len;
-    must(kalyubos_memory(&board, 0, &memory, &len) == KALYUBOS_DONE && len == LEN, "the memory");
-    watch_guest(0, &(struct queue_memory){ BASE, memory, LEN }, mistakes);
+    must(kalyubos_memory(&board, 0, BASE, &memory, &len) == KALYUBOS_DONE && len == LEN, "the memory");
+    watch_guest(0, &(struct memory){ 1, { { BASE, LEN, memory } } }, mistakes);
 }
 
 static void use_image(FILE *mistakes)
@@ -208,7 +208,8 @@ static void ask_for_what_fails(void)
 
 static void serve_disks(FILE *mistakes)
 {
-    const struct kalyubos_slot slots[] = { SLOT, SLOT };
+    struct kalyubos_slot slots[] = { SLOT, SLOT };
+    slots[1].regions[1] = (struct kalyubos_region){ BASE + 2 * LEN, 0x1000 };
     must(record_create_hosted(&board, slots, 2) == KALYUBOS_DONE, "create_hosted");
     begin(mistakes);
     bring_up(KALYUBOS_BLOCK, 0, BASE + TABLE);

@@ -5,6 +5,8 @@
 #include <stdlib.h>
 #include <string.h>
 
+#include "memory.h"
+
 enum { SLOTS = 16, GAP = 16 /* bytes that stayed, between two that changed, which are worth no line of their own */ };
 
 static const char DIGITS[] = "0123456789abcdef";
@@ -17,10 +19,8 @@ struct text {
 
 /* What is known of a slot. */
 struct seen {
-    uint64_t base;
-    size_t len;
-    uint8_t *now;  /* its memory in place */
-    uint8_t *left; /* as its last call left it */
+    struct memory now;              /* its memory in place */
+    uint8_t *left[MEMORY_REGIONS];  /* and each region as its last call left it */
     bool refused;  /* whether that was a write that is to be made again */
     struct text event; /* what is asked for: the line of an event that isn't done */
     char reply[32];    /* and what it is answered once it is */
@@ -45,7 +45,7 @@ static struct asked asked;
 /* Whether a call is one to write down: those that name a slot that isn't there are none. */
 static bool writes(uint8_t slot)
 {
-    return trace != NULL && slot < SLOTS && seen[slot].left != NULL;
+    return trace != NULL && slot < SLOTS && seen[slot].now.count > 0;
 }
 
 /* Whether its event is paused: then a call for it is busy, and none to write down. */
@@ -127,21 +127,21 @@ static void put_record(uint8_t slot, const char *reply)
     end_record(slot);
 }
 
-/* Bytes of memory as a line that writes them, and as one that finds them. */
-static void put_write(uint8_t slot, size_t start, size_t end)
+/* Bytes of a region as a line that writes them, and as one that finds them. */
+static void put_write(uint8_t slot, const struct region *region, size_t start, size_t end)
 {
-    fprintf(trace, "mw %x %llx ", slot, (unsigned long long)(seen[slot].base + start));
-    put_bytes(trace, seen[slot].now + start, end - start);
+    fprintf(trace, "mw %x %llx ", slot, (unsigned long long)(region->base + start));
+    put_bytes(trace, region->bytes + start, end - start);
     end_line();
     put_record(slot, "done");
 }
 
-static void put_read(uint8_t slot, size_t start, size_t end)
+static void put_read(uint8_t slot, const struct region *region, size_t start, size_t end)
 {
-    fprintf(trace, "mr %x %llx %zx", slot, (unsigned long long)(seen[slot].base + start), end - start);
+    fprintf(trace, "mr %x %llx %zx", slot, (unsigned long long)(region->base + start), end - start);
     end_line();
     fprintf(records, "%x b:", slot);
-    put_bytes(records, seen[slot].now + start, end - start);
+    put_bytes(records, region->bytes + start, end - start);
     end_record(slot);
 }
 
@@ -155,36 +155,43 @@ static void ask(uint8_t slot, const char *line, size_t len)
 /* ---- what changed */
 
 /* Where the next difference lies from `at` on, or the end. */
-static size_t difference(const struct seen *of, size_t at)
+static size_t difference(const struct region *region, const uint8_t *left, size_t at)
 {
     enum { STEP = 4096 };
-    while (at + STEP <= of->len && memcmp(of->left + at, of->now + at, STEP) == 0)
+    while (at + STEP <= region->len && memcmp(left + at, region->bytes + at, STEP) == 0)
         at += STEP;
-    while (at < of->len && of->left[at] == of->now[at])
+    while (at < region->len && left[at] == region->bytes[at])
         at++;
     return at;
 }
 
 /* The end of a run of differences: as many bytes as GAP after it are the same. */
-static size_t end_of(const struct seen *of, size_t start)
+static size_t end_of(const struct region *region, const uint8_t *left, size_t start)
 {
     size_t end = start;
-    for (size_t at = start; at < of->len && at - end < GAP; at++)
-        if (of->left[at] != of->now[at])
+    for (size_t at = start; at < region->len && at - end < GAP; at++)
+        if (left[at] != region->bytes[at])
             end = at + 1;
     return end;
 }
 
-/* Writes down each part of the guest's memory that isn't as it was known, and knows it then. */
-static void put_changes(uint8_t slot, void (*put)(uint8_t slot, size_t start, size_t end))
+/* Writes down each part of a region that isn't as it was known, and knows it then. */
+typedef void put_part(uint8_t slot, const struct region *region, size_t start, size_t end);
+static void put_region(uint8_t slot, const struct region *region, uint8_t *left, put_part *put)
 {
-    struct seen *of = &seen[slot];
-    for (size_t at = difference(of, 0); at < of->len; at = difference(of, at)) {
-        size_t end = end_of(of, at);
-        put(slot, at, end);
-        memcpy(of->left + at, of->now + at, end - at);
+    for (size_t at = difference(region, left, 0); at < region->len; at = difference(region, left, at)) {
+        size_t end = end_of(region, left, at);
+        put(slot, region, at, end);
+        memcpy(left + at, region->bytes + at, end - at);
         at = end;
     }
+}
+
+/* The same of all regions of a guest. */
+static void put_changes(uint8_t slot, put_part *put)
+{
+    for (size_t i = 0; i < seen[slot].now.count; i++)
+        put_region(slot, &seen[slot].now.regions[i], seen[slot].left[i], put);
 }
 
 static void keep_output(struct kalyubos *board, uint8_t slot)
@@ -227,7 +234,8 @@ bool record_end(void)
 {
     bool good = trace == NULL || (fclose(trace) == 0 && fclose(records) == 0);
     for (size_t i = 0; i < SLOTS; i++) {
-        free(seen[i].left);
+        for (size_t j = 0; j < seen[i].now.count; j++)
+            free(seen[i].left[j]);
         free(seen[i].event.bytes);
         free(seen[i].output.bytes);
         free(seen[i].untold.bytes);
@@ -240,25 +248,45 @@ bool record_end(void)
 
 /* ---- the calls */
 
-static void put_slot(struct kalyubos *board, uint8_t index, const struct kalyubos_slot *slot)
+/* Versions 1 and 2 have one region of 256 MiB at most. */
+static bool is_small(const struct kalyubos_slot *slot)
+{
+    return slot->regions[0].len <= 0x10000000 && slot->regions[1].len == 0;
+}
+
+static void see_memory(struct kalyubos *board, uint8_t index, const struct kalyubos_slot *slot)
 {
     struct seen *of = &seen[index];
-    *of = (struct seen){ .base = slot->base };
-    fprintf(trace, "slot %llx %llx %llx %llx %s %x %x ", (unsigned long long)slot->base,
-            (unsigned long long)slot->len, (unsigned long long)slot->start, (unsigned long long)slot->count,
+    *of = (struct seen){ 0 };
+    for (size_t i = 0; i < KALYUBOS_REGIONS && slot->regions[i].len != 0; i++) {
+        struct region *region = &of->now.regions[of->now.count++];
+        region->base = slot->regions[i].base;
+        kalyubos_memory(board, index, region->base, &region->bytes, &region->len);
+        of->left[i] = calloc(region->len, 1);
+        if (of->left[i] == NULL)
+            abort();
+    }
+}
+
+/* A slot's line, whose regions are one field from version 3 on. */
+static void put_slot(const struct memory *memory, const struct kalyubos_slot *slot, unsigned version)
+{
+    fputs("slot ", trace);
+    for (size_t i = 0; i < memory->count; i++)
+        fprintf(trace, "%s%llx%c%llx", i > 0 ? "," : "", (unsigned long long)memory->regions[i].base,
+                version < 3 ? ' ' : '+', (unsigned long long)memory->regions[i].len);
+    fprintf(trace, " %llx %llx %s %x %x ", (unsigned long long)slot->start, (unsigned long long)slot->count,
             slot->read_only ? "ro" : "rw", slot->cols, slot->rows);
     put_bytes(trace, slot->identity, sizeof slot->identity);
     fputc('\n', trace);
-    kalyubos_memory(board, index, &of->now, &of->len);
-    of->left = calloc(of->len, 1);
-    if (of->left == NULL)
-        abort();
 }
 
-static void put_slots(struct kalyubos *board, const struct kalyubos_slot *slots, size_t slots_len)
+static void put_slots(struct kalyubos *board, const struct kalyubos_slot *slots, size_t slots_len, unsigned version)
 {
-    for (size_t i = 0; i < slots_len; i++)
-        put_slot(board, i, &slots[i]);
+    for (size_t i = 0; i < slots_len; i++) {
+        see_memory(board, i, &slots[i]);
+        put_slot(&seen[i].now, &slots[i], version);
+    }
     lines = called = 2 + slots_len;
 }
 
@@ -268,8 +296,11 @@ uint32_t record_create(struct kalyubos *board, const struct kalyubos_slot *slots
     uint32_t answer = kalyubos_create(board, slots, slots_len, image, image_len, cache, chains, bytes);
     if (trace == NULL || answer != KALYUBOS_DONE)
         return answer;
-    fprintf(trace, "vreplay 2\ncache %x\n", (unsigned)cache);
-    put_slots(board, slots, slots_len);
+    unsigned version = 2;
+    for (size_t i = 0; i < slots_len; i++)
+        version = is_small(&slots[i]) ? version : 3;
+    fprintf(trace, "vreplay %u\ncache %x\n", version, (unsigned)cache);
+    put_slots(board, slots, slots_len, version);
     return answer;
 }
 
@@ -280,7 +311,7 @@ uint32_t record_create_hosted(struct kalyubos *board, const struct kalyubos_slot
         return answer;
     hosted = true;
     fputs("vreplay 3\nhosted\n", trace);
-    put_slots(board, slots, slots_len);
+    put_slots(board, slots, slots_len, 3);
     return answer;
 }
 

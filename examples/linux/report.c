@@ -8,11 +8,12 @@
 #include "words.h"
 
 /* FNV-1a of 64 bits. */
-static uint64_t sum_of(const uint8_t *bytes, size_t len)
+static uint64_t sum_of(const struct memory *memory)
 {
     uint64_t sum = 0xcbf29ce484222325;
-    for (size_t i = 0; i < len; i++)
-        sum = (sum ^ bytes[i]) * 0x100000001b3;
+    for (const struct region *region = memory->regions; region < memory->regions + memory->count; region++)
+        for (size_t i = 0; i < region->len; i++)
+            sum = (sum ^ region->bytes[i]) * 0x100000001b3;
     return sum;
 }
 
@@ -43,6 +44,9 @@ static void show_flights(uint8_t slot)
     if (flights.operations > 0)
         printf("guest %u: its disk was asked %zu times, and other guests made %zu calls meanwhile\n", slot,
                flights.operations, flights.calls);
+    if (board_memory(slot)->count > 1)
+        printf("guest %u: %zu of its disk's runs lay in the first region of its memory, %zu in the second\n", slot,
+               flights.runs[0], flights.runs[1]);
 }
 
 /* Shows what was told of a guest's drivers. */
@@ -64,7 +68,7 @@ bool report_machine(const struct machine *machine, const char *folder)
             (unsigned long long)machine->cpu.cycles);
     report_window(report, "block", &machine->counts[0]);
     report_window(report, "console", &machine->counts[1]);
-    fprintf(report, "memory: %016llx\n", (unsigned long long)sum_of(board_memory(machine->slot), MEMORY_LEN));
+    fprintf(report, "memory: %016llx\n", (unsigned long long)sum_of(board_memory(machine->slot)));
     fclose(report);
     fclose(machine->terminal.log);
     fclose(machine->early);

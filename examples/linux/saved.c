@@ -42,6 +42,16 @@ static double milliseconds_since(struct timespec then)
     return (time.tv_sec - then.tv_sec) * 1e3 + (time.tv_nsec - then.tv_nsec) / 1e6;
 }
 
+/* The size of a guest's memory, all regions together. */
+static uint64_t memory_len(uint8_t slot)
+{
+    const struct memory *memory = board_memory(slot);
+    uint64_t len = 0;
+    for (size_t i = 0; i < memory->count; i++)
+        len += memory->regions[i].len;
+    return len;
+}
+
 /* ---- saving */
 
 static void put(FILE *file, const void *bytes, size_t len)
@@ -57,7 +67,7 @@ static void put_machine(FILE *file, const struct machine *machine)
     kept = *machine;
     kept.early = kept.mistakes = kept.terminal.log = NULL;
     kept.terminal.script = NULL;
-    kept.cpu.memory = NULL;
+    kept.cpu.memory = (struct memory){ 0 };
     kept.cpu.bus = (struct cpu_bus){ 0 };
     memset(kept.cpu.tlb, 0, sizeof kept.cpu.tlb);
     put(file, &kept, sizeof kept);
@@ -77,7 +87,7 @@ void saved_write(const char *path, const struct machine *machine, const char *di
 {
     struct head head = { .machine_len = sizeof *machine, .windows_len = WINDOWS * sizeof(struct window),
                          .name_len = strlen(disk_name), .script_len = strlen(machine->terminal.script),
-                         .disk_len = disk_len, .memory_len = MEMORY_LEN, .stopped = now() };
+                         .disk_len = disk_len, .memory_len = memory_len(machine->slot), .stopped = now() };
     size_t devices_len;
     uint8_t *devices = board_save(machine->slot, &devices_len);
     FILE *file = open_file(path, "wb");
@@ -90,7 +100,9 @@ void saved_write(const char *path, const struct machine *machine, const char *di
     put(file, machine->terminal.script, head.script_len);
     put(file, devices, devices_len);
     put_disk(file, machine->slot, head.disk_len);
-    put(file, board_memory(machine->slot), head.memory_len);
+    const struct memory *memory = board_memory(machine->slot);
+    for (size_t i = 0; i < memory->count; i++)
+        put(file, memory->regions[i].bytes, memory->regions[i].len);
     if (fclose(file) != 0)
         fail(path);
     free(devices);
@@ -113,7 +125,7 @@ static void *take(FILE *file, size_t len)
 static bool is_ours(const struct head *head)
 {
     return memcmp(head->mark, MARK, sizeof MARK) == 0 && head->machine_len == sizeof(struct machine) &&
-           head->windows_len == WINDOWS * sizeof(struct window) && head->memory_len == MEMORY_LEN;
+           head->windows_len == WINDOWS * sizeof(struct window);
 }
 
 struct saved *saved_read(const char *path)
@@ -144,10 +156,21 @@ struct machine_file saved_disk(const struct saved *saved)
     return (struct machine_file){ saved->disk, saved->head.disk_len };
 }
 
+/* Puts back the bytes of the memory, one region behind the other. */
+static void put_back(const struct saved *saved, uint8_t slot)
+{
+    const struct memory *memory = board_memory(slot);
+    const uint8_t *bytes = saved->memory;
+    if (saved->head.memory_len != memory_len(slot))
+        fail("a saved guest with another memory");
+    for (size_t i = 0; i < memory->count; bytes += memory->regions[i++].len)
+        memcpy(memory->regions[i].bytes, bytes, memory->regions[i].len);
+}
+
 /* The memory, then the devices, then the machine, which sets both interrupt lines. */
 void saved_resume(struct saved *saved, struct machine *machine)
 {
-    memcpy(board_memory(machine->slot), saved->memory, MEMORY_LEN);
+    put_back(saved, machine->slot);
     board_restore(machine->slot, saved->devices, saved->head.devices_len);
     memcpy(watch_windows(machine->slot), saved->windows, saved->head.windows_len);
     machine_resume(machine, saved->machine, saved->script);

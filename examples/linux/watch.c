@@ -16,7 +16,7 @@ enum { REQUEST_IOERR = 1, REQUEST_UNSUPP = 2 };
 struct guest {
     FILE *told;
     size_t count, line; /* the mistakes so far, and the trace's line of the call */
-    struct queue_memory memory;
+    struct memory memory;
     struct window windows[WINDOWS];
 };
 
@@ -27,7 +27,7 @@ static struct guest *watched(const struct watch_call *call)
     return call->slot < SLOTS && call->window < WINDOWS && guests[call->slot].told != NULL ? &guests[call->slot] : NULL;
 }
 
-void watch_guest(uint8_t slot, const struct queue_memory *memory, FILE *told)
+void watch_guest(uint8_t slot, const struct memory *memory, FILE *told)
 {
     if (slot < SLOTS) {
         memset(&guests[slot], 0, sizeof guests[slot]);
@@ -105,7 +105,7 @@ static const char *request_name(uint64_t type)
 /* What a block request that was served ended with. */
 static void look_at_request(struct guest *guest, const struct watch_call *call, const struct chain *chain)
 {
-    struct queue_memory header = { 0, chain->header, chain->header_len };
+    struct memory header = { 1, { { 0, chain->header_len, (uint8_t *)chain->header } } };
     uint64_t status = chain->is_writable ? queue_number(&guest->memory, chain->last, 1) : 0;
     unsigned long long type = queue_number(&header, 0, 4), sector = queue_number(&header, 8, 8);
     if (status == REQUEST_IOERR || status == REQUEST_UNSUPP)

@@ -24,7 +24,7 @@ struct watch_call {
 };
 
 /* Tells the guest's mistakes to a file from now on. */
-void watch_guest(uint8_t slot, const struct queue_memory *memory, FILE *told);
+void watch_guest(uint8_t slot, const struct memory *memory, FILE *told);
 
 /* How many mistakes there were, the untold ones among them: no more than WATCH_TOLD are. */
 enum { WATCH_TOLD = 100 };

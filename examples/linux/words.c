@@ -48,7 +48,8 @@ static const struct option OPTIONS[] = {
     { "cycles", required_argument, NULL, 'n' },  { "hosted", required_argument, NULL, 'h' },
     { "image", required_argument, NULL, 'm' },   { "interactive", no_argument, NULL, 'i' },
     { "keep", required_argument, NULL, 'b' },    { "kernel", required_argument, NULL, 'k' },
-    { "late", no_argument, NULL, 'l' },          { "latency", required_argument, NULL, 'u' },
+    { "large", no_argument, NULL, 'j' },         { "late", no_argument, NULL, 'l' },
+    { "latency", required_argument, NULL, 'u' },
     { "outlet", required_argument, NULL, 'o' },  { "quiet", no_argument, NULL, 'q' },
     { "record", required_argument, NULL, 'r' },  { "save", required_argument, NULL, 'v' },
     { "save-at", required_argument, NULL, 'e' }, { "script", required_argument, NULL, 's' },
@@ -77,6 +78,7 @@ static void take(struct words *words, int option)
     case 'g': words->shown = number(optarg); break;
     case 'h': host(words, optarg); break;
     case 'i': words->interactive = true; break;
+    case 'j': words->large = true; break;
     case 'k': words->kernel = optarg; break;
     case 'l': words->late = true; break;
     case 'm': words->image = optarg; break;

@@ -23,6 +23,7 @@ struct words {
     uint64_t hidden; /* feature bits that no driver is shown */
     uint64_t cycles; /* a guest that isn't off after so many is left */
     bool late, copies, interactive, quiet;
+    bool large; /* each guest has two regions of memory */
     int shown; /* the one guest on the screen, or -1 for all */
     int kept;  /* the guest whose disk goes back to its file, or -1 */
     char **guests;

@@ -5,9 +5,10 @@ use crate::ffi;
 use crate::slot::Slot;
 use std::num::{NonZeroU32, NonZeroU64};
 use std::ptr::{self, NonNull};
+use std::slice;
 
 /// The version of the header that `ffi` declares.
-const HEADER: u32 = 200;
+const HEADER: u32 = 300;
 
 /// The number of an output that finds no room.
 const NO_ROOM: u32 = 15;
@@ -128,7 +129,10 @@ impl Board {
         budget: Budget,
     ) -> Result<Board, CreateError> {
         Board::check_version()?;
-        let slots: Vec<ffi::Slot> = slots.iter().map(Slot::in_c).collect();
+        let slots = slots
+            .iter()
+            .map(Slot::in_c)
+            .collect::<Result<Vec<_>, _>>()?;
         let mut handle = ffi::Handle::empty();
         CreateError::check(unsafe {
             ffi::kalyubos_create(
@@ -148,7 +152,10 @@ impl Board {
     // A board whose disks the host serves.
     pub(crate) fn hosted(slots: &[Slot]) -> Result<Board, CreateError> {
         Board::check_version()?;
-        let slots: Vec<ffi::Slot> = slots.iter().map(Slot::in_c).collect();
+        let slots = slots
+            .iter()
+            .map(Slot::in_c)
+            .collect::<Result<Vec<_>, _>>()?;
         let mut handle = ffi::Handle::empty();
         CreateError::check(unsafe {
             ffi::kalyubos_create_hosted(&mut handle, slots.as_ptr(), slots.len())
@@ -250,37 +257,39 @@ impl Board {
         Pending::told(number, told)
     }
 
-    /// A guest's memory in place: byte 0 is that of address `base`. What is written there is a write of that guest's.
+    /// A guest's memory in place, from an address to the end of the region that holds it; [`Error::BadRange`] where none does.
+    /// What is written there is a write of that guest's.
     ///
     /// ```
     /// # use kalyubos::{Board, Slot};
-    /// let mut board = Board::new(&[Slot::new(0x8000_0000, 0x1000, 0..1)], &[0; 512], 1)?;
-    /// let memory = board.memory(0)?;
-    /// assert_eq!(memory.len(), 0x1000);
+    /// let slot = Slot::new(0x8000_0000, 0x1000, 0..1).region(0x8000_2000, 0x1000);
+    /// let mut board = Board::new(&[slot], &[0; 512], 1)?;
+    /// let memory = board.memory(0, 0x8000_2f00)?;
+    /// assert_eq!(memory.len(), 0x100);
     /// memory[..5].copy_from_slice(b"hello");
     ///
     /// let mut seen = [0; 5];
-    /// board.read_memory(0, 0x8000_0000, &mut seen)?;
+    /// board.read_memory(0, 0x8000_2f00, &mut seen)?;
     /// assert_eq!(&seen, b"hello");
     /// # Ok::<(), Box<dyn std::error::Error>>(())
     /// ```
-    pub fn memory(&mut self, slot: u8) -> Result<&mut [u8], Error> {
-        let bytes = self.memory_parts(slot)?;
+    pub fn memory(&mut self, slot: u8, addr: u64) -> Result<&mut [u8], Error> {
+        let bytes = self.memory_parts(slot, addr)?;
         // SAFETY: the bytes are the slot's memory, which stays until the drop, and while they are lent no call is made.
         Ok(unsafe { &mut *bytes.as_ptr() })
     }
 
-    /// Where a guest's memory lies, to map it for the guest's CPUs. It stays until the board is dropped, and begins at a
-    /// page of 4096 bytes where the heap is the library's own.
+    /// Where a guest's memory lies, from an address to the end of its region, to map it for the guest's CPUs. It stays until the
+    /// board is dropped, and a region begins at a page of 4096 bytes where the heap is the library's own.
     ///
     /// Whoever writes through it keeps two duties: no CPU of the guest runs while a call for it does, or while its
     /// [`memory`](Board::memory) is lent, or a service of it is paused; and none runs on once the board is dropped. CPUs of other guests may run.
-    pub fn memory_parts(&mut self, slot: u8) -> Result<NonNull<[u8]>, Error> {
+    pub fn memory_parts(&mut self, slot: u8, addr: u64) -> Result<NonNull<[u8]>, Error> {
         let (mut bytes, mut len) = (ptr::null_mut(), 0);
         Error::check(unsafe {
-            ffi::kalyubos_memory(&mut self.handle, slot, &mut bytes, &mut len)
+            ffi::kalyubos_memory(&mut self.handle, slot, addr, &mut bytes, &mut len)
         })?;
-        let bytes = NonNull::new(bytes).expect("a memory isn't empty");
+        let bytes = NonNull::new(bytes).expect("a region isn't empty");
         Ok(NonNull::slice_from_raw_parts(bytes, len))
     }
 
@@ -390,11 +399,19 @@ impl Board {
         })
     }
 
-    /// A copy of the whole image as it stands, to save what the guests wrote.
-    pub fn image(&mut self) -> Result<Vec<u8>, Error> {
-        let mut bytes = vec![0; self.image_len()?];
-        self.read_image(0, &mut bytes)?;
-        Ok(bytes)
+    /// The whole image as it stands, to save what the guests wrote.
+    ///
+    /// ```
+    /// # use kalyubos::{Board, Slot};
+    /// let mut board = Board::new(&[Slot::new(0, 0x1000, 0..1)], &[7; 512], 1)?;
+    /// assert_eq!(board.image()?, [7; 512]);
+    /// # Ok::<(), Box<dyn std::error::Error>>(())
+    /// ```
+    pub fn image(&mut self) -> Result<&[u8], Error> {
+        let (mut bytes, mut len) = (NonNull::dangling().as_ptr() as *const u8, 0);
+        Error::check(unsafe { ffi::kalyubos_image(&mut self.handle, &mut bytes, &mut len) })?;
+        // SAFETY: the bytes are the image, which stays until the drop, and while they are lent no call is made.
+        Ok(unsafe { slice::from_raw_parts(bytes, len) })
     }
 }
 

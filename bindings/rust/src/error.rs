@@ -11,7 +11,7 @@ use std::fmt;
 pub enum Error {
     /// The board has no such slot.
     BadSlot,
-    /// Not all of the range lies in the slot's memory, or in the image.
+    /// Not all of the range lies in one region of the slot's memory, or in the image.
     BadRange,
     /// What the console puts out next doesn't fit behind what waits; see [`Board::write`](crate::Board::write). What came
     /// before it is served: this then waits for the slot.
@@ -57,10 +57,14 @@ pub enum CreateError {
     NoSlots,
     /// There are more than sixty-four slots.
     TooManySlots,
-    /// A memory's length is no multiple of 4096 from 4096 to 2^46.
+    /// A region's length is no multiple of 4096 from 4096 on, or the regions of a slot have more than 2^46 bytes.
     BadMemorySize,
-    /// A memory's base is no multiple of 4096, or the memory passes 2^64.
+    /// A region's base is no multiple of 4096, or the region passes 2^64.
     BadMemoryBase,
+    /// A region doesn't begin behind a gap after the one before it.
+    RegionsNotApart,
+    /// A slot has more than eight regions.
+    TooManyRegions,
     /// A slot's sectors pass the image's end.
     ExtentOutside,
     /// Two slots share a sector.
@@ -124,6 +128,7 @@ impl CreateError {
             14 => BadCache,
             16 => BadOutlet,
             17 => BadSize,
+            28 => RegionsNotApart,
             number => Other(number),
         })
     }
@@ -146,7 +151,13 @@ impl CreateError {
         use CreateError::*;
         if !matches!(
             self,
-            BadMemorySize | BadMemoryBase | ExtentOutside | ExtentsOverlap | BadOutlet
+            BadMemorySize
+                | BadMemoryBase
+                | RegionsNotApart
+                | TooManyRegions
+                | ExtentOutside
+                | ExtentsOverlap
+                | BadOutlet
         ) {
             return None;
         }
@@ -203,8 +214,12 @@ impl fmt::Display for CreateError {
             BadImage => "the image is not whole sectors of 512 bytes",
             NoSlots => "a board needs a slot",
             TooManySlots => "a board has sixty-four slots at most",
-            BadMemorySize => "a memory's length is a multiple of 4096, from 4096 to 2^46",
-            BadMemoryBase => "a memory begins at a multiple of 4096 and ends at 2^64 or before",
+            BadMemorySize => {
+                "a region's length is a multiple of 4096, and a guest has 2^46 bytes at most"
+            }
+            BadMemoryBase => "a region begins at a multiple of 4096 and ends at 2^64 or before",
+            RegionsNotApart => "regions stand in ascending order, with a gap between each two",
+            TooManyRegions => "a guest's memory has eight regions at most",
             ExtentOutside => "a slot's sectors pass the image's end",
             ExtentsOverlap => "two slots share a sector",
             BadCache => "a cache keeps 1 to 65536 sectors",

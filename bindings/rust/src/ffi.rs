@@ -1,6 +1,7 @@
 //! The declarations of `kalyubos.h`, which says what each call does and what its caller must keep.
 
 use crate::operation::Run;
+use crate::slot::Region;
 use std::ffi::c_void;
 
 /// A board, or none.
@@ -18,12 +19,14 @@ impl Handle {
     }
 }
 
+/// How many regions the memory of a guest has at most.
+pub const REGIONS: usize = 8;
+
 /// One guest.
 #[repr(C)]
 pub struct Slot {
     pub size: usize,
-    pub base: u64,
-    pub len: u64,
+    pub regions: [Region; REGIONS],
     pub start: u64,
     pub count: u64,
     pub cols: u16,
@@ -104,6 +107,7 @@ unsafe extern "C" {
     pub fn kalyubos_memory(
         board: *mut Handle,
         slot: u8,
+        addr: u64,
         bytes: *mut *mut u8,
         len: *mut usize,
     ) -> u32;
@@ -165,6 +169,7 @@ unsafe extern "C" {
         from_len: usize,
         pending: *mut Pending,
     ) -> u32;
+    pub fn kalyubos_image(board: *mut Handle, bytes: *mut *const u8, len: *mut usize) -> u32;
     pub fn kalyubos_image_len(board: *mut Handle, len: *mut usize) -> u32;
     pub fn kalyubos_read_image(
         board: *mut Handle,

@@ -129,13 +129,13 @@ impl HostedBoard {
     }
 
     /// A guest's memory in place, as [`Board::memory`].
-    pub fn memory(&mut self, slot: u8) -> Result<&mut [u8], Error> {
-        self.board.memory(slot)
+    pub fn memory(&mut self, slot: u8, addr: u64) -> Result<&mut [u8], Error> {
+        self.board.memory(slot, addr)
     }
 
     /// Where a guest's memory lies, as [`Board::memory_parts`].
-    pub fn memory_parts(&mut self, slot: u8) -> Result<NonNull<[u8]>, Error> {
-        self.board.memory_parts(slot)
+    pub fn memory_parts(&mut self, slot: u8, addr: u64) -> Result<NonNull<[u8]>, Error> {
+        self.board.memory_parts(slot, addr)
     }
 
     /// Copies bytes out of a guest's memory, from address `addr` on.

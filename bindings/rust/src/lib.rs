@@ -15,4 +15,4 @@ pub use error::{CreateError, Error, RestoreError};
 pub use hosted::{HostedBoard, Served};
 pub use identity::{Identity, IdentityTooLong};
 pub use operation::{Kind, Operation, Outcome, Run};
-pub use slot::Slot;
+pub use slot::{Region, Slot};

@@ -26,11 +26,11 @@ impl Board {
     /// let mut first = Board::new(&[slot.clone()], &[0; 1024], 1)?;
     /// first.input(0, b"ls")?;
     /// let devices = first.save(0)?;
-    /// let (memory, disk) = (first.memory(0)?.to_vec(), first.image()?);
+    /// let (memory, disk) = (first.memory(0, 0x8000_0000)?.to_vec(), first.image()?.to_vec());
     /// drop(first);
     ///
     /// let mut second = Board::new(&[slot], &disk, 8)?;
-    /// second.memory(0)?.copy_from_slice(&memory);
+    /// second.memory(0, 0x8000_0000)?.copy_from_slice(&memory);
     /// let pending = second.restore(0, &devices)?;
     /// assert_eq!(pending.interrupts.console, 0);
     ///

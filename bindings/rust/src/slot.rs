@@ -1,15 +1,25 @@
 //! A guest, as a board is made of them.
 
+use crate::error::CreateError;
 use crate::ffi;
 use crate::identity::Identity;
 use std::mem;
 use std::ops::Range;
 
+/// `len` bytes of a guest's memory, from address `base` on.
+#[derive(Clone, Copy, Debug, Default, PartialEq, Eq, Hash)]
+#[repr(C)]
+pub struct Region {
+    /// The first address.
+    pub base: u64,
+    /// How many bytes there are.
+    pub len: u64,
+}
+
 /// One guest: its memory, the sectors of the image that its disk shows, and its console.
 #[derive(Clone, Debug, PartialEq, Eq)]
 pub struct Slot {
-    base: u64,
-    len: u64,
+    regions: Vec<Region>,
     sectors: Range<u64>,
     cols: u16,
     rows: u16,
@@ -19,7 +29,7 @@ pub struct Slot {
 }
 
 impl Slot {
-    /// A guest with `len` bytes of memory from `base` on, whose disk shows some sectors of the image, or where the host
+    /// A guest with one region of memory, of `len` bytes from `base` on, whose disk shows some sectors of the image, or where the host
     /// serves it has as many: one that may be written and whose identity is 20 NULs, with a console of 80 by 25 and an outlet of 32 KiB.
     ///
     /// ```
@@ -30,8 +40,7 @@ impl Slot {
     /// ```
     pub fn new(base: u64, len: u64, sectors: Range<u64>) -> Slot {
         Slot {
-            base,
-            len,
+            regions: vec![Region { base, len }],
             sectors,
             cols: 80,
             rows: 25,
@@ -39,6 +48,20 @@ impl Slot {
             read_only: false,
             identity: Identity::default(),
         }
+    }
+
+    /// One more region of memory, behind those that it has and a gap; eight at most. An x86 guest of 6 GiB:
+    ///
+    /// ```
+    /// use kalyubos::{Region, Slot};
+    ///
+    /// const GIB: u64 = 1 << 30;
+    /// let guest = Slot::new(0, 3 * GIB, 0..8).region(4 * GIB, 3 * GIB);
+    /// assert_eq!(guest.get_regions()[1], Region { base: 4 * GIB, len: 3 * GIB });
+    /// ```
+    pub fn region(mut self, base: u64, len: u64) -> Slot {
+        self.regions.push(Region { base, len });
+        self
     }
 
     /// The size of its console.
@@ -66,14 +89,9 @@ impl Slot {
         self
     }
 
-    /// The first address of its memory.
-    pub fn get_base(&self) -> u64 {
-        self.base
-    }
-
-    /// The size of its memory, in bytes.
-    pub fn get_len(&self) -> u64 {
-        self.len
+    /// The regions of its memory.
+    pub fn get_regions(&self) -> &[Region] {
+        &self.regions
     }
 
     /// The sectors of the image that its disk shows.
@@ -101,12 +119,18 @@ impl Slot {
         self.identity
     }
 
-    /// The slot as C has it. A range that ends before it begins shows no sector.
-    pub(crate) fn in_c(&self) -> ffi::Slot {
-        ffi::Slot {
+    /// The slot as C has it. A range that ends before it begins shows no sector. In C a region of no bytes would end the others.
+    pub(crate) fn in_c(&self) -> Result<ffi::Slot, CreateError> {
+        let mut regions = [Region::default(); ffi::REGIONS];
+        let own = regions.get_mut(..self.regions.len());
+        own.ok_or(CreateError::TooManyRegions)?
+            .copy_from_slice(&self.regions);
+        if self.regions.iter().any(|region| region.len == 0) {
+            return Err(CreateError::BadMemorySize);
+        }
+        Ok(ffi::Slot {
             size: mem::size_of::<ffi::Slot>(),
-            base: self.base,
-            len: self.len,
+            regions,
             start: self.sectors.start,
             count: self.sectors.end.saturating_sub(self.sectors.start),
             cols: self.cols,
@@ -114,6 +138,6 @@ impl Slot {
             outlet: self.outlet,
             read_only: self.read_only,
             identity: *self.identity.bytes(),
-        }
+        })
     }
 }

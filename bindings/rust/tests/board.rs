@@ -1,7 +1,8 @@
 //! Each call at its edges: what it answers, and that the next call goes on.
 
 use kalyubos::{
-    Board, Budget, CreateError, Error, Identity, IdentityTooLong, Interrupts, Pending, Slot, Window,
+    Board, Budget, CreateError, Error, Identity, IdentityTooLong, Interrupts, Pending, Region,
+    Slot, Window,
 };
 use std::num::NonZeroU32;
 use std::sync::Mutex;
@@ -51,6 +52,25 @@ fn each_refusal_of_create_is_told() {
     assert_eq!(
         of_one(Slot::new(MEMORY, LEN, 0..2)),
         CreateError::ExtentOutside
+    );
+    assert_eq!(
+        of_one(good.clone().region(MEMORY + LEN, LEN)),
+        CreateError::RegionsNotApart
+    );
+    for len in [0, 1, 1 << 46] {
+        assert_eq!(
+            of_one(good.clone().region(MEMORY + 2 * LEN, len)),
+            CreateError::BadMemorySize
+        );
+    }
+    let mut many = good.clone();
+    for place in 1..8 {
+        many = many.region(MEMORY + 2 * LEN * place, LEN);
+    }
+    assert!(Board::new(&[many.clone()], &[0; 512], 1).is_ok());
+    assert_eq!(
+        of_one(many.region(MEMORY + 16 * LEN, LEN)),
+        CreateError::TooManyRegions
     );
     assert_eq!(of_one(good.outlet((1 << 24) + 1)), CreateError::BadOutlet);
 }
@@ -175,7 +195,11 @@ fn a_slot_tells_what_it_was_made_with() {
         .outlet(5)
         .read_only(true)
         .identity(identity);
-    assert_eq!((slot.get_base(), slot.get_len()), (MEMORY, LEN));
+    let memory = Region {
+        base: MEMORY,
+        len: LEN,
+    };
+    assert_eq!(slot.get_regions(), [memory]);
     assert_eq!(slot.get_sectors(), 1..3);
     assert_eq!((slot.get_console(), slot.get_outlet()), ((132, 43), 5));
     assert_eq!(
@@ -195,7 +219,7 @@ fn there_is_no_slot_1() {
     );
     assert_eq!(board.read_memory(1, MEMORY, &mut byte), Err(Error::BadSlot));
     assert_eq!(board.write_memory(1, MEMORY, &byte), Err(Error::BadSlot));
-    assert_eq!(board.memory(1).unwrap_err(), Error::BadSlot);
+    assert_eq!(board.memory(1, MEMORY).unwrap_err(), Error::BadSlot);
     assert_eq!(board.input(1, b"x"), Err(Error::BadSlot));
     assert_eq!(board.resize(1, 1, 1), Err(Error::BadSlot));
     assert_eq!(board.take_output(1, &mut byte), Err(Error::BadSlot));
@@ -227,29 +251,56 @@ fn memory_has_two_ends() {
 #[test]
 fn memory_in_place_is_the_guests() {
     let mut board = one_guest();
-    let parts = board.memory_parts(0).unwrap();
+    let parts = board.memory_parts(0, MEMORY).unwrap();
     assert_eq!(
         (parts.len(), parts.cast::<u8>().as_ptr() as usize % 4096),
         (LEN as usize, 0)
     );
-    board.memory(0).unwrap()[..2].copy_from_slice(&[1, 2]);
-    board.memory(0).unwrap()[LEN as usize - 1] = 3;
+    board.memory(0, MEMORY).unwrap()[..2].copy_from_slice(&[1, 2]);
+    board.memory(0, MEMORY).unwrap()[LEN as usize - 1] = 3;
     let mut seen = [0; 2];
     board.read_memory(0, MEMORY, &mut seen).unwrap();
     assert_eq!(seen, [1, 2]);
     board.read_memory(0, MEMORY + LEN - 2, &mut seen).unwrap();
     assert_eq!(seen, [0, 3]);
     board.write_memory(0, MEMORY + LEN - 2, &[4, 5]).unwrap();
-    assert_eq!(board.memory(0).unwrap()[LEN as usize - 2..], [4, 5]);
-    assert_eq!(board.memory_parts(0), Ok(parts));
+    assert_eq!(board.memory(0, MEMORY).unwrap()[LEN as usize - 2..], [4, 5]);
+    assert_eq!(board.memory_parts(0, MEMORY), Ok(parts));
 }
 
 #[test]
-fn the_image_is_copied() {
+fn memory_in_two_regions_has_a_gap() {
+    let second = MEMORY + LEN + 0x1000;
+    let slot = Slot::new(MEMORY, LEN, 0..2).region(second, 0x2000);
+    let mut board = Board::new(&[slot], &[7; 1024], 4).expect("a board");
+    for (addr, len) in [(MEMORY, LEN), (second, 0x2000), (second + 0x1fff, 1)] {
+        assert_eq!(
+            board.memory(0, addr).map(|bytes| bytes.len() as u64),
+            Ok(len)
+        );
+    }
+    for addr in [MEMORY - 1, MEMORY + LEN, second - 1, second + 0x2000] {
+        assert_eq!(board.memory(0, addr).unwrap_err(), Error::BadRange);
+    }
+    board.memory(0, second).unwrap()[0] = 9;
+    let mut seen = [0];
+    board.read_memory(0, second, &mut seen).unwrap();
+    assert_eq!(seen, [9]);
+
+    // neither region holds all of a range that crosses a border
+    let mut range = [0; 2];
+    for addr in [MEMORY + LEN - 1, second - 1] {
+        assert_eq!(board.read_memory(0, addr, &mut range), Err(Error::BadRange));
+        assert_eq!(board.write_memory(0, addr, &range), Err(Error::BadRange));
+    }
+}
+
+#[test]
+fn the_image_is_lent_and_copied() {
     let mut board = one_guest();
     let mut last = [0; 1];
     assert_eq!(board.image_len(), Ok(1024));
-    assert_eq!(board.image(), Ok(vec![7; 1024]));
+    assert_eq!(board.image(), Ok(&[7; 1024][..]));
     assert_eq!(board.read_image(1023, &mut last), Ok(()));
     assert_eq!(last, [7]);
     assert_eq!(board.read_image(1024, &mut last), Err(Error::BadRange));
@@ -350,7 +401,7 @@ fn get_id(board: &mut Board, slot: u8) -> [u8; 20] {
     ] {
         assert_eq!(set(offset, value), Pending::default());
     }
-    let memory = board.memory(slot).unwrap();
+    let memory = board.memory(slot, MEMORY).unwrap();
     let mut put = |at: usize, bytes: &[u8]| memory[at..at + bytes.len()].copy_from_slice(bytes);
     // descriptors: 16 bytes of header, 20 of data, the status
     put(

@@ -29,7 +29,7 @@ fn one_read_on_offer() -> HostedBoard {
             .expect("a store");
         assert!(!served.io);
     }
-    let memory = board.memory(0).expect("a memory");
+    let memory = board.memory(0, MEMORY).expect("a memory");
     memory[0x18] = 1; // the sector
     for (place, (addr, len, flags, next)) in [
         (0x10, 16, 1, 1u8),
@@ -77,7 +77,7 @@ fn a_request_waits_for_the_host() {
         board.write(0, Window::Block, STATUS, 4, 0),
         Err(Error::Busy)
     );
-    board.memory(0).expect("a memory")[0x101] = 0xff;
+    board.memory(0, MEMORY).expect("a memory")[0x101] = 0xff;
     assert_eq!(
         board
             .operation(0)
@@ -92,7 +92,7 @@ fn a_request_waits_for_the_host() {
         .expect("a run");
     let served = board.complete(0, Outcome::Done).expect("a completion");
     assert!(!served.io && served.pending.interrupts.block == 1);
-    let memory = board.memory(0).expect("a memory");
+    let memory = board.memory(0, MEMORY).expect("a memory");
     assert_eq!((memory[0], memory[0x6ff], memory[0x302]), (0, 7, 1));
     assert_eq!(board.operation(0), Ok(None));
 }
@@ -108,7 +108,7 @@ fn a_failure_is_an_error_of_the_request() {
     );
     let served = board.complete(0, Outcome::Failed).expect("a completion");
     assert!(!served.io && served.pending.interrupts.block == 1);
-    assert_eq!(board.memory(0).expect("a memory")[0], 1);
+    assert_eq!(board.memory(0, MEMORY).expect("a memory")[0], 1);
 }
 
 #[test]

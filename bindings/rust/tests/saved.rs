@@ -51,7 +51,7 @@ fn a_guest_goes_on_where_it_was_saved() {
             .expect("a store");
     }
     offer(
-        first.memory(0).expect("a memory"),
+        first.memory(0, MEMORY).expect("a memory"),
         &[(0x400, 1, 2, 0), (0x401, 1, 2, 0)],
         1,
     );
@@ -63,12 +63,15 @@ fn a_guest_goes_on_where_it_was_saved() {
     // 61 bytes of description, 96 of a window and 6 more of one whose queue is ready, the count, and one byte of input
     assert_eq!(first.saved_len(0), Ok(61 + 96 + 96 + 6 + 4 + 1));
     let devices = first.save(0).expect("a snapshot");
-    let memory = first.memory(0).expect("a memory").to_vec();
-    let disk = first.image().expect("an image");
+    let memory = first.memory(0, MEMORY).expect("a memory").to_vec();
+    let disk = first.image().expect("an image").to_vec();
     drop(first);
 
     let mut second = Board::new(&[slot()], &disk, 8).expect("a board");
-    second.memory(0).expect("a memory").copy_from_slice(&memory);
+    second
+        .memory(0, MEMORY)
+        .expect("a memory")
+        .copy_from_slice(&memory);
     let pending = second.restore(0, &devices).expect("a restore");
     assert_eq!(
         (pending.interrupts.block, pending.interrupts.console),
@@ -76,12 +79,15 @@ fn a_guest_goes_on_where_it_was_saved() {
     );
     assert_eq!(second.save(0).expect("a snapshot"), devices);
 
-    second.memory(0).expect("a memory")[0x202] = 2;
-    second.memory(0).expect("a memory")[0x206] = 1;
+    second.memory(0, MEMORY).expect("a memory")[0x202] = 2;
+    second.memory(0, MEMORY).expect("a memory")[0x206] = 1;
     let _ = second
         .write(0, Window::Console, NOTIFY, 4, 0)
         .expect("a store");
-    assert_eq!(second.memory(0).expect("a memory")[0x400..0x402], *b"ls");
+    assert_eq!(
+        second.memory(0, MEMORY).expect("a memory")[0x400..0x402],
+        *b"ls"
+    );
 }
 
 #[test]
@@ -137,7 +143,7 @@ fn a_paused_service_is_busy() {
             .expect("a store");
     }
     // two flushes, each a header and a status
-    let memory = board.memory(0).expect("a memory");
+    let memory = board.memory(0, MEMORY).expect("a memory");
     offer(memory, &[(0x400, 16, 1, 1), (0x410, 1, 2, 0)], 1);
     memory[0x400] = 4;
     memory[0x202] = 2;
@@ -160,7 +166,7 @@ fn a_disk_at_work_is_busy() {
             .write(0, Window::Block, offset, 4, value)
             .expect("a store");
     }
-    let memory = board.memory(0).expect("a memory");
+    let memory = board.memory(0, MEMORY).expect("a memory");
     offer(
         memory,
         &[(0x400, 16, 1, 1), (0x600, 512, 3, 2), (0x410, 1, 2, 0)],

@@ -87,8 +87,11 @@ abbrev pub MovesOutput : ℕ → List ℕ → List ℕ → ℕ → AnySession �
 MovesOutput slot into_old into_new taken =
     ByKind (image.MovesOutput slot into_old into_new taken) (hosted.MovesOutput slot into_old into_new taken)
 
-abbrev pub HasMemory : ℕ → ℕ → AnySession → AnySession → Type 0
-HasMemory slot len = ByKind (image.HasMemory slot len) (hosted.HasMemory slot len)
+abbrev pub HasMemory : ℕ → ℕ → ℕ → AnySession → AnySession → Type 0
+HasMemory slot addr len = ByKind (image.HasMemory slot addr len) (hosted.HasMemory slot addr len)
+
+abbrev pub HasNoRegion : ℕ → ℕ → ℕ → AnySession → AnySession → Type 0
+HasNoRegion slot addr code = ByKind (image.HasNoRegion slot addr code) (hosted.HasNoRegion slot addr code)
 
 abbrev pub IsMissing : ℕ → ℕ → AnySession → AnySession → Type 0
 IsMissing slot code = ByKind (image.IsMissing slot code) (hosted.IsMissing slot code)

@@ -2,7 +2,7 @@
 use Rattle.std.specs.Prelude.{ℕ, ◌==◌, ◌||◌, nat_lt, Bool, if◌then◌else◌, Result, Ok, Err}
 use Rattle.chain.specs.declared.budget.Progress.{Progress}
 use Rattle.chain.specs.declared.budget.Progress.TheVariants.{More, Done}
-use Rattle.guest_memory.specs.declared.fault.MemoryFault.TheVariants.{BadSize, BadBase}
+use Rattle.guest_memory.specs.declared.fault.MemoryFault.{MemoryFault}
 use Rattle.guest_memory.specs.declared.fault.MemoryFault.TheVariants as memory
 use Rattle.sector_cache.specs.declared.fault.CacheFault.TheVariants.{BadCapacity}
 use Rattle.sector_cache.specs.declared.fault.CacheFault.TheVariants as cache
@@ -119,13 +119,19 @@ abbrev pub restore_code : Result (Unit {0}) RestoreRefusal → ℕ
 restore_code (Ok done) = 0
 restore_code (Err why) = restore_refusal_code why
 
+-- a guest's memory that was refused
+abbrev pub memory_code : MemoryFault → ℕ
+memory_code memory.NoRegions = 27
+memory_code memory.BadSize = 10
+memory_code memory.BadBase = 11
+memory_code memory.NotApart = 28
+memory_code memory.NoMemory = 5
+
 -- a board that was refused
 abbrev pub board_code : BoardFault → ℕ
 board_code board.NoSlots = 8
 board_code board.TooManySlots = 9
-board_code (board.Memory BadSize) = 10
-board_code (board.Memory BadBase) = 11
-board_code (board.Memory memory.NoMemory) = 5
+board_code (board.Memory why) = memory_code why
 board_code board.ExtentOutside = 12
 board_code board.ExtentsOverlap = 13
 board_code (board.Cache BadCapacity) = 14

@@ -1,6 +1,8 @@
 -- What comes of making a board.
-use Rattle.std.specs.Prelude.{◌≡◌, ℕ, ◌/◌, ◌==◌, if◌then◌else◌, List, Option, Some, None, length, All}
+use Rattle.std.specs.Prelude.{◌≡◌, ℕ, ◌/◌, ◌==◌, nat_lt, if◌then◌else◌, List, Option, Some, None, length, All}
+use Rattle.std.specs.List.{take_while}
 use Rattle.chain.specs.declared.budget.Budget.{Budget}
+use Rattle.guest_memory.specs.declared.spec.RegionSpec.{RegionSpec}
 use Rattle.board.specs.Fault.{AreGoodHosted, IsAccepted}
 use Rattle.session.specs.declared.fault.SessionFault.{SessionFault}
 use Rattle.session.specs.declared.guest.GuestSpec.{GuestSpec}
@@ -12,12 +14,15 @@ use Rattle.board_ffi.specs.declared.create.Slot.{Slot}
 use Rattle.board_ffi.specs.Codes.{fault_code}
 use Rattle.board_ffi.specs.Handle.{Held}
 
+-- the regions that C describes: those before the first that has no bytes
+abbrev pub regions_of : List RegionSpec → List RegionSpec
+regions_of = take_while (λ region. nat_lt 0 region.len)
+
 -- the guest of a slot that C describes
 abbrev pub guest_of : Slot → GuestSpec
 guest_of slot = record {
   slot = record {
-    base = slot.base;
-    len = slot.len;
+    regions = regions_of slot.regions;
     extent = record { start = slot.start; count = slot.count };
     read_only = slot.read_only;
     cols = slot.cols;
@@ -29,7 +34,7 @@ guest_of slot = record {
 
 -- how many bytes a slot has that this version describes
 abbrev pub slot_size : ℕ
-slot_size = 72
+slot_size = 184
 
 -- each slot says that it has so many
 abbrev pub AreSized : List Slot → Type 0

@@ -3,7 +3,7 @@ use Rattle.std.specs.Prelude.{◌≡◌, ℕ, ◌==◌, ◌||◌, ◌<◌, ◌�
 use Rattle.std.specs.List.{slice_get}
 use Rattle.std.specs.Option.{option_map}
 use Rattle.std.specs.Global.{Global}
-use Rattle.guest_memory.specs.Memory.{first_region}
+use Rattle.guest_memory.specs.Memory.{Inside}
 use Rattle.chain.specs.declared.segment.Segment.{Segment}
 use Rattle.block_device.specs.declared.operation.Operation as disk
 use Rattle.block_device.specs.declared.operation.OperationKind.{OperationKind}
@@ -28,6 +28,7 @@ use Rattle.session.specs.HostedCourse.{IsHostedTaken}
 use Rattle.session.specs.Session.{waiting_at}
 use Rattle.board_ffi.specs.declared.operation.Operation.{Operation}
 use Rattle.board_ffi.specs.declared.operation.Run.{Run}
+use Rattle.board_ffi.specs.OfImage.{HasRoom}
 use Rattle.board_ffi.specs.Codes.{asking_code, code_at, hosted_reply_of, is_hosted, is_saving, restore_code}
 
 -- The board takes a call for this event of a slot, and its reply is the one that the number stands for: where the call is
@@ -71,9 +72,15 @@ pub record MovesOutput (slot : ℕ) (into_old into_new : List ℕ) (taken : ℕ)
   pub moved : into_new ≡ take taken (waiting_at slot old.outputs).bytes ++ drop taken into_old
   pub left : IsHostedTaken old slot (length into_old) (take taken (waiting_at slot old.outputs).bytes) new
 
--- there is such a slot, its memory's first region has so many bytes, and nothing changes
-pub record HasMemory (slot len : ℕ) (old new : HostedSessionState) : Type 0 where
-  pub there : IsSomeAnd (slice_get old.slots slot) (λ found. len ≡ length (first_region found.slot.memory))
+-- There is such a slot. A region of its memory holds the address, and has so many bytes from there on. Nothing changes.
+pub record HasMemory (slot addr len : ℕ) (old new : HostedSessionState) : Type 0 where
+  pub there : IsSomeAnd (slice_get old.slots slot) (λ found. HasRoom found.slot.memory addr len)
+  pub kept : new ≡ old
+
+-- There is such a slot. No region of its memory holds the address. Nothing changes.
+pub record HasNoRegion (slot addr code : ℕ) (old new : HostedSessionState) : Type 0 where
+  pub there : IsSomeAnd (slice_get old.slots slot) (λ found. ¬ Inside found.slot.memory addr 1)
+  pub bad_range : code ≡ 4
   pub kept : new ≡ old
 
 -- there is no such slot, and nothing changes

@@ -4,7 +4,7 @@ use Rattle.chain.specs.declared.budget.Progress.{Progress}
 use Rattle.std.specs.List.{slice_get}
 use Rattle.std.specs.Option.{option_map}
 use Rattle.std.specs.Global.{Global}
-use Rattle.guest_memory.specs.Memory.{first_region}
+use Rattle.guest_memory.specs.Memory.{Inside, Memory}
 use Rattle.board.specs.declared.event.EventKind.{EventKind}
 use Rattle.board.specs.declared.reply.Reply.{Reply}
 use Rattle.board.specs.declared.saved.RestoreFault.{RestoreFault}
@@ -44,10 +44,24 @@ pub record MovesOutput (slot : ℕ) (into_old into_new : List ℕ) (taken : ℕ)
   pub moved : into_new ≡ take taken (output_of slot old) ++ drop taken into_old
   pub left : IsTaken old slot (length into_old) (take taken (output_of slot old)) new
 
--- there is such a slot, of which nothing is paused, its memory's first region has so many bytes, and nothing changes
-pub record HasMemory (slot len : ℕ) (old new : SessionState) : Type 0 where
+-- a region holds the address, and has so many bytes from there on
+pub record HasRoom (m : Memory) (addr len : ℕ) : Type 0 where
+  pub holds : Inside m addr 1
+  pub inside : Inside m addr len
+  pub longest : (n : ℕ) → Inside m addr n → n ≤ len
+
+-- There is such a slot, of which nothing is paused. A region of its memory holds the address, and has so many bytes from there
+-- on. Nothing changes.
+pub record HasMemory (slot addr len : ℕ) (old new : SessionState) : Type 0 where
   pub idle : IsIdle slot old
-  pub there : IsSomeAnd (slice_get old.slots slot) (λ found. len ≡ length (first_region found.memory))
+  pub there : IsSomeAnd (slice_get old.slots slot) (λ found. HasRoom found.memory addr len)
+  pub kept : new ≡ old
+
+-- There is such a slot, of which nothing is paused. No region of its memory holds the address. Nothing changes.
+pub record HasNoRegion (slot addr code : ℕ) (old new : SessionState) : Type 0 where
+  pub idle : IsIdle slot old
+  pub there : IsSomeAnd (slice_get old.slots slot) (λ found. ¬ Inside found.memory addr 1)
+  pub bad_range : code ≡ 4
   pub kept : new ≡ old
 
 -- there is no such slot, and nothing changes

@@ -5,6 +5,6 @@ use Rattle.std.specs.Prelude.{ℕ, ◌+◌, ◌*◌}
 abbrev pub version_number : ℕ → ℕ → ℕ → ℕ
 version_number major minor patch = 10000 * major + 100 * minor + patch
 
--- 0.2.0
+-- 0.3.0
 abbrev pub header_version : ℕ
-header_version = version_number 0 2 0
+header_version = version_number 0 3 0

@@ -3,7 +3,7 @@
 ghost use Rattle.std.specs.Prelude.{◌≡◌, ◌≢◌, ◌↔◌, IfOk, IsErr, IsErrOf, IsOk, IsTrue, Ok, OnErr};
 ghost use Rattle.board.specs.declared.saved.RestoreRefusal.{RestoreRefusal};
 ghost use Rattle.board.specs.declared.saved.SaveRefusal.{SaveRefusal};
-ghost use Rattle.board_ffi.specs.Codes.{asking_code, board_code, code_by, fault_code, hosted_code, is_saving, progress_code, refusal_code, restore_code, restore_fault_code, save_code, went_on_code};
+ghost use Rattle.board_ffi.specs.Codes.{asking_code, board_code, code_by, fault_code, hosted_code, is_saving, memory_code, progress_code, refusal_code, restore_code, restore_fault_code, save_code, went_on_code};
 
 use session::{
     BoardFault, CacheFault, HostedProgress, MemoryFault, Progress, Refusal, RestoreFault,
@@ -63,6 +63,10 @@ pub(crate) const OTHER_SLOT: u32 = 24;
 pub(crate) const BAD_STATE: u32 = 25;
 
 pub(crate) const SHORT_BUFFER: u32 = 26;
+
+pub(crate) const NO_REGIONS: u32 = 27;
+
+pub(crate) const REGIONS_NOT_APART: u32 = 28;
 
 /// The number of a call that was refused.
 pub(crate) fn of_refusal(why: Refusal) -> u32
@@ -196,6 +200,19 @@ pub(crate) fn of_fault(why: SessionFault) -> u32
     }
 }
 
+// The number of a guest's memory that was refused.
+fn of_memory_fault(why: MemoryFault) -> u32
+    ensures { result ≡ memory_code why }
+{
+    match why {
+        MemoryFault::NoRegions => NO_REGIONS,
+        MemoryFault::BadSize => BAD_MEMORY_SIZE,
+        MemoryFault::BadBase => BAD_MEMORY_BASE,
+        MemoryFault::NotApart => REGIONS_NOT_APART,
+        MemoryFault::NoMemory => NO_MEMORY,
+    }
+}
+
 // The number of a board that was refused.
 fn of_board_fault(why: BoardFault) -> u32
     ensures { result ≡ board_code why }
@@ -203,8 +220,7 @@ fn of_board_fault(why: BoardFault) -> u32
     match why {
         BoardFault::NoSlots => NO_SLOTS,
         BoardFault::TooManySlots => TOO_MANY_SLOTS,
-        BoardFault::Memory(MemoryFault::BadSize) => BAD_MEMORY_SIZE,
-        BoardFault::Memory(MemoryFault::BadBase) => BAD_MEMORY_BASE,
+        BoardFault::Memory(why) => of_memory_fault(why),
         BoardFault::ExtentOutside => EXTENT_OUTSIDE,
         BoardFault::ExtentsOverlap => EXTENTS_OVERLAP,
         BoardFault::Cache(CacheFault::BadCapacity) => BAD_CACHE,

@@ -14,6 +14,8 @@ ghost use Rattle.board_ffi.specs.Create.{AreSized, IsMade, IsNotMade, budget_of,
 use crate::any_session::AnySession;
 use crate::codes::{BAD_SIZE, DONE, HAS_BOARD, NO_BOARD, NO_MEMORY, of_fault};
 use crate::handle::Handle;
+use crate::region::regions;
+use guest_memory::{MOST_REGIONS, RegionSpec};
 use sector_cache::are_whole_sectors;
 use session::{Budget, Extent, GuestSpec, Session, SessionFault, SlotSpec};
 use std::alloc::{AllocError, Global};
@@ -30,8 +32,8 @@ const SLOT_SIZE: usize = size_of::<Slot>();
 pub struct Slot {
     /// How many bytes the host's slot has: later versions have more.
     pub size: usize,
-    pub base: u64,
-    pub len: u64,
+    /// The regions of its memory: the first that has no bytes, and those behind it, are none.
+    pub regions: [RegionSpec; MOST_REGIONS],
     pub start: u64,
     pub count: u64,
     pub cols: u16,
@@ -47,8 +49,7 @@ impl Slot {
         ensures { result ≡ guest_of self.now }
     {
         let slot = SlotSpec {
-            base: self.base,
-            len: self.len,
+            regions: regions(&self.regions),
             extent: Extent {
                 start: self.start,
                 count: self.count,

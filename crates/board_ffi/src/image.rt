@@ -7,6 +7,25 @@ use crate::codes::NO_BOARD;
 use crate::handle::Handle;
 use std::alloc::Global;
 
+/// Lends the image in place: where its first byte lies, and how many there are.
+#[unsafe(no_mangle)]
+pub extern "C" fn kalyubos_image(
+    alloc: Global,
+    board: &mut Handle,
+    bytes: &mut *const u8,
+    len: &mut usize,
+) -> u32
+    ensures told { Calls board.old.session board.new.session result (HasImage result len.new) }
+    ensures kept { result ≢ 0 → (bytes.new ≡ bytes.old) × (len.new ≡ len.old) }
+{
+    let Some(session) = board.take(alloc) else {
+        return NO_BOARD;
+    };
+    let answer = session.lend_image(bytes, len);
+    board.put(session);
+    answer
+}
+
 /// The image's length in bytes.
 #[unsafe(no_mangle)]
 pub extern "C" fn kalyubos_image_len(alloc: Global, board: &mut Handle, len: &mut usize) -> u32

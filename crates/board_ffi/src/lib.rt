@@ -2,9 +2,9 @@
 //!
 //! Each export takes a handle, does what the session behind it does, and answers a number. `handle` is what
 //! C holds, `any_session` the session of either kind, `codes` the numbers, `pending` what waits once a call is answered,
-//! `operation` what a disk is asked for. `create` makes a board over an image and destroys any, `create_hosted` makes one
-//! whose disks the host serves; `registers`, `disk`, `memory`, `console`, `saved` and `image` have the calls on one. `version` is
-//! the header's number.
+//! `operation` what a disk is asked for. `region` describes a guest's memory. `create` makes a board over an image and destroys
+//! any, `create_hosted` makes one whose disks the host serves; `registers`, `disk`, `memory`, `console`, `saved` and `image`
+//! have the calls on one. `version` is the header's number.
 #![tactic(auto)]
 
 mod any_session;
@@ -18,6 +18,7 @@ mod image;
 mod memory;
 mod operation;
 mod pending;
+mod region;
 mod registers;
 mod saved;
 mod version;

@@ -3,7 +3,7 @@
 ghost use Rattle.std.specs.Prelude.{◌≡◌, ◌≢◌, length};
 ghost use Rattle.board.specs.declared.event.EventKind.{EventKind};
 ghost use Rattle.board.specs.declared.reply.Reply.{Reply};
-ghost use Rattle.board_ffi.specs.Calls.{Calls, HasMemory, IsBusy, IsMissing, Takes};
+ghost use Rattle.board_ffi.specs.Calls.{Calls, HasMemory, HasNoRegion, IsBusy, IsMissing, Takes};
 
 use crate::codes::NO_BOARD;
 use crate::handle::Handle;
@@ -50,26 +50,29 @@ pub extern "C" fn kalyubos_write_memory(
     answer
 }
 
-/// Lends a guest's memory in place: where its first byte lies, and how many bytes there are.
+/// Lends a guest's memory in place: where the byte of address `addr` lies, and how many bytes there are from it to the end of
+/// its region.
 #[unsafe(no_mangle)]
 pub extern "C" fn kalyubos_memory(
     alloc: Global,
     board: &mut Handle,
     slot: u8,
+    addr: u64,
     bytes: &mut *mut u8,
     len: &mut usize,
 ) -> u32
     ensures lent { result ≡ 0 → Calls board.old.session board.new.session result
-        (HasMemory slot len.new) }
-    ensures missing { result ≢ 0 → result ≢ 19 → Calls board.old.session board.new.session result
+        (HasMemory slot addr len.new) }
+    ensures missing { result ≢ 0 → result ≢ 4 → result ≢ 19 → Calls board.old.session board.new.session result
         (IsMissing slot result) }
+    ensures outside { result ≡ 4 → Calls board.old.session board.new.session result (HasNoRegion slot addr result) }
     ensures busy { result ≡ 19 → Calls board.old.session board.new.session result (IsBusy slot result) }
     ensures kept { result ≢ 0 → (bytes.new ≡ bytes.old) × (len.new ≡ len.old) }
 {
     let Some(session) = board.take(alloc) else {
         return NO_BOARD;
     };
-    let answer = session.lend(slot, bytes, len);
+    let answer = session.lend(slot, addr, bytes, len);
     board.put(session);
     answer
 }

@@ -1,7 +1,7 @@
 //! What a program says of itself to who asks for it.
 
 /// The version of the programs, which is that of the library.
-pub(crate) const VERSION: &str = "0.2.0";
+pub(crate) const VERSION: &str = "0.3.0";
 
 /// What a program says of itself.
 #[derive(Clone, Copy)]

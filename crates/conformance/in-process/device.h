@@ -13,15 +13,42 @@
 #include <stddef.h>
 #include <stdint.h>
 
+/* How many regions a guest's memory has at most, and one of them: `len` bytes from address `base` on. */
+enum { MOST_REGIONS = 8 };
+struct region {
+    uint64_t base, len;
+};
+
 /* One guest: its memory, the sectors of the image that its disk shows, its console's size, and what its disk answers to
  * GET_ID. */
 struct guest {
-    uint64_t base, len;
+    struct region regions[MOST_REGIONS];
+    size_t regions_len;
     uint64_t start, count;
     bool read_only;
     uint16_t cols, rows;
     uint8_t identity[20];
 };
+
+/* How many bytes the regions of a guest have together. */
+static inline uint64_t memory_size(const struct guest *guest)
+{
+    uint64_t size = 0;
+    for (size_t i = 0; i < guest->regions_len; i++)
+        size += guest->regions[i].len;
+    return size;
+}
+
+/* Whether one region of a guest holds all of `len` bytes from `address` on. */
+static inline bool is_in_memory(const struct guest *guest, uint64_t address, uint64_t len)
+{
+    for (size_t i = 0; i < guest->regions_len; i++) {
+        const struct region *region = &guest->regions[i];
+        if (address >= region->base && len <= region->len && address - region->base <= region->len - len)
+            return true;
+    }
+    return false;
+}
 
 /* All guests, and the image behind their disks: whole sectors of 512 bytes, the device's to read and to write. */
 struct setup {

@@ -135,7 +135,7 @@ static void check(unsigned guest, const struct asked *asked)
         const struct kalyubos_run *run = &asked->runs[i];
         need(run->len > 0, "an empty run");
         need(is_of_disk ? is_inside(run->at, run->len, 0, its->count * SECTOR)
-                        : is_inside(run->at, run->len, its->base, its->len), "a run lies outside");
+                        : is_in_memory(its, run->at, run->len), "a run lies outside");
         len += is_of_disk ? 0 : run->len;
     }
     need(operation->len == len && is_inside(operation->start, len, 0, its->count * SECTOR), "the bytes lie outside the disk");
@@ -144,16 +144,15 @@ static void check(unsigned guest, const struct asked *asked)
 /* Copies the bytes of a sector between a buffer and the runs, from their byte `from` on. */
 static void move_sector(unsigned guest, const struct asked *asked, uint64_t from, uint8_t *bytes, bool put)
 {
-    uint8_t *memory;
+    uint8_t *at;
     size_t len, done = 0;
-    need(kalyubos_memory(board, (uint8_t)guest, &memory, &len) == KALYUBOS_DONE, "no memory of the guest");
     for (const struct kalyubos_run *run = asked->runs; done < SECTOR; run++) {
         if (from >= run->len) {
             from -= run->len;
             continue;
         }
         size_t part = run->len - from < SECTOR - done ? (size_t)(run->len - from) : SECTOR - done;
-        uint8_t *at = memory + (run->at - setup.guests[guest].base) + from;
+        need(kalyubos_memory(board, (uint8_t)guest, run->at + from, &at, &len) == KALYUBOS_DONE, "no memory of the guest");
         memcpy(put ? at : bytes + done, put ? bytes + done : at, part);
         done += part;
         from = 0;

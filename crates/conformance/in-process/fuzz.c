@@ -123,7 +123,7 @@ int LLVMFuzzerTestOneInput(const uint8_t *bytes, size_t len)
     if (!read_setup((const char *)bytes, len, &trace) || (trace.hosted && !device.hosting))
         return -1;
     for (size_t i = 0; i < trace.guests_len; i++)
-        if (trace.guests[i].len > MOST_MEMORY)
+        if (memory_size(&trace.guests[i]) > MOST_MEMORY)
             return -1;
     if (!begin(&kalyubos, &trace, images[0]))
         return -1;

@@ -45,6 +45,8 @@ static const char *name_of(uint32_t answer)
     case KALYUBOS_TOO_MANY_SLOTS: return "TooManySlots";
     case KALYUBOS_BAD_MEMORY_SIZE: return "BadSize";
     case KALYUBOS_BAD_MEMORY_BASE: return "BadBase";
+    case KALYUBOS_NO_REGIONS: return "NoRegions";
+    case KALYUBOS_REGIONS_NOT_APART: return "NotApart";
     case KALYUBOS_EXTENT_OUTSIDE: return "ExtentOutside";
     case KALYUBOS_EXTENTS_OVERLAP: return "ExtentsOverlap";
     case KALYUBOS_BAD_CACHE: return "BadCapacity";
@@ -91,9 +93,10 @@ static const char *make(const struct setup *setup)
     for (size_t i = 0; i < setup->guests_len; i++) {
         const struct guest *guest = &setup->guests[i];
         slots[i] = (struct kalyubos_slot){
-            .size = sizeof *slots, .base = guest->base, .len = guest->len, .start = guest->start, .count = guest->count,
-            .cols = guest->cols, .rows = guest->rows, .outlet = MOST_WAITING, .read_only = guest->read_only,
+            .size = sizeof *slots, .start = guest->start, .count = guest->count, .cols = guest->cols, .rows = guest->rows, .outlet = MOST_WAITING, .read_only = guest->read_only,
         };
+        for (size_t j = 0; j < guest->regions_len; j++)
+            slots[i].regions[j] = (struct kalyubos_region){guest->regions[j].base, guest->regions[j].len};
         memcpy(slots[i].identity, guest->identity, sizeof slots[i].identity);
     }
     image = setup->image;

@@ -105,17 +105,41 @@ static bool read_identity(const struct field *field, struct guest *guest)
     return true;
 }
 
+/* The fields of a slot's line behind its regions. */
 static bool read_guest(const struct field *fields, bool named, struct guest *guest)
 {
     uint64_t cols, rows;
-    bool good = number(fields[1], UINT64_MAX, &guest->base) && number(fields[2], UINT64_MAX, &guest->len) &&
-                number(fields[3], UINT64_MAX, &guest->start) && number(fields[4], UINT64_MAX, &guest->count) &&
-                (is(fields[5], "rw") || is(fields[5], "ro")) && number(fields[6], 0xffff, &cols) &&
-                number(fields[7], 0xffff, &rows) && read_identity(named ? &fields[8] : NULL, guest);
-    guest->read_only = is(fields[5], "ro");
+    bool good = number(fields[0], UINT64_MAX, &guest->start) && number(fields[1], UINT64_MAX, &guest->count) &&
+                (is(fields[2], "rw") || is(fields[2], "ro")) && number(fields[3], 0xffff, &cols) &&
+                number(fields[4], 0xffff, &rows) && read_identity(named ? &fields[5] : NULL, guest);
+    guest->read_only = is(fields[2], "ro");
     guest->cols = good ? (uint16_t)cols : 0;
     guest->rows = good ? (uint16_t)rows : 0;
     return good;
+}
+
+/* The one region of versions 1 and 2, of two fields. */
+static bool read_region(const struct field *fields, struct guest *guest)
+{
+    guest->regions_len = 1;
+    return number(fields[0], UINT64_MAX, &guest->regions[0].base) && number(fields[1], UINT64_MAX, &guest->regions[0].len);
+}
+
+/* The regions of version 3, one field: BASE+LEN of each, and a comma between two. */
+static bool read_regions(struct field field, struct guest *guest)
+{
+    for (const char *at = field.at, *end = field.at + field.len; guest->regions_len < MOST_REGIONS; at++) {
+        struct region *region = &guest->regions[guest->regions_len++];
+        const char *comma = memchr(at, ',', (size_t)(end - at)), *last = comma ? comma : end;
+        const char *plus = memchr(at, '+', (size_t)(last - at));
+        if (!plus || !number((struct field){at, (size_t)(plus - at)}, UINT64_MAX, &region->base) ||
+            !number((struct field){plus + 1, (size_t)(last - plus - 1)}, UINT64_MAX, &region->len))
+            return false;
+        if (!comma)
+            return true;
+        at = comma;
+    }
+    return false;
 }
 
 /* Line 2: the cache's capacity, or in version 3 that the host serves the disks. */
@@ -145,8 +169,10 @@ bool read_setup(const char *text, size_t len, struct trace *trace)
     for (const char *at = trace->events; next_line(&at, trace->end, &line); trace->events = at) {
         if (line.len < 5 || memcmp(line.at, "slot ", 5))
             return true;
-        if (trace->guests_len == most || split(line.at, line.len, fields, 9) != (named ? 9 : 8) ||
-            !read_guest(fields, named, &trace->guests[trace->guests_len++]))
+        struct guest *guest = &trace->guests[trace->guests_len];
+        if (trace->guests_len++ == most || split(line.at, line.len, fields, 9) != (named && !third ? 9 : 8) ||
+            !(third ? read_regions(fields[1], guest) : read_region(&fields[1], guest)) ||
+            !read_guest(&fields[third ? 2 : 3], named, guest))
             return false;
     }
     return true;
@@ -270,7 +296,7 @@ static void append_bytes(struct text *text, const uint8_t *bytes, size_t len)
 static void look(const struct device *device, const struct trace *trace, const struct event *event,
                  struct text *record)
 {
-    uint8_t *into = event->len <= trace->guests[event->guest].len ? malloc(event->len + 1) : NULL;
+    uint8_t *into = event->len <= memory_size(&trace->guests[event->guest]) ? malloc(event->len + 1) : NULL;
     if (into && device->memory(event->guest, event->address, into, event->len, false)) {
         append_word(record, "b:");
         append_bytes(record, into, event->len);

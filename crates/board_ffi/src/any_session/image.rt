@@ -21,6 +21,24 @@ impl AnySession {
         }
     }
 
+    /// Tells where the image's first byte lies, and how many there are.
+    pub(crate) fn lend_image(&self, bytes: &mut *const u8, len: &mut usize) -> u32
+        ensures told { HasImage result len.new self.now self.now }
+        ensures kept { result ≢ 0 → (bytes.new ≡ bytes.old) × (len.new ≡ len.old) }
+    {
+        match self {
+            AnySession::OfImage(session) => {
+                let image = session.image();
+                if let Some(first) = image.first() {
+                    *bytes = std::ptr::from_ref(first);
+                }
+                *len = image.len();
+                DONE
+            }
+            AnySession::Hosted(_) => NO_IMAGE,
+        }
+    }
+
     /// Copies bytes out of the image, from byte `start` on.
     pub(crate) fn read_image(&self, start: usize, into: &mut [u8]) -> u32
         ensures copied { result ≡ 0 → CopiesImage start (length into.old) into.new self.now self.now }

@@ -1,13 +1,14 @@
 //! A guest's memory between its accesses.
 
 ghost use Rattle.std.specs.Prelude.{◌≡◌, ◌≢◌, length};
-ghost use Rattle.guest_memory.specs.Memory.{first_region};
+ghost use Rattle.guest_memory.specs.Memory.{Inside};
 ghost use Rattle.board.specs.declared.event.EventKind.{EventKind};
 ghost use Rattle.board.specs.declared.reply.Reply.{Reply};
-ghost use Rattle.board_ffi.specs.Calls.{HasMemory, IsBusy, IsMissing, Takes};
+ghost use Rattle.board_ffi.specs.OfImage.{HasRoom};
+ghost use Rattle.board_ffi.specs.Calls.{HasMemory, HasNoRegion, IsBusy, IsMissing, Takes};
 
 use crate::any_session::AnySession;
-use crate::codes::{DONE, of_done, of_refusal};
+use crate::codes::{BAD_RANGE, DONE, of_done, of_refusal};
 use session::GuestMemory;
 use std::ptr::NonNull;
 
@@ -33,32 +34,36 @@ impl AnySession {
         }
     }
 
-    /// Tells where the first region of a guest's memory lies, and how many bytes it has.
-    pub(crate) fn lend(&self, slot: u8, bytes: &mut *mut u8, len: &mut usize) -> u32
-        ensures lent { result ≡ 0 → HasMemory slot len.new self.now self.now }
-        ensures missing { result ≢ 0 → result ≢ 19 → IsMissing slot result self.now self.now }
+    /// Tells where the byte of an address lies, and how many bytes there are from it to the end of its region.
+    pub(crate) fn lend(&self, slot: u8, addr: u64, bytes: &mut *mut u8, len: &mut usize) -> u32
+        ensures lent { result ≡ 0 → HasMemory slot addr len.new self.now self.now }
+        ensures missing { result ≢ 0 → result ≢ 4 → result ≢ 19 → IsMissing slot result self.now self.now }
+        ensures outside { result ≡ 4 → HasNoRegion slot addr result self.now self.now }
         ensures busy { result ≡ 19 → IsBusy slot result self.now self.now }
         ensures kept { result ≢ 0 → (bytes.new ≡ bytes.old) × (len.new ≡ len.old) }
     {
         match self {
             AnySession::OfImage(session) => match session.memory(slot) {
-                Ok(memory) => place(memory, bytes, len),
+                Ok(memory) => place(memory, addr, bytes, len),
                 Err(why) => of_refusal(why),
             },
             AnySession::Hosted(session) => match session.memory(slot) {
-                Ok(memory) => place(memory, bytes, len),
+                Ok(memory) => place(memory, addr, bytes, len),
                 Err(why) => of_refusal(why),
             },
         }
     }
 }
 
-// Tells where the first region of a memory lies.
-fn place(memory: &GuestMemory, bytes: &mut *mut u8, len: &mut usize) -> u32
-    ensures done { result ≡ 0 }
-    ensures len { len.new ≡ length (first_region memory.now) }
+// Tells where the byte of an address of a memory lies.
+fn place(memory: &GuestMemory, addr: u64, bytes: &mut *mut u8, len: &mut usize) -> u32
+    ensures done { result ≡ 0 → HasRoom memory.now addr len.new }
+    ensures outside { result ≢ 0 → (result ≡ 4) × ¬ Inside memory.now addr 1 }
+    ensures kept { result ≢ 0 → (bytes.new ≡ bytes.old) × (len.new ≡ len.old) }
 {
-    let lent = memory.first_region();
+    let Some(lent) = memory.region(addr) else {
+        return BAD_RANGE;
+    };
     if let Some(first) = lent.first() {
         *bytes = NonNull::from_ref(first).as_ptr();
     }

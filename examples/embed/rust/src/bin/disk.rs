@@ -200,7 +200,7 @@ impl Guest {
             descriptor(STATUS, 1, WRITE, 0),
         ];
         self.offered += 1;
-        let memory = self.board.memory(0)?;
+        let memory = self.board.memory(0, MEMORY)?;
         memory[HEADER..HEADER + 8].copy_from_slice(&u64::from(what).to_le_bytes());
         memory[HEADER + 8..HEADER + 16].copy_from_slice(&sector.to_le_bytes());
         memory[TABLE..TABLE + 48].copy_from_slice(&table.concat());
@@ -215,7 +215,7 @@ impl Guest {
             self.wait_for_disk()?;
         }
         self.store(Window::Block, 0x64, self.line)?;
-        match self.board.memory(0)?[STATUS] {
+        match self.board.memory(0, MEMORY)?[STATUS] {
             0 => Ok(()),
             status => Err(format!("a request has status {status}").into()),
         }
@@ -235,7 +235,7 @@ impl Guest {
             self.store(Window::Console, 0x108, letter.into())?;
         }
         let device = self.board.read(0, Window::Block, 0x008, 4)?;
-        let status = self.board.memory(0)?[STATUS];
+        let status = self.board.memory(0, MEMORY)?[STATUS];
         println!(
             "guest 0 runs on: device {device}, line {}, status {status:02x}",
             self.line
@@ -243,7 +243,7 @@ impl Guest {
         both.wait(); // guest 1 begins,
         both.wait(); // and has ended
         self.wait()?;
-        let data = &mut self.board.memory(0)?[DATA..DATA + len];
+        let data = &mut self.board.memory(0, MEMORY)?[DATA..DATA + len];
         let alike = data.iter().all(|byte| *byte == data[0]);
         println!(
             "guest 0 reads {:02x}, {}",
@@ -261,7 +261,7 @@ impl Guest {
     fn works(&mut self, both: &Barrier) -> Result<()> {
         both.wait();
         self.bring_up(1 << 9 | 1 << 14)?; // FLUSH, WRITE_ZEROES
-        let memory = self.board.memory(0)?;
+        let memory = self.board.memory(0, MEMORY)?;
         memory[DATA..DATA + 8 * SECTOR_LEN].fill(b'B');
         memory[ZEROED..ZEROED + 8].copy_from_slice(&3u64.to_le_bytes());
         memory[ZEROED + 8..ZEROED + 16].copy_from_slice(&2u64.to_le_bytes());
@@ -269,7 +269,7 @@ impl Guest {
         self.transfer(WRITE_ZEROES, 0, ZEROED, 16)?;
         self.transfer(FLUSH, 0, 0, 0)?;
         self.transfer(IN, 2, DATA, 4 * SECTOR_LEN as u32)?;
-        let memory = self.board.memory(0)?;
+        let memory = self.board.memory(0, MEMORY)?;
         for place in 0..4 {
             println!(
                 "guest 1 finds {:02x} in sector {}",
