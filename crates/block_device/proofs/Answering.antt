@@ -167,13 +167,6 @@ used_whole len w e = grind (arith, nat_tests)
 used_part : (len w : ℕ) → len + 1 < w → used_by len w ≡ len
 used_part len w h = grind (arith, nat_tests)
 
-pub used_fits : (m : Memory) (buffers : List Buffer) (len : ℕ) → Good m buffers → len < length (writable_of buffers) → used_by len (length (writable_of buffers)) < 2 ^ 32
-used_fits m buffers len good h =
-    elim (cases_lt (len + 1) (length (writable_of buffers))) [
-      | inl some ↦ let e = used_part len (length (writable_of buffers)) some in omega (arith, e, h, writable_few m buffers good)
-      | inr rest ↦ let e = used_whole len (length (writable_of buffers)) (omega (arith, rest, h)) in omega (arith, e, writable_few m buffers good)
-    ]
-
 -- The chain of a request that is done is served once its status is written behind all else.
 pub finished_does : (device : BlockDevice) (m done new : Memory) (buffers : List Buffer) (disk disk' : Disk) (request : Request) (room len used : ℕ) (status : RequestStatus) (any : Bool)
     → length (writable_of buffers) ≡ room + 1 → request ≡ request_of device (readable_of m buffers) room

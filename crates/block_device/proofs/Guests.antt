@@ -2,23 +2,18 @@
 use Rattle.std.proofs.Common.{◌≡◌, ℕ, zero, suc, Option, List, [], ◌∷◌, replicate, refl, sym, ap, subst, ◌∙◌}
 use Rattle.std.specs.Prelude.{IfSome}
 use Rattle.std.specs.Option.{option_map}
-use Rattle.guest_memory.specs.Memory.{Memory}
 use Rattle.chain.specs.Service.{Given}
 use Rattle.chain.proofs.Simulating.{DoesAs, Matches}
 use Rattle.sector_cache.specs.Sector.{extent_of, with_sector}
 use Rattle.sector_cache.specs.Disk.{Disk, written}
-use Rattle.mmio_window.specs.declared.queue.Queue.{Queue}
-use Rattle.mmio_window.specs.Serving.{IsNotified, Notified}
-use Rattle.mmio_window.specs.Window.{WindowState}
-use Rattle.mmio_window.proofs.Services.{NotifiedAs, notified_as}
 use Rattle.block_device.specs.declared.device.BlockDevice.{BlockDevice}
 use Rattle.block_device.specs.declared.request.Request.{Request}
 use Rattle.block_device.specs.declared.request.Request.TheVariants.{Rejected, Read, Write, Flush, GetId, WriteZeroes}
 use Rattle.block_device.specs.Request.{request_of, payload_of}
 use Rattle.block_device.specs.Extent.{SameSectors}
-use Rattle.block_device.specs.Outcome.{Outcome, Finds, with_sectors, completed, Completes, Ends}
+use Rattle.block_device.specs.Outcome.{Outcome, Finds, with_sectors, completed, Completes}
 use Rattle.block_device.specs.Zeroes.{all_sectors, segments_in, zeroed_sectors}
-use Rattle.block_device.specs.Device.{given_of, GivesBy, block_device, device_by, exact_device}
+use Rattle.block_device.specs.Device.{given_of, GivesBy, device_by, exact_device}
 
 -- the device as one whose sectors are all that there are
 abbrev pub guest_device : BlockDevice → BlockDevice
@@ -44,21 +39,6 @@ does_anywhere Way device = record {
   };
   lacks_memory = λ s t readable w same h. h;
 }
-
-pub notified_anywhere : (Way : Request → List ℕ → Disk → Outcome → Type 0) (device : BlockDevice) (queue : Option Queue) (old new : Memory) (before after : WindowState) (s t : Disk) → IsNotified (device_by Way device) 0 queue old new before after s t → IsNotified (device_by Way (guest_device device)) 0 queue old new before after s t
-notified_anywhere Way device queue old new before after s t h =
-    let n : NotifiedAs (device_by Way (guest_device device)) Same 0 queue h.ending old new before after t s =
-    notified_as (device_by Way device) (device_by Way (guest_device device)) Same (does_anywhere Way device) 0 queue h.ending old new before after s t s refl h.notified in
-    record {
-      ending = h.ending;
-      notified = subst (λ (d : Disk). Notified (device_by Way (guest_device device)) 0 queue h.ending old new before after s d) n.alike n.notified;
-    }
-
-pub block_for_guest : (device : BlockDevice) (queue : Option Queue) (old new : Memory) (before after : WindowState) (s t : Disk) → IsNotified (block_device device) 0 queue old new before after s t → IsNotified (block_device (guest_device device)) 0 queue old new before after s t
-block_for_guest device = notified_anywhere (Ends device.identity) device
-
-pub exact_for_guest : (device : BlockDevice) (queue : Option Queue) (old new : Memory) (before after : WindowState) (s t : Disk) → IsNotified (exact_device device) 0 queue old new before after s t → IsNotified (exact_device (guest_device device)) 0 queue old new before after s t
-exact_for_guest device = notified_anywhere (Completes device.identity) device
 
 -- ---- how the image fares is never seen
 

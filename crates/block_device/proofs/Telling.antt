@@ -25,7 +25,7 @@ use Rattle.block_device.specs.declared.request.Request.{Request}
 use Rattle.block_device.specs.declared.request.Request.TheVariants.{Rejected, Read, Write, Flush, GetId, WriteZeroes}
 use Rattle.block_device.specs.declared.zeroes.WriteZeroesSegment.{WriteZeroesSegment}
 use Rattle.block_device.specs.Asking.{IsAsked, asks_image}
-use Rattle.block_device.specs.Operation.{LiesInside, OnDisk, disk_run, operation_of, runs_for, zeroes_in}
+use Rattle.block_device.specs.Operation.{LiesInside, OnDisk, disk_run, operation_of, runs_for}
 use Rattle.block_device.specs.Progress.{IsServable}
 use Rattle.block_device.specs.Request.{are_sectors, get_id_request_of, in_request_of, out_request_of, payload_of, request_of, sector_in, type_of, typed_request, write_zeroes_request_of}
 use Rattle.block_device.specs.Zeroes.{are_segments, has_known_flags, has_sectors_within, segment_at, segments_in}
@@ -121,9 +121,6 @@ before_more payload index =
 pub record AreZeroes (payload : List ℕ) (index : ℕ) (runs : List Segment) : Type 0 where
   pub are : runs ≡ zeroes_before payload index
 
-pub zeroes_start : (payload : List ℕ) → AreZeroes payload 0 []
-zeroes_start payload = record { are = refl }
-
 pub zeroes_put : (payload : List ℕ) (index : ℕ) (segment : WriteZeroesSegment) (runs new : List Segment) → AreZeroes payload index runs
     → segment ≡ segment_at payload index → 0 < segment.count → new ≡ runs ++ disk_run segment ∷ [] → AreZeroes payload (index + 1) new
 zeroes_put payload index segment runs new h is some put =
@@ -151,9 +148,6 @@ few_of segments =
 pub zeroes_few_before : (payload : List ℕ) (index : ℕ) (runs : List Segment) → AreZeroes payload index runs → length runs ≤ index
 zeroes_few_before payload index runs h =
     omega (arith, ap length h.are, few_of (first_segments payload index), length-map-range_with_len (segment_at payload) 0 index)
-
-pub zeroes_all : (payload : List ℕ) (segments : ℕ) (runs : List Segment) → AreZeroes payload segments runs → length payload ≡ 16 * segments → runs ≡ zeroes_in payload
-zeroes_all payload segments runs h size = let n : segments ≡ length payload / 16 = omega (arith, size) in h.are ∙ ap (zeroes_before payload) n
 
 -- ---- nothing lies outside
 

@@ -1,7 +1,7 @@
 -- Numbers spelled by digits: what their spelling looks like, and how it grows by one digit.
 use Rattle.std.proofs.Common.{◌≡◌, ℕ, zero, suc, ◌+◌, ◌-◌, ◌*◌, ◌/◌, ◌%◌, ◌^◌, ◌<◌, ◌≤◌, List, [], ◌∷◌, ◌++◌, length, get_or, take, map, refl, sym, ap, ◌∙◌, arith, inl, inr, add-one}
 use Rattle.std.proofs.lemmas.Bool.{cases_eq, cases_lt}
-use Rattle.std.proofs.lemmas.List.{map-append, length-map, take_more, get_or-map, length-append, get_or-take, take_all, same_from_push}
+use Rattle.std.proofs.lemmas.List.{map-append, length-map, take_more, get_or-map, length-append, get_or-take, same_from_push}
 use Rattle.std.proofs.lemmas.Int.Digits.{digits_of_step, length-digits_of-le, all_below_base_digits_of, first_digits_of, same_from_digits_of, length-digits_of_step}
 use Rattle.std.specs.Int.Digits.{digits_of, AllBelowBase}
 use Rattle.std.specs.List.{AllByRecursion}
@@ -235,13 +235,6 @@ no_number_zero field i n m r z pos lt e =
     let one : field ≡ digit 0 ∷ [] = e ∙ ap num nothing ∙ zero_text in
     let length-is = ap length one in
     omega arith
-
-pub number_done : (field : List ℕ) (i n : ℕ) → Reads field i n → length field ≤ i → 0 < length field → length field ≤ 16 → i ≤ length field → IsNum 64 field n
-number_done field i n r le pos most short =
-    record {
-      fits = let b = r.below in let more : 16 ^ i ≤ 16 ^ 16 = sixteen i 16 (omega arith) in omega arith;
-      spelled = sym (take_all i field le) ∙ r.spelled (omega arith);
-    }
 
 -- a field that spells a wider number spells no narrower one
 no_narrower : (field : List ℕ) (bits limit n : ℕ) → 2 ^ bits ≡ limit → limit ≤ n → IsNum 64 field n → (m : ℕ) → IsNum bits field m → ⊥
