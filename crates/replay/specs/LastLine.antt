@@ -48,8 +48,10 @@ board_refused name = ends 1 (codes "fault board " ++ name)
 abbrev pub board_ending : BoardFault → Ending
 board_ending board.NoSlots = board_refused (codes "NoSlots")
 board_ending board.TooManySlots = board_refused (codes "TooManySlots")
+board_ending (board.Memory memory.NoRegions) = board_refused (codes "NoRegions")
 board_ending (board.Memory memory.BadSize) = board_refused (codes "BadSize")
 board_ending (board.Memory memory.BadBase) = board_refused (codes "BadBase")
+board_ending (board.Memory memory.NotApart) = board_refused (codes "NotApart")
 board_ending (board.Memory memory.NoMemory) = memory_ending
 board_ending board.ExtentOutside = board_refused (codes "ExtentOutside")
 board_ending board.ExtentsOverlap = board_refused (codes "ExtentsOverlap")

@@ -112,8 +112,10 @@ fn board_line(fault: &BoardFault) -> &'static str
     match fault {
         BoardFault::NoSlots => "fault board NoSlots\n",
         BoardFault::TooManySlots => "fault board TooManySlots\n",
+        BoardFault::Memory(MemoryFault::NoRegions) => "fault board NoRegions\n",
         BoardFault::Memory(MemoryFault::BadSize) => "fault board BadSize\n",
         BoardFault::Memory(MemoryFault::BadBase) => "fault board BadBase\n",
+        BoardFault::Memory(MemoryFault::NotApart) => "fault board NotApart\n",
         BoardFault::ExtentOutside => "fault board ExtentOutside\n",
         BoardFault::ExtentsOverlap => "fault board ExtentsOverlap\n",
         BoardFault::Cache(CacheFault::BadCapacity) => "fault board BadCapacity\n",

@@ -1,4 +1,5 @@
-use Rattle.std.proofs.Common.{[], Some, ap, refl}
+use Rattle.std.proofs.Common.{[], IsTrue, Some, ap, false, refl, subst}
+use Rattle.board.specs.declared.spec.SlotSpec.{SlotSpec}
 use Rattle.board.specs.Fault.{IsFaultOf, IsGoodHosted, most_sectors, with_own_disk}
 use Rattle.calls.proofs.WhoseLemmas.{is_further, is_here, not_past}
 use Rattle.calls.proofs.whose.first_hosted_at_fault.Goals as goal
@@ -7,13 +8,15 @@ pub returns-then-has_hosted_fault : goal.returns-then-has_hosted_fault
 returns-then-has_hosted_fault c = λ refused.
     ap Some (is_here c.args.slots.now (λ n s. IsGoodHosted s) (λ n s. IsFaultOf most_sectors [] (with_own_disk s) c.args.fault)
     refused.at_slot refused.spec refused.there refused.before refused.fault_is
-    c.loop-number.number _ c.loop-number-test.true (c.loop-number.invariant refused) (c.if-has_hosted_fault.ensures.bad refl))
+    c.loop-number.number c.index-slots-number.result c.loop-number-test.true (c.loop-number.invariant refused)
+    (subst (λ (s : SlotSpec). IsGoodHosted s → ⊥) c.index-slots-number.is (c.if-has_hosted_fault.ensures.bad refl)))
 
 pub loop-number-preserved : goal.loop-number-preserved
 loop-number-preserved c = λ refused.
     is_further c.args.slots.now (λ n s. IsGoodHosted s) (λ n s. IsFaultOf most_sectors [] (with_own_disk s) c.args.fault)
     refused.at_slot refused.spec refused.there refused.before refused.fault_is
-    c.loop-number.number _ c.loop-number-test.true (c.loop-number.invariant refused) c.if-has_hosted_fault.ensures.found
+    c.loop-number.number c.index-slots-number.result c.loop-number-test.true (c.loop-number.invariant refused)
+    (subst (λ (s : SlotSpec). IsFaultOf most_sectors [] (with_own_disk s) c.args.fault → IsTrue false) c.index-slots-number.is c.if-has_hosted_fault.ensures.found)
 
 pub returns : goal.returns
 returns c = λ refused. absurd (
