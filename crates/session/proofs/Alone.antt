@@ -11,7 +11,7 @@ use Rattle.board.specs.Machine.{IsNext}
 use Rattle.board.specs.Slot.{SlotState}
 use Rattle.board.specs.World.{World, MissingStep, SlotStep}
 use Rattle.board.specs.Within.{Seat, IsNextWithin}
-use Rattle.board.proofs.Alone.{served, get_set, other_at}
+use Rattle.board.proofs.Alone.{served, get_set}
 use Rattle.board.proofs.OneRun.{next_of}
 use Rattle.board.proofs.OneSeat.{seat_once}
 use Rattle.board.specs.declared.pause.Pause.{Pause}

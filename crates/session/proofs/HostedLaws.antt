@@ -167,12 +167,12 @@ idle_keeps old new h event is = idle_from old new h event (slice_get old.slots h
 
 -- ---- a write in place
 
-pub hosted_in_place : (A : Type 0) (old : HostedSessionState) (h : ℕ) (found : HostedState) (bytes : List ℕ) → slice_get old.slots h ≡ Some found → Inside found.slot.memory found.slot.memory.base (length bytes)
-    → IsHostedCall {A = A} old h (MemWrite found.slot.memory.base bytes) Done (with_hosted_bytes h old bytes)
-hosted_in_place A old h found bytes here inside =
+pub hosted_in_place : (A : Type 0) (old : HostedSessionState) (h addr : ℕ) (found : HostedState) (bytes : List ℕ) → slice_get old.slots h ≡ Some found → Inside found.slot.memory addr (length bytes)
+    → IsHostedCall {A = A} old h (MemWrite addr bytes) Done (with_hosted_bytes h addr old bytes)
+hosted_in_place A old h addr found bytes here inside =
     let memory : Memory = found.slot.memory in
-    let new = with_bytes found bytes in
-    let fits = (is_inside-tells memory memory.base (length bytes)).1 inside in
-    let writes = was_written A old.slots h found new memory.base bytes true here (sym fits) refl _ in
-    subst (λ (o : Option HostedState). IsHostedCall {A = A} old h (MemWrite memory.base bytes) Done (record old { slots = put_back h o bytes old.slots })) (sym here)
-    (quiet old.slots (slice_set old.slots h new) old.outputs h (MemWrite memory.base bytes) Done writes (λ other differ. others_stay old.slots h new other differ))
+    let new = with_bytes addr found bytes in
+    let fits = (is_inside-tells memory addr (length bytes)).1 inside in
+    let writes = was_written A old.slots h found new addr bytes true here (sym fits) refl _ in
+    subst (λ (o : Option HostedState). IsHostedCall {A = A} old h (MemWrite addr bytes) Done (record old { slots = put_back h o addr bytes old.slots })) (sym here)
+    (quiet old.slots (slice_set old.slots h new) old.outputs h (MemWrite addr bytes) Done writes (λ other differ. others_stay old.slots h new other differ))

@@ -72,14 +72,14 @@ put_whole memory bytes one same =
     put_bytes memory memory.base bytes (whole_inside memory (length bytes) one same)
     ∙ ap (λ (bs : List ℕ). record memory { bytes = bs }) (rw front (put_all memory.bytes bytes same))
 
--- what is left of a region that was lent
-pub in_place_lent : (A : Type 0) (old : SessionState) (slot : ℕ) (found : BoardSlot) (bytes : List ℕ) →
-    slice_get old.slots slot ≡ Some found → Inside found.memory found.memory.base (length bytes) →
-    IsStep {A = A} old (record { slot = slot; what = MemWrite found.memory.base bytes }) Done (with_slot_bytes slot old bytes)
-in_place_lent A old slot found bytes here inside =
-    subst (λ (o : Option BoardSlot). IsStep {A = A} old (record { slot = slot; what = MemWrite found.memory.base bytes }) Done (record old { slots = put_back slot o bytes old.slots }))
+-- what is left of bytes that were lent
+pub in_place_lent : (A : Type 0) (old : SessionState) (slot addr : ℕ) (found : BoardSlot) (bytes : List ℕ) →
+    slice_get old.slots slot ≡ Some found → Inside found.memory addr (length bytes) →
+    IsStep {A = A} old (record { slot = slot; what = MemWrite addr bytes }) Done (with_slot_bytes slot addr old bytes)
+in_place_lent A old slot addr found bytes here inside =
+    subst (λ (o : Option BoardSlot). IsStep {A = A} old (record { slot = slot; what = MemWrite addr bytes }) Done (record old { slots = put_back slot o addr bytes old.slots }))
     (sym here)
-    (in_place A old slot found.memory.base found bytes here inside)
+    (in_place A old slot addr found bytes here inside)
 
 pub in_place_whole : (A : Type 0) (old : SessionState) (slot : ℕ) (found : BoardSlot) (bytes : List ℕ) →
     slice_get old.slots slot ≡ Some found → found.memory.gaps ≡ [] → length bytes ≡ length found.memory.bytes →
@@ -91,9 +91,9 @@ in_place_whole A old slot found bytes here one same =
 
 -- ---- as a call
 
-pub in_place_call : (A : Type 0) (old : SessionState) (slot : ℕ) (found : BoardSlot) (bytes : List ℕ) →
-    slice_get old.slots slot ≡ Some found → Inside found.memory found.memory.base (length bytes) → slice_get old.paused slot ≡ Some None →
-    IsCall {A = A} old (Handle (record { slot = slot; what = MemWrite found.memory.base bytes })) (Answered Done) (with_slot_bytes slot old bytes)
-in_place_call A old slot found bytes here inside idle =
-    rw idle (idle_step_call {A = A} old (with_slot_bytes slot old bytes) (record { slot = slot; what = MemWrite found.memory.base bytes }) Done idle (slice_get_within old.slots slot found here) (λ state. refl)
-    (in_place_lent A old slot found bytes here inside))
+pub in_place_call : (A : Type 0) (old : SessionState) (slot addr : ℕ) (found : BoardSlot) (bytes : List ℕ) →
+    slice_get old.slots slot ≡ Some found → Inside found.memory addr (length bytes) → slice_get old.paused slot ≡ Some None →
+    IsCall {A = A} old (Handle (record { slot = slot; what = MemWrite addr bytes })) (Answered Done) (with_slot_bytes slot addr old bytes)
+in_place_call A old slot addr found bytes here inside idle =
+    rw idle (idle_step_call {A = A} old (with_slot_bytes slot addr old bytes) (record { slot = slot; what = MemWrite addr bytes }) Done idle (slice_get_within old.slots slot found here) (λ state. refl)
+    (in_place_lent A old slot addr found bytes here inside))

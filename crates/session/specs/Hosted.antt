@@ -74,9 +74,9 @@ abbrev pub IsOutside : ℕ → ℕ → ℕ → HostedSessionState → Type 0
 IsOutside slot addr count session =
     IsSomeAnd (slice_get session.slots slot) (λ found. ¬ Inside found.slot.memory addr count)
 
--- a session with these bytes in the memory of a slot, from its first byte on
-abbrev pub with_hosted_bytes : ℕ → HostedSessionState → List ℕ → HostedSessionState
-with_hosted_bytes slot session bytes = record session { slots = with_slot_bytes slot session.slots bytes }
+-- a session with these bytes in the memory of a slot, from this address on
+abbrev pub with_hosted_bytes : ℕ → ℕ → HostedSessionState → List ℕ → HostedSessionState
+with_hosted_bytes slot addr session bytes = record session { slots = with_slot_bytes slot addr session.slots bytes }
 
 -- ---- why there is none
 

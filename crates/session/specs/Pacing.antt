@@ -24,8 +24,8 @@ pub record PacedState (I : Type 0) : Type 0 where
   pub budget : Budget
 
 -- a paced board with these bytes in the memory of slot i
-abbrev pub with_slot_bytes : {I : Type 0} → ℕ → PacedState I → List ℕ → PacedState I
-with_slot_bytes i paced bytes = record paced { board = lending.with_slot_bytes i paced.board bytes }
+abbrev pub with_slot_bytes : {I : Type 0} → ℕ → ℕ → PacedState I → List ℕ → PacedState I
+with_slot_bytes i addr paced bytes = record paced { board = lending.with_slot_bytes i addr paced.board bytes }
 
 -- the service of a slot that is paused, if one is
 abbrev pub paused_at : List (Option Pause) → ℕ → Option Pause

@@ -120,10 +120,10 @@ with_memory slot found memory session = record session {
   slots = slice_set session.slots slot (record found { memory = memory });
 }
 
--- a session with these bytes in the memory of a slot, from its first byte on
-abbrev pub with_slot_bytes : ℕ → SessionState → List ℕ → SessionState
-with_slot_bytes slot session bytes = record session {
-  slots = put_back slot (slice_get session.slots slot) bytes session.slots;
+-- a session with these bytes in the memory of a slot, from this address on
+abbrev pub with_slot_bytes : ℕ → ℕ → SessionState → List ℕ → SessionState
+with_slot_bytes slot addr session bytes = record session {
+  slots = put_back slot (slice_get session.slots slot) addr bytes session.slots;
 }
 
 -- an event that is no read of memory

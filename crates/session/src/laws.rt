@@ -89,20 +89,22 @@ pub fn a_write_in_place_is_an_event<A: Allocator>()
         IsStep {A = A} old (record { slot = slot; what = EventKind.MemWrite addr bytes }) Reply.Done
         (with_memory slot found (put found.memory addr bytes) old) }
 
-    // and whatever became of all of them, as of a region that was lent, is one write
-    ensures lent { (old : SessionState) (slot : ℕ) (found : BoardSlot) (bytes : List ℕ) →
-        slice_get old.slots slot ≡ Some found → Inside found.memory found.memory.base (length bytes) →
-        IsStep {A = A} old (record { slot = slot; what = EventKind.MemWrite found.memory.base bytes }) Reply.Done
-        (with_slot_bytes slot old bytes) }
+    // and whatever became of those that were lent from an address on is one write
+    ensures lent { (old : SessionState) (slot addr : ℕ) (found : BoardSlot) (bytes : List ℕ) →
+        slice_get old.slots slot ≡ Some found → Inside found.memory addr (length bytes) →
+        IsStep {A = A} old (record { slot = slot; what = EventKind.MemWrite addr bytes }) Reply.Done
+        (with_slot_bytes slot addr old bytes) }
+
+    // as of all bytes, where there is one region
     ensures whole { (old : SessionState) (slot : ℕ) (found : BoardSlot) (bytes : List ℕ) →
         slice_get old.slots slot ≡ Some found → found.memory.gaps ≡ [] → length bytes ≡ length found.memory.bytes →
         IsStep {A = A} old (record { slot = slot; what = EventKind.MemWrite found.memory.base bytes }) Reply.Done
         (with_memory slot found (record found.memory { bytes = bytes }) old) }
 
     // also as a call, where no service of the slot is paused
-    ensures call { (old : SessionState) (slot : ℕ) (found : BoardSlot) (bytes : List ℕ) →
-        slice_get old.slots slot ≡ Some found → Inside found.memory found.memory.base (length bytes) →
+    ensures call { (old : SessionState) (slot addr : ℕ) (found : BoardSlot) (bytes : List ℕ) →
+        slice_get old.slots slot ≡ Some found → Inside found.memory addr (length bytes) →
         IsIdle slot (paced_world_of old) →
-        IsCall {A = A} old (Handle (record { slot = slot; what = EventKind.MemWrite found.memory.base bytes }))
-        (Response.Answered Reply.Done) (with_slot_bytes slot old bytes) }
+        IsCall {A = A} old (Handle (record { slot = slot; what = EventKind.MemWrite addr bytes }))
+        (Response.Answered Reply.Done) (with_slot_bytes slot addr old bytes) }
 {}

@@ -37,8 +37,8 @@ pub fn what_waits_changes_nothing<A: Allocator>()
 /// Bytes that were put into a guest's memory in place, between two calls, are the event of their write: so what holds of
 /// each guest over courses holds of one whose memory is lent, to its CPUs or to the host that reads its disk into it.
 pub fn a_hosted_write_in_place_is_an_event<A: Allocator>()
-    ensures { (old : HostedSessionState) (slot : ℕ) (found : HostedState) (bytes : List ℕ) →
-        slice_get old.slots slot ≡ Some found → Inside found.slot.memory found.slot.memory.base (length bytes) →
-        IsHostedCall {A = A} old slot (EventKind.MemWrite found.slot.memory.base bytes)
-        Reply.Done (with_hosted_bytes slot old bytes) }
+    ensures { (old : HostedSessionState) (slot addr : ℕ) (found : HostedState) (bytes : List ℕ) →
+        slice_get old.slots slot ≡ Some found → Inside found.slot.memory addr (length bytes) →
+        IsHostedCall {A = A} old slot (EventKind.MemWrite addr bytes)
+        Reply.Done (with_hosted_bytes slot addr old bytes) }
 {}

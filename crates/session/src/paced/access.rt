@@ -1,7 +1,7 @@
 //! Calls for a slot without an event, for a caller that has the bytes in a slice. A slot whose service is paused stays as
 //! it is.
 
-ghost use Rattle.guest_memory.specs.Memory.{Inside, first_region};
+ghost use Rattle.guest_memory.specs.Memory.{Inside, IsRest};
 ghost use Rattle.std.specs.Prelude.{◌≡◌, ◌≢◌, ◌↔◌, ◌<◌, ◌≤◌, length, [], None, Some, IfOk, IsErrOf, IsOk, IsSomeAnd, OnErr};
 ghost use Rattle.std.specs.Borrow.{sem, u8, Array, Lends};
 ghost use Rattle.std.specs.List.{slice_get};
@@ -155,18 +155,18 @@ impl<I: Image, A: Allocator> Paced<I, A> {
         }
     }
 
-    /// The bytes of the first region of the slot's memory, to be read and written while no service of the slot is paused.
-    pub fn memory_mut(&mut self, slot: u8) -> &mut [u8]
+    /// The bytes of the slot's memory from `addr` to the end of the region that holds it, to be read and written while no
+    /// service of the slot is paused.
+    pub fn memory_mut(&mut self, slot: u8, addr: u64) -> &mut [u8]
         requires there { slot < length self.old.board.slots }
+        requires held { IsSomeAnd (slice_get self.old.board.slots slot) (λ found. Inside found.memory addr 1) }
         requires idle { paused_at self.old.paused slot ≡ None }
         ensures* writes_back { sem 𝓛 (Lends (the_row I.row A.row I.Image A.Allocator) (Array u8 0) self.entry
-            result (with_slot_bytes slot self.old)) }
-        ensures value { IsSomeAnd (slice_get self.old.board.slots slot)
-            (λ found. result.now ≡ first_region found.memory) }
-        ensures inside { IsSomeAnd (slice_get self.old.board.slots slot)
-            (λ found. Inside found.memory found.memory.base (length result.now)) }
+            result (with_slot_bytes slot addr self.old)) }
+        ensures rest { IsSomeAnd (slice_get self.old.board.slots slot)
+            (λ found. IsRest found.memory addr result.now) }
     {
-        self.board.memory_mut(slot)
+        self.board.memory_mut(slot, addr)
     }
 }
 

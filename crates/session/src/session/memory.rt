@@ -3,7 +3,7 @@
 ghost use Rattle.std.specs.Prelude.{◌≡◌, ◌⊎◌, ◌<◌, ◌↔◌, ◌≤◌, length, nat_lt, if◌then◌else◌, OnErr, IfOk, IfErr, IsErrOf, IsSomeAnd};
 ghost use Rattle.std.specs.Borrow.{sem, u8, Array, Lends};
 ghost use Rattle.std.specs.List.{slice_get};
-ghost use Rattle.guest_memory.specs.Memory.{Inside, first_region};
+ghost use Rattle.guest_memory.specs.Memory.{Inside, IsRest};
 ghost use Rattle.board.specs.declared.event.EventKind.{EventKind};
 ghost use Rattle.session.specs.declared.refusal.Refusal.{Refusal};
 ghost use Rattle.session.specs.Pacing.{Handle};
@@ -72,18 +72,18 @@ impl<A: Allocator> Session<A> {
         Ok(memory)
     }
 
-    /// The bytes of the first region of the slot's memory, to be read and written in place: as a whole the step of that
-    /// write (`a_write_in_place_is_an_event`). `slots` tells which slots there are, and `is_paused` which are busy.
-    pub fn memory_mut(&mut self, slot: u8) -> &mut [u8]
+    /// The bytes of the slot's memory from `addr` to the end of the region that holds it, to be read and written in place:
+    /// as a whole the step of that write (`a_write_in_place_is_an_event`). `memory` tells whether there is such a slot that
+    /// isn't busy, and its `holds` whether a region holds the address.
+    pub fn memory_mut(&mut self, slot: u8, addr: u64) -> &mut [u8]
         requires there { slot < length self.old.slots }
+        requires held { IsSomeAnd (slice_get self.old.slots slot) (λ found. Inside found.memory addr 1) }
         requires idle { IsIdle slot self.old }
         ensures* writes_back { sem 𝓛 (Lends (the_row A.row A.Allocator) (Array u8 0) self.entry result
-            (with_slot_bytes slot self.old)) }
-        ensures value { IsSomeAnd (slice_get self.old.slots slot) (λ found. result.now ≡ first_region found.memory) }
-        ensures inside { IsSomeAnd (slice_get self.old.slots slot)
-            (λ found. Inside found.memory found.memory.base (length result.now)) }
+            (with_slot_bytes slot addr self.old)) }
+        ensures rest { IsSomeAnd (slice_get self.old.slots slot) (λ found. IsRest found.memory addr result.now) }
     {
-        self.paced.memory_mut(slot)
+        self.paced.memory_mut(slot, addr)
     }
 
     // Why a range isn't inside the slot's memory.

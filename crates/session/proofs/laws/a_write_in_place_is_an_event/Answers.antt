@@ -6,10 +6,10 @@ pub returns-clause-range : goal.returns-clause-range
 returns-clause-range g c = λ old slot addr found bytes. in_place _ old slot addr found bytes
 
 pub returns-clause-lent : goal.returns-clause-lent
-returns-clause-lent g c = λ old slot found bytes. in_place_lent _ old slot found bytes
+returns-clause-lent g c = λ old slot addr found bytes. in_place_lent _ old slot addr found bytes
 
 pub returns-clause-whole : goal.returns-clause-whole
 returns-clause-whole g c = λ old slot found bytes. in_place_whole _ old slot found bytes
 
 pub returns-clause-call : goal.returns-clause-call
-returns-clause-call g c = λ old slot found bytes. in_place_call _ old slot found bytes
+returns-clause-call g c = λ old slot addr found bytes. in_place_call _ old slot addr found bytes

@@ -1,5 +1,5 @@
 -- A restore is what the session does.
-use Rattle.std.proofs.Common.{◌≡◌, length, refl, sym, ◌∙◌, ap}
+use Rattle.std.proofs.Common.{length, refl, sym, ◌∙◌, ap}
 use Rattle.sector_cache.specs.MemoryImage.{disk_of as memory_disk_of}
 use Rattle.board.specs.declared.event.EventKind.TheVariants.{Restore}
 use Rattle.session.specs.Restoring.{restore_response}
