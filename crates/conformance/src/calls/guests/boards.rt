@@ -4,6 +4,7 @@ ghost use Rattle.std.specs.Prelude.{All};
 ghost use Rattle.board.specs.Line.{HasInterruptWords};
 
 use super::Guests;
+use super::runs::run_some;
 use crate::calls::answer::{put_flag, put_number, put_word, written};
 use crate::calls::subject::Stuck;
 use crate::calls::words::Words;
@@ -105,9 +106,9 @@ impl<'h, B: Allocator> Guests<'h, B> {
             return Err(Stuck::Conditions);
         };
         self.heap.refuse_from(self.refused);
-        let is_done = run(board, &events, records);
+        let done = run_some(board, &events, records);
         self.heap.refuse_from(0);
-        Ok(is_done)
+        Ok(done == events.len())
     }
 
     /// Whether a slot has met a refusal.
@@ -147,7 +148,7 @@ impl<'h, B: Allocator> Guests<'h, B> {
     }
 }
 
-// What `new` and `run` promise isn't needed here, and is dear to prove of this image and this heap.
+// What `new` promises isn't needed here, and is dear to prove of this image and this heap.
 fn board_of<I: Image, A: Allocator + Copy>(
     heap: A,
     slots: &[SlotSpec],
@@ -155,17 +156,6 @@ fn board_of<I: Image, A: Allocator + Copy>(
     cache: u32,
 ) -> Result<Board<I, A>, Refused<I, BoardFault>> {
     Board::new(heap, slots, image, cache)
-}
-
-fn run<I: Image, A: Allocator + Copy>(
-    board: &mut Board<I, A>,
-    events: &[Event<A>],
-    records: &mut Vec<Record<A>, A>,
-) -> bool
-    requires { All HasInterruptWords records.old.items }
-    ensures { All HasInterruptWords records.new.items }
-{
-    board.run(events, records).is_ok()
 }
 
 // The lines of records, without the last one's end.

@@ -1,6 +1,7 @@
 //! Runs of which each request for memory is refused in turn.
 
-ghost use Rattle.std.specs.Prelude.{◌≤◌, length};
+ghost use Rattle.std.specs.Prelude.{◌≤◌, All, length};
+ghost use Rattle.board.specs.Line.{HasInterruptWords};
 
 use super::Guests;
 use crate::calls::answer::{put_number, written};
@@ -69,13 +70,16 @@ impl<'h, B: Allocator> Guests<'h, B> {
     }
 }
 
-// Runs events as far as there is memory for their records: how many are done, as the stop says.
-fn run_some<I: Image, A: Allocator + Copy>(
+/// Runs events as far as there is memory for their records: how many are done, as the stop says. What `run` promises of
+/// them isn't needed here, and is dear to prove of this image and this heap.
+pub(super) fn run_some<I: Image, A: Allocator + Copy>(
     board: &mut Board<I, A>,
     events: &[Event<A>],
     records: &mut Vec<Record<A>, A>,
 ) -> usize
-    ensures { result ≤ length events.now }
+    requires { All HasInterruptWords records.old.items }
+    ensures few { result ≤ length events.now }
+    ensures words { All HasInterruptWords records.new.items }
 {
     match board.run(events, records) {
         Ok(()) => events.len(),
