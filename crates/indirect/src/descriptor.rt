@@ -27,6 +27,7 @@ pub struct Descriptor {
 
 /// The buffer of the descriptor in the packed layout whose 16 bytes stand at `addr` (2.8.13).
 #[tactic(auto, using(guest_memory::proofs::Ranges::inside_part))]
+#[inline(always)]
 pub fn read_packed_buffer<A: Allocator>(mem: &GuestMemory<A>, addr: u64) -> Buffer
     requires { Inside mem.now addr 16 }
     ensures { result ≡ packed_buffer mem.now addr }
@@ -46,6 +47,7 @@ impl Descriptor {
 
     /// The descriptor in the split layout whose 16 bytes stand at `addr` (2.7.5).
     #[tactic(auto, using(guest_memory::proofs::Ranges::inside_part))]
+    #[inline(always)]
     pub fn read_split<A: Allocator>(mem: &GuestMemory<A>, addr: u64) -> Descriptor
         requires { Inside mem.now addr 16 }
         ensures { result ≡ split_descriptor mem.now addr }

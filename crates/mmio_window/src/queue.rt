@@ -62,6 +62,7 @@ impl Virtqueue for Queue {
         }
     }
 
+    #[inline(always)]
     fn give<A: Allocator>(
         &mut self,
         mem: &mut GuestMemory<A>,

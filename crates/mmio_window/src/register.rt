@@ -67,6 +67,7 @@ pub enum Register {
 
 impl Register {
     /// The register at an offset, if one has it.
+    #[inline(always)]
     pub fn at(offset: u16) -> Option<Register>
         ensures { result ≡ register_at offset }
     {
