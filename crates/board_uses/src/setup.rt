@@ -2,7 +2,7 @@
 
 ghost use Rattle.std.specs.Prelude.{◌≡◌, length, IfOk, IfErr};
 
-use board::{Board, BoardFault, Extent, MemoryFault, MemoryImage, Refused, SlotSpec};
+use board::{Board, BoardFault, Extent, MemoryFault, MemoryImage, Refused, Regions, SlotSpec};
 use std::alloc::Allocator;
 
 /// Where the memory of a guest begins, in the addresses that the guest knows.
@@ -19,8 +19,7 @@ const LIBRARY_DISK: [u8; 20] = *b"library\0\0\0\0\0\0\0\0\0\0\0\0\0";
 /// A guest with a mebibyte of memory and eight sectors of the disk.
 fn guest(first_sector: u64, read_only: bool, identity: [u8; 20]) -> SlotSpec {
     SlotSpec {
-        base: MEMORY_BASE,
-        len: 0x10_0000,
+        regions: Regions::one(MEMORY_BASE, 0x10_0000),
         extent: Extent {
             start: first_sector,
             count: 8,
@@ -50,6 +49,9 @@ pub fn advice(why: BoardFault) -> &'static str {
     match why {
         BoardFault::NoSlots | BoardFault::TooManySlots => "a board has 1 to 64 guests",
         BoardFault::Memory(MemoryFault::BadSize) => "a guest has 4 KiB to 64 TiB, in whole pages",
+        BoardFault::Memory(MemoryFault::NoRegions | MemoryFault::NotApart) => {
+            "a guest's regions are in ascending order, with a gap between each two"
+        }
         BoardFault::Memory(_) => "a guest's memory begins at a page and ends at 2^64",
         BoardFault::ExtentOutside => "the disk is too short for its guests",
         BoardFault::ExtentsOverlap => "two guests would have a sector in common",
