@@ -21,7 +21,7 @@ use sector_cache::{
 };
 use sectors::{Given, cached, filled, halves_of};
 use std::alloc::{AllocError, Global};
-use std::fmt::Debug;
+use std::fmt::{Debug, Display};
 use std::process::Abort;
 use std::test::Fail;
 
@@ -190,29 +190,60 @@ fn sectors_are_gathered(rt: HostRuntime) -> Result<(), Fail> {
     Ok(())
 }
 
+/// Faults, and what each is told as.
+static FILE_FAULTS: [(FileImageFault, &str); 4] = [
+    (
+        FileImageFault::BadSize,
+        "the length of the file is no multiple of 512 bytes",
+    ),
+    (
+        FileImageFault::Io,
+        "the length of the file could not be found",
+    ),
+    (
+        FileImageFault::BadKind,
+        "it is neither a regular file nor a block device",
+    ),
+    (
+        FileImageFault::Locked,
+        "somebody else holds a lock on the file",
+    ),
+];
+
+static CACHE_FAULTS: [(CacheFault, &str); 2] = [
+    (
+        CacheFault::BadCapacity,
+        "the capacity of the cache is not in 1..=65536 sectors",
+    ),
+    (CacheFault::NoMemory, "no memory for the cache"),
+];
+
+fn check_told<T: Display>(
+    rt: &impl Abort,
+    alloc: Global,
+    fault: &T,
+    wanted: &str,
+) -> Result<(), Fail> {
+    let told = format!(in alloc; "{fault}")?;
+    same(rt, &wanted, &told.as_str(), &wanted);
+    Ok(())
+}
+
 #[test]
 fn faults_are_told(rt: HostRuntime) -> Result<(), Fail> {
-    let told = format!(in rt.alloc();
-        "{}, {}, {}, {}, {}, {}, {}, {}",
-        ImageError,
-        ImageFault::BadSize,
-        FileImageFault::BadSize,
-        FileImageFault::Io,
-        FileImageFault::BadKind,
-        FileImageFault::Locked,
-        CacheFault::BadCapacity,
-        CacheFault::NoMemory
+    let alloc = rt.alloc();
+    check_told(&rt, alloc, &ImageError, "the image failed")?;
+    check_told(
+        &rt,
+        alloc,
+        &ImageFault::BadSize,
+        "the length of the image is no multiple of 512 bytes",
     )?;
-    assert_eq!(rt;
-        told.as_str(),
-        "the image failed, \
-         the length of the image is no multiple of 512 bytes, \
-         the length of the file is no multiple of 512 bytes, \
-         the length of the file could not be found, \
-         it is neither a regular file nor a block device, \
-         somebody else holds a lock on the file, \
-         the capacity of the cache is not in 1..=65536 sectors, \
-         no memory for the cache"
-    );
+    for (fault, wanted) in &FILE_FAULTS {
+        check_told(&rt, alloc, fault, wanted)?;
+    }
+    for (fault, wanted) in &CACHE_FAULTS {
+        check_told(&rt, alloc, fault, wanted)?;
+    }
     Ok(())
 }

@@ -1,45 +1,13 @@
-//! Each request for memory refused in turn.
+//! Each request for memory of a cache's calls refused in turn. Those of its making are among those of a board in the
+//! worked calls.
 
 use crate::tests::same;
 use crate::tests::sectors::{Call, Given, cached, call_of, eight_sectors};
 use refusing::RefusingHeap;
-use sector_cache::{CacheFault, Image, ScriptedImage, SectorCache};
+use sector_cache::{Image, ScriptedImage, SectorCache};
 use std::alloc::{Allocator, Global};
 use std::process::Abort;
 use std::test::Fail;
-
-/// Why a cache of two sectors isn't made of this heap, with the bytes of the image that is handed back.
-fn refusal(heap: &RefusingHeap, image: ScriptedImage) -> Option<(CacheFault, Vec<u8>)> {
-    let refused = SectorCache::new(heap, image, 2).err()?;
-    Some((refused.why, refused.image.into_bytes()))
-}
-
-/// Refuses the nth request, and answers whether it came.
-fn check_new(rt: &impl Abort, alloc: Global, heap: &RefusingHeap, n: u64) -> Result<bool, Fail> {
-    heap.refuse_from(n);
-    let answer = refusal(heap, eight_sectors(alloc, &[])?);
-    let has_refused = heap.has_refused();
-    let bytes = eight_sectors(alloc, &[])?.into_bytes();
-    let wanted = if has_refused {
-        Some((CacheFault::NoMemory, bytes))
-    } else {
-        None
-    };
-    same(rt, &n, &answer, &wanted);
-    Ok(has_refused)
-}
-
-#[test]
-fn each_request_of_new_is_refused(rt: HostRuntime) -> Result<(), Fail> {
-    let heap = RefusingHeap::new(rt.alloc());
-    for n in 1..u64::MAX {
-        if !check_new(&rt, rt.alloc(), &heap, n)? {
-            same(&rt, &n, &(n > 1), &true);
-            break;
-        }
-    }
-    Ok(())
-}
 
 /// How many requests a cache of this capacity makes over an image.
 pub fn requests_of<I: Image + Drop>(
