@@ -89,10 +89,17 @@ impl<'h, B: Allocator> Guests<'h, B> {
         let times = words.u8();
         let outlet = words.u32();
         let slot = slot_of(self.alloc, words)?;
+        let guest = GuestSpec { slot, outlet };
         for _ in 0..times {
-            self.guests.push(GuestSpec { slot, outlet })?;
+            self.add(&guest)?;
         }
         put_word(answer, "ok")
+    }
+
+    // Asks for one guest more.
+    fn add(&mut self, guest: &GuestSpec) -> Result<(), AllocError> {
+        self.guests.push(*guest)?;
+        Ok(())
     }
 
     // Puts an event behind the list.
