@@ -1,5 +1,5 @@
 -- What a replay comes to: the trace that it read, the run on that trace's board, and what it wrote.
-use Rattle.std.specs.Prelude.{◌≡◌, ◌≢◌, ◌⊎◌, ℕ, ◌<◌, ⊤, All, List, [], ◌∷◌, length, map, take, Option, IfSome, Result, Ok, Err}
+use Rattle.std.specs.Prelude.{◌≡◌, ◌≢◌, ◌⊎◌, ℕ, ◌<◌, ◌≤◌, ⊤, All, List, [], ◌∷◌, length, map, take, Option, IfSome, Result, Ok, Err}
 use Rattle.std.specs.Io.KnownBytes.{Appends, IsAtEnd, Keeps}
 use Rattle.sector_cache.specs.Disk.{Disk}
 use Rattle.board.specs.declared.event.Event.{Event}
@@ -74,10 +74,11 @@ pub record HasTooMany {A : Type 0} (trace : Content A) : Type 0 where
   pub version : trace.version ≡ 1
   pub many : 16 < length trace.slots
 
--- a trace as its version admits it: it hasn't too many slots, and no memory is too large
-pub record IsAdmitted {A : Type 0} (trace : Content A) : Type 0 where
+-- a trace that a later version takes as its own does: it hasn't too many slots, and where the later version admits larger
+-- memories, none is too large for its own
+pub record IsAdmittedUntil {A : Type 0} (version : ℕ) (trace : Content A) : Type 0 where
   pub few : ¬ HasTooMany trace
-  pub small : All (IsSmallMemory trace.version) trace.slots
+  pub small : trace.version < 3 → 3 ≤ version → All (IsSmallMemory trace.version) trace.slots
 
 -- which slots there may be on the board of a trace, and why it is refused, by where its disks are: over an image of so
 -- many sectors, or each on a disk of its own

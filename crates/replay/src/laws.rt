@@ -1,7 +1,7 @@
 //! The version of a trace says nothing of what comes of it.
 
 ghost use Rattle.std.specs.Prelude.{◌↔◌, ◌≤◌, ℕ, List, Option, Some, Result};
-ghost use Rattle.replay.specs.Replay.{IsAdmitted, Replays};
+ghost use Rattle.replay.specs.Replay.{IsAdmittedUntil, Replays};
 ghost use Rattle.replay.specs.declared.fault.ReplayFault.{ReplayFault};
 ghost use Rattle.trace.specs.Printable.{InRange, IsPrintable};
 ghost use Rattle.trace.specs.Text.{Content, as_version, text};
@@ -10,11 +10,11 @@ ghost use Rattle.trace.specs.Version.{IsVersion};
 use sector_cache::Image;
 use std::alloc::Allocator;
 
-/// A trace that its version admits and the same trace in a later version have the same replays: whatever comes of
+/// A trace that a later version admits as its own does, and the same trace in that version, have the same replays: whatever comes of
 /// the one may come of the other, with the same records, the same image and the same fault.
 pub fn the_version_changes_no_replay<A: Allocator, I: Image>()
     ensures { (t : Content A) (version : ℕ) (old new : Option (List ℕ)) (before after : I) (outcome : Result (Unit {0}) ReplayFault) →
-        InRange t → IsPrintable t → IsAdmitted t → IsVersion version → t.version ≤ version →
+        InRange t → IsPrintable t → IsAdmittedUntil version t → IsVersion version → t.version ≤ version →
         Replays A I.disk (Some (text t)) old new before after outcome
         ↔ Replays A I.disk (Some (text (as_version version t))) old new before after outcome }
 {}
