@@ -4,3 +4,4 @@ pub mod Ranges
 pub mod InRegions
 pub mod Placing
 pub mod Spellings
+pub mod Stocked

@@ -1,19 +1,14 @@
 -- What callers need of ranges of a memory: what a write leaves, and what it can't reach.
-use Rattle.std.proofs.Common.{◌≡◌, ◌↔◌, ◌⊎◌, inl, inr, ℕ, ◌+◌, ◌-◌, ◌≤◌, List, [], ◌++◌, length, take, drop, refl, sym, ◌∙◌, ap, subst, arith, Bool, true, false, length-append, length-take, length-drop, append_assoc}
+use Rattle.std.proofs.Common.{◌≡◌, ◌↔◌, ◌⊎◌, inl, inr, ℕ, ◌+◌, ◌-◌, ◌≤◌, List, [], ◌++◌, length, take, drop, refl, sym, ◌∙◌, ap, subst, arith, Bool, true, false, length-append, length-take, length-drop}
 use Rattle.std.specs.Prelude.{IsTrue, nat_le, ◌&&◌}
 use Rattle.std.proofs.lemmas.Bool.Decides.{nat_tests}
-use Rattle.std.proofs.lemmas.List.{places, same_lists, take_all}
+use Rattle.std.proofs.lemmas.List.{places, same_lists}
 use Rattle.guest_memory.specs.Memory.{Gap, Memory, Inside, MissesAll, is_inside, misses_all, SameRange, part_of, put_at, up_to_gap, put}
 use Rattle.guest_memory.proofs.Gaps.{misses-none, misses_part, misses_all-true, true-misses_all, up_to_gap-all, up_to_gap-nil}
 
 -- a list keeps its length, whatever is written where
 pub length-put_at : (xs : List ℕ) (i : ℕ) (bs : List ℕ) → length (put_at xs i bs) ≡ length xs
 length-put_at xs i bs = simp (length-take, length-append, length-drop) (omega arith)
-
--- a write that fits puts its bytes between what stands before and behind them
-pub put_at_inside : (xs : List ℕ) (i : ℕ) (bs : List ℕ) → i + length bs ≤ length xs → put_at xs i bs ≡ take i xs ++ (bs ++ drop (i + length bs) xs)
-put_at_inside xs i bs fits =
-    take_all (length xs) _ (simp (length-take, length-append, length-drop) (omega arith)) ∙ append_assoc (take i xs) bs (drop (i + length bs) xs)
 
 -- what was written in a list is read back
 pub take-put_at : (xs : List ℕ) (i : ℕ) (bs : List ℕ) → i + length bs ≤ length xs → take (length bs) (drop i (put_at xs i bs)) ≡ bs
@@ -40,10 +35,6 @@ whole_inside m n one same = record {
 pub inside_part : {m : Memory} {a n b k : ℕ} → Inside m a n → a ≤ b → b + k ≤ a + n → Inside m b k
 inside_part {m} {a} {n} {b} {k} h above below =
     record { above = omega (arith, h.above); below = omega (arith, h.below); clear = misses_part m.gaps a n b k above below h.clear }
-
--- the same of the k bytes from its place j on
-pub inside_part_after : {m : Memory} {a n : ℕ} (j : ℕ) {k : ℕ} → Inside m a n → j + k ≤ n → Inside m (a + j) k
-inside_part_after {m} {a} {n} j {k} h fits = inside_part h (omega arith) (omega arith)
 
 -- what was written is read back
 pub part_of-put : (m : Memory) (a : ℕ) (bs : List ℕ) → Inside m a (length bs) → part_of (put m a bs) a (length bs) ≡ bs
@@ -129,10 +120,6 @@ inside_cases m a n = by (is_inside m a n) refl
 pub inside_same : (old new : Memory) (a n : ℕ) → SameRange old new → Inside old a n → Inside new a n
 inside_same old new a n s h =
     record { above = omega arith; below = omega arith; clear = subst (λ (gs : List Gap). MissesAll gs a n) (sym s.gaps) h.clear }
-
--- and the test answers as before
-pub is_inside-same : (old new : Memory) (a n : ℕ) → SameRange old new → is_inside new a n ≡ is_inside old a n
-is_inside-same old new a n s = rw (s.base, s.size, s.gaps) refl
 
 -- the addresses stay where they stay in two steps
 pub same_trans : (a b c : Memory) → SameRange a b → SameRange b c → SameRange a c

@@ -7,6 +7,7 @@
 
 mod fault;
 mod laws;
+mod lookup;
 mod memory;
 mod numbers;
 mod region;

@@ -11,52 +11,37 @@ ghost use Rattle.guest_memory.specs.declared.fault.MemoryFault.{MemoryFault};
 ghost use Rattle.std.specs.Borrow.{sem};
 
 use crate::fault::{MemoryFault, RegionFault, fault_of, fault_of_regions};
+use crate::lookup;
 use crate::region::Region;
 use crate::spec::RegionSpec;
 use std::alloc::{AllocError, Allocator, Global};
 use std::marker::Model;
+use std_alloc::vec::Lodged;
 
 /// The memory of one guest: its regions, in ascending order and apart from each other.
 #[derive(Drop)]
 pub struct GuestMemory<A: Allocator = Global> {
-    regions: Vec<Region<A>, A>,
+    // Of the two one is empty: regions of the library's own bytes, or of a host's.
+    own: Vec<Region<A>, A>,
+    lent: Vec<Region<Lodged>, A>,
 }
 
 impl<A: Allocator> Model for GuestMemory<A> {
     ghost use Rattle.guest_memory.specs.Memory.{Memory};
     ghost use Rattle.guest_memory.specs.Regions.{memory_of, AreRegions};
+    ghost use Rattle.guest_memory.specs.Stock.{regions_of};
 
     ghost Value = { Memory };
 
-    ghost view = { λ m. memory_of m.regions.items };
+    ghost view = { λ m. memory_of (regions_of m.own.items m.lent.items) };
 
-    ghost invariant = { λ m. AreRegions m.regions.items };
-}
-
-/// The place of the region that holds address `addr`, or whose end it is.
-fn place_of<A: Allocator>(regions: &[Region<A>], addr: u64) -> Option<usize>
-    ensures { result ≡ position (touches addr) regions.now }
-{
-    regions.iter().position(|region| region.touches(addr))
-}
-
-/// The place of the region that holds the `n` bytes from `addr` on.
-fn place_inside<A: Allocator>(regions: &[Region<A>], addr: u64, n: u64) -> usize
-    requires apart { AreApart regions.now }
-    requires inside { Inside (memory_of regions.now) addr n }
-    ensures place { result < length regions.now }
-    ensures region { (d : _) → IsIn (slice_index_or regions.now result d) addr n }
-{
-    if regions.len() == 1 {
-        return 0;
-    }
-    place_of(regions, addr).unwrap_or(0)
+    ghost invariant = { λ m. AreRegions (regions_of m.own.items m.lent.items) };
 }
 
 /// Where the regions are and how large.
 fn specs<A: Allocator + Copy>(
     alloc: A,
-    regions: &[Region<A>],
+    regions: &[Region<Lodged>],
 ) -> Result<Vec<RegionSpec, A>, AllocError>
     ensures { IfOk result (λ specs. specs.items ≡ map spec_of regions.now) }
 {
@@ -104,7 +89,10 @@ impl<A: Allocator + Copy> GuestMemory<A> {
             return Err(fault);
         }
         match zeroed(alloc, &[RegionSpec { base, len }]) {
-            Ok(regions) => Ok(GuestMemory { regions }),
+            Ok(own) => Ok(GuestMemory {
+                own,
+                lent: Vec::new(alloc),
+            }),
             Err(_) => Err(MemoryFault::NoMemory),
         }
     }
@@ -122,13 +110,16 @@ impl<A: Allocator + Copy> GuestMemory<A> {
             return Err(fault);
         }
         match zeroed(alloc, regions) {
-            Ok(regions) => Ok(GuestMemory { regions }),
+            Ok(own) => Ok(GuestMemory {
+                own,
+                lent: Vec::new(alloc),
+            }),
             Err(_) => Err(MemoryFault::NoMemory),
         }
     }
 
-    /// A memory of these regions, whose bytes are there already. None is copied or read.
-    pub fn of_regions(alloc: A, regions: Vec<Region<A>, A>) -> Result<GuestMemory<A>, MemoryFault>
+    /// A memory of these regions, whose bytes a host lends. None is copied, read or written, then or at the end.
+    pub fn of_lent(alloc: A, regions: Vec<Region<Lodged>, A>) -> Result<GuestMemory<A>, MemoryFault>
         ensures made { IfOk result (λ m. m ≡ memory_of regions.items) }
         ensures ok { OnOk result (AreGood (map spec_of regions.items)) }
         ensures fault { IfErr result (λ fault.
@@ -138,7 +129,10 @@ impl<A: Allocator + Copy> GuestMemory<A> {
             return Err(MemoryFault::NoMemory);
         };
         match fault_of_regions(&specs) {
-            None => Ok(GuestMemory { regions }),
+            None => Ok(GuestMemory {
+                own: Vec::new(alloc),
+                lent: regions,
+            }),
             Some(RegionFault { region: _, fault }) => Err(fault),
         }
     }
@@ -149,15 +143,20 @@ impl<A: Allocator> GuestMemory<A> {
     pub fn base(&self) -> u64
         ensures { result ≡ self.now.base }
     {
-        self.regions[0].base()
+        if self.own.is_empty() {
+            return lookup::base(&self.lent);
+        }
+        lookup::base(&self.own)
     }
 
     /// The number of addresses from the first byte to the last, those in gaps included.
     pub fn len(&self) -> u64
         ensures { result ≡ length self.now.bytes }
     {
-        let last = &self.regions[self.regions.len() - 1];
-        last.base() - self.base() + last.len()
+        if self.own.is_empty() {
+            return lookup::span(&self.lent);
+        }
+        lookup::span(&self.own)
     }
 
     /// The number of bytes from `addr` to the end of the region that holds it. There is no answer where none does.
@@ -166,13 +165,10 @@ impl<A: Allocator> GuestMemory<A> {
         ensures room { IfSome result (λ room. (n : ℕ) → (n ≤ room) ↔ Inside self.now addr n) }
         ensures fits { IfSome result (λ room. addr + room ≤ 2 ^ 64) }
     {
-        match place_of(&self.regions, addr) {
-            Some(place) => {
-                let room = self.regions[place].room_behind(addr);
-                if room == 0 { None } else { Some(room) }
-            }
-            None => None,
+        if self.own.is_empty() {
+            return lookup::room_at(&self.lent, addr);
         }
+        lookup::room_at(&self.own, addr)
     }
 
     /// The bytes from `addr` to the end of the region that holds it. There is no answer where none does.
@@ -201,10 +197,10 @@ impl<A: Allocator> GuestMemory<A> {
         ensures test { result ≡ is_inside self.now addr n }
         ensures fits { IsTrue result → addr + n ≤ 2 ^ 64 }
     {
-        match place_of(&self.regions, addr) {
-            Some(place) => n <= self.regions[place].room_behind(addr),
-            None => false,
+        if self.own.is_empty() {
+            return lookup::holds(&self.lent, addr, n);
         }
+        lookup::holds(&self.own, addr, n)
     }
 
     /// The `n` bytes from `addr` on, where they all lie in the memory.
@@ -224,8 +220,10 @@ impl<A: Allocator> GuestMemory<A> {
         ensures len { length result.now ≡ n }
         ensures fits { addr + n ≤ 2 ^ 64 }
     {
-        let place = place_inside(&self.regions, addr, n);
-        self.regions[place].slice(addr, n)
+        if self.own.is_empty() {
+            return lookup::slice(&self.lent, addr, n);
+        }
+        lookup::slice(&self.own, addr, n)
     }
 
     /// The `n` bytes from `addr` on, to be written. `holds` is the test.
@@ -235,8 +233,13 @@ impl<A: Allocator> GuestMemory<A> {
         ensures value { result.now ≡ part_of self.old addr n }
         ensures len { length result.now ≡ n }
     {
-        let place = place_inside(&self.regions, addr, n);
-        let region = &mut self.regions[place];
+        if self.own.is_empty() {
+            let place = lookup::place_inside(&self.lent, addr, n);
+            let region = &mut self.lent[place];
+            return region.part_mut(addr, n);
+        }
+        let place = lookup::place_inside(&self.own, addr, n);
+        let region = &mut self.own[place];
         region.part_mut(addr, n)
     }
 }

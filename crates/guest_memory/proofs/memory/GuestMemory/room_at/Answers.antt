@@ -1,38 +1,23 @@
-use Rattle.std.proofs.Common.{List, refl, arith}
-use Rattle.guest_memory.specs.Regions.{Region}
-use Rattle.guest_memory.proofs.InRegions.{searched, found_region, found_room, none_inside}
+use Rattle.std.proofs.Common.{◌≡◌, ◌<◌, ◌≤◌, ℕ, length, vec_len, ◌∙◌, ap, sym, subst, arith}
+use Rattle.std.specs.Prelude.{◌↔◌, IfSome}
+use Rattle.guest_memory.specs.Memory.{Inside, Memory}
+use Rattle.guest_memory.specs.Regions.{memory_of}
+use Rattle.guest_memory.proofs.Stocked.{lent_regions, regions_own, some_own}
 use Rattle.guest_memory.proofs.memory.GuestMemory.room_at.Goals as goal
 
-pub room_behind-room-requires : goal.room_behind-room-requires
-room_behind-room-requires g c =
-    let items : List Region = c.self.inside.regions.items in
-    let found = searched c.deref.result.now items c.args.addr c.in-Some.place c.place_of.result c.deref.ensures.value c.place_of.ensures c.in-Some.is in
-    (found_region items c.args.addr c.in-Some.place c.index.result.now found c.index.ensures).1
+pub returns-then-is_empty-clause-room : goal.returns-then-is_empty-clause-room
+returns-then-is_empty-clause-room g c =
+    let own = c.self.inside.own in
+    let size : length own.items ≡ vec_len own = omega (arith, own.ok.0) in
+    let is : memory_of c.deref.result.now ≡ c.args.self.now =
+    ap memory_of (c.deref.ensures.value ∙ sym (lent_regions own.items c.self.inside.lent.items (vec_len own) c.is_empty.result size c.is_empty.ensures c.if-is_empty.true)) ∙ c.self.view_is in
+    subst (λ (m : Memory). IfSome c.room_at.result (λ room. (n : ℕ) → (n ≤ room) ↔ Inside m c.args.addr n)) is c.room_at.ensures.room
 
-pub returns-in-None-clause-there : goal.returns-in-None-clause-there
-returns-in-None-clause-there g c =
-    none_inside c.deref.result.now c.self.inside.regions.items c.args.addr 1 c.place_of.result c.args.self.now c.self.view_is c.self.invariant.apart
-    c.deref.ensures.value c.place_of.ensures c.in-None.is
-
-pub returns-then-room-eq0-clause-there : goal.returns-then-room-eq0-clause-there
-returns-then-room-eq0-clause-there g c =
-    let items : List Region = c.self.inside.regions.items in
-    let found = searched c.deref.result.now items c.args.addr c.in-Some.place c.place_of.result c.deref.ensures.value c.place_of.ensures c.in-Some.is in
-    let room = found_room items c.args.addr c.in-Some.place c.room_behind-room.result c.index.result.now c.args.self.now c.self.view_is c.self.invariant.apart
-    found c.index.ensures c.room_behind-room.ensures.value in
-    (λ never. cc, λ inside. absurd (omega (arith, c.if-room-eq0.true, (room 1).1 inside)))
-
-pub returns-else-room-eq0-clause-there : goal.returns-else-room-eq0-clause-there
-returns-else-room-eq0-clause-there g c =
-    let items : List Region = c.self.inside.regions.items in
-    let found = searched c.deref.result.now items c.args.addr c.in-Some.place c.place_of.result c.deref.ensures.value c.place_of.ensures c.in-Some.is in
-    let room = found_room items c.args.addr c.in-Some.place c.room_behind-room.result c.index.result.now c.args.self.now c.self.view_is c.self.invariant.apart
-    found c.index.ensures c.room_behind-room.ensures.value in
-    (λ there. (room 1).0 (omega (arith, c.if-room-eq0.false)), λ inside. refl)
-
-pub returns-else-room-eq0-clause-room : goal.returns-else-room-eq0-clause-room
-returns-else-room-eq0-clause-room g c =
-    let items : List Region = c.self.inside.regions.items in
-    let found = searched c.deref.result.now items c.args.addr c.in-Some.place c.place_of.result c.deref.ensures.value c.place_of.ensures c.in-Some.is in
-    found_room items c.args.addr c.in-Some.place c.room_behind-room.result c.index.result.now c.args.self.now c.self.view_is c.self.invariant.apart
-    found c.index.ensures c.room_behind-room.ensures.value
+pub returns-clause-room : goal.returns-clause-room
+returns-clause-room g c =
+    let own = c.self.inside.own in
+    let size : length own.items ≡ vec_len own = omega (arith, own.ok.0) in
+    let some : 0 < length own.items = some_own own.items (vec_len own) c.is_empty.result size c.is_empty.ensures c.if-is_empty.false in
+    let is : memory_of c.deref-2.result.now ≡ c.args.self.now =
+    ap memory_of (c.deref-2.ensures.value ∙ sym (regions_own own.items c.self.inside.lent.items some)) ∙ c.self.view_is in
+    subst (λ (m : Memory). IfSome c.room_at-2.result (λ room. (n : ℕ) → (n ≤ room) ↔ Inside m c.args.addr n)) is c.room_at-2.ensures.room

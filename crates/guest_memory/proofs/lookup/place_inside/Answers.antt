@@ -1,6 +1,6 @@
 use Rattle.std.proofs.Common.{[], arith}
 use Rattle.guest_memory.proofs.InRegions.{found_inside, only_inside}
-use Rattle.guest_memory.proofs.memory.place_inside.Goals as goal
+use Rattle.guest_memory.proofs.lookup.place_inside.Goals as goal
 
 pub returns-then-regions-eq1-clause-region : goal.returns-then-regions-eq1-clause-region
 returns-then-regions-eq1-clause-region g c = λ d.
