@@ -16,6 +16,7 @@ fn place_of<A: Allocator>(regions: &[Region<A>], addr: u64) -> Option<usize>
 }
 
 /// The place of the region that holds the `n` bytes from `addr` on.
+#[inline(never)]
 pub(crate) fn place_inside<A: Allocator>(regions: &[Region<A>], addr: u64, n: u64) -> usize
     requires apart { AreApart regions.now }
     requires inside { Inside (memory_of regions.now) addr n }

@@ -197,6 +197,20 @@ impl<A: Allocator> GuestMemory<A> {
         ensures test { result ≡ is_inside self.now addr n }
         ensures fits { IsTrue result → addr + n ≤ 2 ^ 64 }
     {
+        if self.own.len() == 1 {
+            let region = &self.own[0];
+            return region.touches(addr) && n <= region.room_behind(addr);
+        }
+        self.holds_elsewhere(addr, n)
+    }
+
+    // The same where the memory isn't one region of the library's own bytes.
+    #[inline(never)]
+    fn holds_elsewhere(&self, addr: u64, n: u64) -> bool
+        ensures inside { IsTrue result ↔ Inside self.now addr n }
+        ensures test { result ≡ is_inside self.now addr n }
+        ensures fits { IsTrue result → addr + n ≤ 2 ^ 64 }
+    {
         if self.own.is_empty() {
             return lookup::holds(&self.lent, addr, n);
         }
@@ -220,6 +234,20 @@ impl<A: Allocator> GuestMemory<A> {
         ensures len { length result.now ≡ n }
         ensures fits { addr + n ≤ 2 ^ 64 }
     {
+        if self.own.len() == 1 {
+            return self.own[0].slice(addr, n);
+        }
+        self.slice_elsewhere(addr, n)
+    }
+
+    // The same where the memory isn't one region of the library's own bytes.
+    #[inline(never)]
+    fn slice_elsewhere(&self, addr: u64, n: u64) -> &[u8]
+        requires { Inside self.now addr n }
+        ensures value { result.now ≡ part_of self.now addr n }
+        ensures len { length result.now ≡ n }
+        ensures fits { addr + n ≤ 2 ^ 64 }
+    {
         if self.own.is_empty() {
             return lookup::slice(&self.lent, addr, n);
         }
@@ -233,6 +261,10 @@ impl<A: Allocator> GuestMemory<A> {
         ensures value { result.now ≡ part_of self.old addr n }
         ensures len { length result.now ≡ n }
     {
+        if self.own.len() == 1 {
+            let region = &mut self.own[0];
+            return region.part_mut(addr, n);
+        }
         if self.own.is_empty() {
             let place = lookup::place_inside(&self.lent, addr, n);
             let region = &mut self.lent[place];
