@@ -14,6 +14,7 @@ pub mod Runs
 pub mod Access
 pub mod Keeping
 pub mod Specs
+pub mod Loans
 pub mod Faults
 pub mod OneSeat
 pub mod Identities

@@ -64,7 +64,7 @@ refused_cache sectors slots cache BadCapacity good (inl none) = (good, (λ fits.
 refused_cache sectors slots cache BadCapacity good (inr many) = (good, (λ fits. omega arith, refl))
 refused_cache sectors slots cache NoMemory good refuses = (good, refuses)
 
-extents_of-opened : (slots : List SlotSpec) → extents_of (map opened slots) ≡ map (λ (spec : SlotSpec). spec.extent) slots
+pub extents_of-opened : (slots : List SlotSpec) → extents_of (map opened slots) ≡ map (λ (spec : SlotSpec). spec.extent) slots
 extents_of-opened [] = refl
 extents_of-opened (spec ∷ slots) = ap (λ (es : List Extent). spec.extent ∷ es) (extents_of-opened slots)
 

@@ -19,3 +19,4 @@ pub mod Fault
 pub mod Pausing
 pub mod Within
 pub mod Lending
+pub mod Lent

@@ -15,6 +15,8 @@ ghost use Rattle.board.specs.Image.{sectors_of};
 ghost use Rattle.board.specs.Fault.{AreGoodHosted, RefusesHosted};
 ghost use Rattle.board.specs.Hosting.{hosted_opened, operation_in};
 ghost use Rattle.board.specs.HostedLine.{KeepsOtherGuests, TakesCall};
+ghost use Rattle.board.specs.Lent.{AreBytesOf, hosted_over, made_over};
+ghost use Rattle.std.specs.Vec.{vec_items};
 
 mod access;
 mod laws;
@@ -23,7 +25,6 @@ mod saved;
 mod slot;
 mod view;
 
-use crate::check;
 use crate::event::EventKind;
 use crate::fault::BoardFault;
 pub use crate::hosted::laws::{
@@ -33,11 +34,13 @@ pub use crate::hosted::laws::{
 pub use crate::hosted::reply::HostedTaken;
 use crate::hosted::slot::HostedSlot;
 use crate::spec::SlotSpec;
+use crate::{check, lent};
 use block_device::{Operation, Verdict};
 use chain::Segment;
 use console_device::Outlet;
 use std::alloc::{AllocError, Allocator, Global};
 use std::marker::Model;
+use std_alloc::vec::Lodged;
 
 /// Up to sixty-four guests whose disks the host serves.
 #[derive(Drop)]
@@ -69,6 +72,27 @@ impl<A: Allocator + Copy> HostedBoard<A> {
     {
         check::hosted_slots(slots)?;
         match open_all(alloc, slots) {
+            Ok(slots) => Ok(HostedBoard { slots, alloc }),
+            Err(AllocError) => Err(BoardFault::NoMemory),
+        }
+    }
+
+    /// A board as `new` makes it, whose memories' bytes a host lends: those of each region, in the slots' order and in each
+    /// slot in the regions' order. None is copied, read or written, then or at the end.
+    pub fn over_lent(
+        alloc: A,
+        slots: &[SlotSpec],
+        bytes: Vec<Vec<u8, Lodged>, A>,
+    ) -> Result<HostedBoard<A>, BoardFault>
+        requires { AreBytesOf slots.now (map vec_items bytes.items) }
+        ensures made { IfOk result (λ board. board ≡ made_over hosted_over slots.now (map vec_items bytes.items)) }
+        ensures accepted { OnOk result (AreGoodHosted slots.now) }
+        ensures fault { IfErr result (λ fault. RefusesHosted slots.now fault) }
+        ensures exact { (fault : BoardFault) → fault ≢ BoardFault.NoMemory →
+            RefusesHosted slots.now fault → IsErrAnd result (λ why. why ≡ fault) }
+    {
+        check::hosted_slots(slots)?;
+        match open_all_over(alloc, slots, bytes) {
             Ok(slots) => Ok(HostedBoard { slots, alloc }),
             Err(AllocError) => Err(BoardFault::NoMemory),
         }
@@ -152,6 +176,25 @@ fn open_all<A: Allocator + Copy>(
     let mut slots = Vec::with_capacity(alloc, specs.len())?;
     for spec in specs {
         slots.push(HostedSlot::open(alloc, spec)?)?;
+    }
+    Ok(slots)
+}
+
+// Opens the slots in their order, over bytes that a host lends.
+fn open_all_over<A: Allocator + Copy>(
+    alloc: A,
+    specs: &[SlotSpec],
+    bytes: Vec<Vec<u8, Lodged>, A>,
+) -> Result<Vec<HostedSlot<A>, A>, AllocError>
+    requires good { AreGoodHosted specs.now }
+    requires bytes { AreBytesOf specs.now (map vec_items bytes.items) }
+    ensures { IfOk result (λ slots. slots.items ≡ made_over hosted_over specs.now (map vec_items bytes.items)) }
+{
+    let mut slots = Vec::with_capacity(alloc, specs.len())?;
+    let mut rest = bytes.into_iter();
+    for spec in specs {
+        let memory = lent::memory(alloc, spec.regions.as_slice(), &mut rest)?;
+        slots.push(HostedSlot::over(alloc, spec, memory)?)?;
     }
     Ok(slots)
 }

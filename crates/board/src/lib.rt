@@ -8,7 +8,7 @@
 //! `board` is the board. `spec` says what it is made of, `check` and `fault` why one is refused;
 //! `event` is what comes in and `reply` what goes out, and `pause` what an event comes to whose service
 //! may pause. `slot` serves one guest, its memory, its two windows and its two devices, and knows of no
-//! other; `features` says what its devices offer. `laws` has what holds of every run by itself.
+//! other; `features` says what its devices offer, and `lent` makes its memory of a host's bytes. `laws` has what holds of every run by itself.
 #![tactic(auto)]
 
 mod board;
@@ -19,6 +19,7 @@ mod fault;
 mod features;
 mod hosted;
 mod laws;
+mod lent;
 mod pause;
 mod reply;
 mod saved;

@@ -11,6 +11,7 @@ ghost use Rattle.guest_memory.specs.Memory.{Inside, IsRest};
 ghost use Rattle.block_device.specs.Extent.{IsWithin, TouchesExtent};
 ghost use Rattle.board.specs.Image.{Tells, bytes_of, health_of};
 ghost use Rattle.board.specs.Lending.{LendsBytes};
+ghost use Rattle.board.specs.Lent.{AreBytesOf, made_over, opened_over};
 ghost use Rattle.board.specs.Pausing.{Begins, GoesOn, HasLimit, ServesTurn, lacks_memory_in, met_in};
 ghost use Rattle.board.specs.Slot.{IsUnnoted, StaysInSlot, interrupt_words, opened, state_of};
 ghost use Rattle.board.specs.World.{MayLackMemory};
@@ -18,6 +19,7 @@ ghost use Rattle.board.specs.Within.{BeginsWithin, GoesOnWithin};
 ghost use Rattle.board.specs.declared.pause.Pause.{Pause};
 ghost use Rattle.board.specs.declared.pause.Turn.{Turn};
 ghost use Rattle.board.specs.declared.reply.Reply.{Reply};
+ghost use Rattle.std.specs.Vec.{vec_items};
 ghost use Rattle.std.specs.Borrow.{sem};
 
 mod console;
@@ -29,10 +31,10 @@ mod view;
 mod window;
 
 use crate::event::EventKind;
-use crate::features;
 use crate::pause::{Pause, Turn};
 use crate::reply::Reply;
 use crate::spec::SlotSpec;
+use crate::{features, lent};
 use block_device::BlockDevice;
 use chain::{Budget, Chain};
 use console_device::{ConsoleDevice, Outlet};
@@ -41,6 +43,7 @@ use mmio_window::{DeviceKind, Stage, Window};
 use sector_cache::{Image, SectorCache};
 use std::alloc::{AllocError, Allocator, Global};
 use std::marker::Model;
+use std_alloc::vec::Lodged;
 
 /// One guest's part of a board.
 #[derive(Drop)]
@@ -86,7 +89,7 @@ struct Answer<A: Allocator = Global> {
 }
 
 impl<A: Allocator + Copy> Slot<A> {
-    /// Opens a slot.
+    /// Opens a slot over a memory of zeros.
     pub(crate) fn open(alloc: A, spec: &SlotSpec) -> Result<Slot<A>, AllocError>
         requires { AreGoodRegions spec.now.regions }
         ensures { IfOk result (λ slot. slot ≡ opened spec.now) }
@@ -94,6 +97,17 @@ impl<A: Allocator + Copy> Slot<A> {
         let Ok(memory) = GuestMemory::with_regions(alloc, spec.regions.as_slice()) else {
             return Err(AllocError);
         };
+        Slot::over(alloc, spec, memory)
+    }
+
+    /// Opens a slot over a memory that is there.
+    pub(crate) fn over(
+        alloc: A,
+        spec: &SlotSpec,
+        memory: GuestMemory<A>,
+    ) -> Result<Slot<A>, AllocError>
+        ensures { IfOk result (λ slot. slot ≡ opened_over spec.now memory) }
+    {
         let Ok(console_device) = ConsoleDevice::new(alloc, spec.cols, spec.rows) else {
             return Err(AllocError);
         };
@@ -293,6 +307,25 @@ pub(crate) fn open_all<A: Allocator + Copy>(
     let mut slots = Vec::with_capacity(alloc, specs.len())?;
     for spec in specs {
         slots.push(Slot::open(alloc, spec)?)?;
+    }
+    Ok(slots)
+}
+
+/// Opens the slots in their order, over bytes that a host lends.
+pub(crate) fn open_all_over<A: Allocator + Copy>(
+    alloc: A,
+    specs: &[SlotSpec],
+    bytes: Vec<Vec<u8, Lodged>, A>,
+) -> Result<Vec<Slot<A>, A>, AllocError>
+    requires good { All (λ spec. AreGoodRegions spec.regions) specs.now }
+    requires bytes { AreBytesOf specs.now (map vec_items bytes.items) }
+    ensures { IfOk result (λ slots. slots.items ≡ made_over opened_over specs.now (map vec_items bytes.items)) }
+{
+    let mut slots = Vec::with_capacity(alloc, specs.len())?;
+    let mut rest = bytes.into_iter();
+    for spec in specs {
+        let memory = lent::memory(alloc, spec.regions.as_slice(), &mut rest)?;
+        slots.push(Slot::over(alloc, spec, memory)?)?;
     }
     Ok(slots)
 }

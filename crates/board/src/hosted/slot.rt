@@ -11,7 +11,8 @@ ghost use Rattle.board.specs.declared.event.EventKind.{EventKind};
 ghost use Rattle.guest_memory.specs.Faults.{AreGood as AreGoodRegions};
 ghost use Rattle.board.specs.Image.{sectors_of};
 ghost use Rattle.board.specs.Machine.{block_irq, console_irq};
-ghost use Rattle.board.specs.Hosting.{IsOwn, LooksAtQueue, TakesHosted, flight_by, hosted_opened, must_wait, operation_in};
+ghost use Rattle.board.specs.Hosting.{IsOwn, IsSoundHosted, LooksAtQueue, TakesHosted, flight_by, hosted_opened, hosted_slot, must_wait, operation_in};
+ghost use Rattle.board.specs.Lent.{hosted_over};
 ghost use Rattle.board.specs.Within.{TakesWithin};
 
 mod access;
@@ -26,6 +27,7 @@ use crate::spec::SlotSpec;
 use block_device::{Flight, Hosted, Operation, Verdict};
 use chain::{Budget, Chain, Runs, Segment};
 use console_device::Outlet;
+use guest_memory::GuestMemory;
 use mmio_window::{DeviceKind, may_stop_queues};
 use std::alloc::{AllocError, Allocator, Global};
 use std::marker::Model;
@@ -52,19 +54,27 @@ impl<A: Allocator> Model for HostedSlot<A> {
 }
 
 impl<A: Allocator + Copy> HostedSlot<A> {
-    /// Opens a slot. Its disk has as many sectors as the extent counts, from the first on.
+    /// Opens a slot over a memory of zeros. Its disk has as many sectors as the extent counts, from the first on.
     pub(crate) fn open(alloc: A, spec: &SlotSpec) -> Result<HostedSlot<A>, AllocError>
         requires memory { AreGoodRegions spec.now.regions }
         requires disk { sector_len * spec.now.extent.count < 2 ^ 64 }
         ensures { IfOk result (λ slot. slot ≡ hosted_opened spec.now) }
     {
         let slot = Slot::open(alloc, &own_disk(spec))?;
-        Ok(HostedSlot {
-            slot,
-            flight: None,
-            room: Chain::new(),
-            runs: Runs::new(),
-        })
+        Ok(HostedSlot::at_rest(slot))
+    }
+
+    /// Opens a slot over a memory that is there.
+    pub(crate) fn over(
+        alloc: A,
+        spec: &SlotSpec,
+        memory: GuestMemory<A>,
+    ) -> Result<HostedSlot<A>, AllocError>
+        requires { sector_len * spec.now.extent.count < 2 ^ 64 }
+        ensures { IfOk result (λ slot. slot ≡ hosted_over spec.now memory) }
+    {
+        let slot = Slot::over(alloc, &own_disk(spec), memory)?;
+        Ok(HostedSlot::at_rest(slot))
     }
 
     /// Handles one event of the slot's guest, or completes what is in flight. What its console puts out is appended to
@@ -107,6 +117,19 @@ impl<A: Allocator + Copy> HostedSlot<A> {
 }
 
 impl<A: Allocator> HostedSlot<A> {
+    // A slot of which nothing is in flight.
+    fn at_rest(slot: Slot<A>) -> HostedSlot<A>
+        requires { IsSoundHosted slot None }
+        ensures { result ≡ record { slot = hosted_slot slot; flight = None } }
+    {
+        HostedSlot {
+            slot,
+            flight: None,
+            room: Chain::new(),
+            runs: Runs::new(),
+        }
+    }
+
     // Whether an event waits for the completion.
     fn holds_up(&self, what: &EventKind<A>) -> bool
         ensures { result ≡ (is_some self.now.flight && must_wait what.now) }
