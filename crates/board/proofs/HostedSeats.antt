@@ -54,6 +54,6 @@ pub others_stay : (slots : List HostedState) (h : ℕ) (new : HostedState) (othe
 others_stay slots h new other differ = get_set_other slots h other new (λ same. differ (sym same))
 
 -- where a slice has no such item, its list has none
-pub none_there : (slots seen : List HostedState) (i : ℕ) (found : Option (Bor HostedState)) → slots ≡ seen → IsItemAt slots i found → IfNone found (slice_get seen i ≡ None)
+pub none_there : {X : Type 0} (slots seen : List X) (i : ℕ) (found : Option (Bor X)) → slots ≡ seen → IsItemAt slots i found → IfNone found (slice_get seen i ≡ None)
 none_there slots seen i None same at = rw (← same) (slice_get_past slots i at.3)
 none_there slots seen i (Some found) same at = tt

@@ -1,4 +1,4 @@
-use Rattle.std.proofs.Common.{◌≡◌, ◌*◌, ◌^◌, ◌<◌, List, length, drop, map, sym, subst, ap, ◌∙◌}
+use Rattle.std.proofs.Common.{◌*◌, ◌^◌, ◌<◌, List, length, drop, map, sym, subst, ap, ◌∙◌}
 use Rattle.std.specs.Vec.{vec_items}
 use Rattle.std.specs.Vec.Iter.{into_iter_items}
 use Rattle.guest_memory.specs.declared.spec.RegionSpec.{RegionSpec}

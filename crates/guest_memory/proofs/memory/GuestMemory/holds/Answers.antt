@@ -1,9 +1,9 @@
 use Rattle.std.proofs.Common.{◌≡◌, List, length, ◌∙◌, ap, sym, subst, arith}
 use Rattle.guest_memory.specs.Memory.{Inside}
 use Rattle.guest_memory.specs.Regions.{Region, AreRegions, memory_of}
-use Rattle.guest_memory.proofs.InRegions.{same_test}
+use Rattle.guest_memory.proofs.InRegions.{one_holds, one_misses, same_test}
 use Rattle.guest_memory.proofs.Ranges.{is_inside-tells}
-use Rattle.guest_memory.proofs.Stocked.{one_region, one_holds, one_misses}
+use Rattle.guest_memory.proofs.Stocked.{one_region}
 use Rattle.guest_memory.proofs.memory.GuestMemory.holds.Goals as goal
 
 pub returns-then-touches-clause-inside : goal.returns-then-touches-clause-inside

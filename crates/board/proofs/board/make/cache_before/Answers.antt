@@ -1,5 +1,4 @@
-use Rattle.board.proofs.Specs.{refused_cache}
-use Rattle.board.proofs.board.cache_before.Goals as goal
+use Rattle.board.proofs.board.make.cache_before.Goals as goal
 
 pub returns-in-Err-clause-fault : goal.returns-in-Err-clause-fault
 returns-in-Err-clause-fault g c = rw (← c.sectors.ensures) (c.in-Err.ensures.fault c.args.cache)
