@@ -3,5 +3,4 @@ pub mod Gaps
 pub mod Ranges
 pub mod InRegions
 pub mod Placing
-pub mod Spellings
 pub mod Stocked

@@ -10,11 +10,6 @@ use Rattle.guest_memory.proofs.Gaps.{misses-none, misses_part, misses_all-true, 
 pub length-put_at : (xs : List ℕ) (i : ℕ) (bs : List ℕ) → length (put_at xs i bs) ≡ length xs
 length-put_at xs i bs = simp (length-take, length-append, length-drop) (omega arith)
 
--- what was written in a list is read back
-pub take-put_at : (xs : List ℕ) (i : ℕ) (bs : List ℕ) → i + length bs ≤ length xs → take (length bs) (drop i (put_at xs i bs)) ≡ bs
-take-put_at xs i bs fits =
-    same_lists _ _ (simp (length-take, length-append, length-drop) (omega arith)) (λ k d h. grind (arith, places))
-
 -- a range that lies inside is written whole
 pub written : (m : Memory) (a : ℕ) (bs : List ℕ) → Inside m a (length bs) → up_to_gap m.gaps a bs ≡ bs
 written m a bs inside = up_to_gap-all m.gaps a bs inside.clear
@@ -35,31 +30,6 @@ whole_inside m n one same = record {
 pub inside_part : {m : Memory} {a n b k : ℕ} → Inside m a n → a ≤ b → b + k ≤ a + n → Inside m b k
 inside_part {m} {a} {n} {b} {k} h above below =
     record { above = omega (arith, h.above); below = omega (arith, h.below); clear = misses_part m.gaps a n b k above below h.clear }
-
--- what was written is read back
-pub part_of-put : (m : Memory) (a : ℕ) (bs : List ℕ) → Inside m a (length bs) → part_of (put m a bs) a (length bs) ≡ bs
-part_of-put m a bs inside =
-    ap (λ (ws : List ℕ). take (length bs) (drop (a - m.base) (put_at m.bytes (a - m.base) ws))) (written m a bs inside)
-    ∙ take-put_at m.bytes (a - m.base) bs (omega arith)
-
--- a part of a list in front of what was written is as before
-pub before-put_at : (xs : List ℕ) (i : ℕ) (bs : List ℕ) (j n : ℕ) → i + length bs ≤ length xs → j + n ≤ i → take n (drop j (put_at xs i bs)) ≡ take n (drop j xs)
-before-put_at xs i bs j n fits apart =
-    same_lists _ _ (simp (length-take, length-append, length-drop) (omega arith)) (λ k d h. grind (arith, places))
-
--- and one behind it too
-pub behind-put_at : (xs : List ℕ) (i : ℕ) (bs : List ℕ) (j n : ℕ) → i + length bs ≤ length xs → i + length bs ≤ j → j + n ≤ length xs → take n (drop j (put_at xs i bs)) ≡ take n (drop j xs)
-behind-put_at xs i bs j n fits apart within =
-    same_lists _ _ (simp (length-take, length-append, length-drop) (omega arith)) (λ k d h. grind (arith, places))
-
--- a range beside the written one is as before
-pub part_of-put_apart : (m : Memory) (a : ℕ) (bs : List ℕ) (b n : ℕ) → Inside m a (length bs) → Inside m b n → (a + length bs ≤ b) ⊎ (b + n ≤ a) → part_of (put m a bs) b n ≡ part_of m b n
-part_of-put_apart m a bs b n inside other apart =
-    ap (λ (x : Memory). part_of x b n) (put_bytes m a bs inside) ∙ beside apart
-  where
-    beside : (a + length bs ≤ b) ⊎ (b + n ≤ a) → take n (drop (b - m.base) (put_at m.bytes (a - m.base) bs)) ≡ part_of m b n
-    beside (inl behind) = behind-put_at m.bytes (a - m.base) bs (b - m.base) n (omega (arith, inside.above, inside.below)) (omega (arith, inside.above)) (omega (arith, other.above, other.below))
-    beside (inr before) = before-put_at m.bytes (a - m.base) bs (b - m.base) n (omega (arith, inside.above, inside.below)) (omega (arith, inside.above, other.above))
 
 -- a write leaves the range
 pub put_range : (m : Memory) (a : ℕ) (bs : List ℕ) → SameRange m (put m a bs)
