@@ -131,7 +131,7 @@ opened_all made slots all count opened rest over took =
     let none : drop count slots ≡ [] = drop_all count slots over in
     sym (append-nil opened) ∙ sym (ap (λ (ss : List SlotSpec). opened ++ made_over made ss rest) none) ∙ sym took.are
 
--- what the words of a board's making come to: a board is made of the slots that were opened
+-- a board that was made is one of the slots that were opened
 pub made_of : {S X B E F : Type 0} (items : S → X) (board : X → B) (made : Result B E) (opened : Result S F) (all : X)
     → IfOk made (λ b. IsOkAnd opened (λ s. b ≡ board (items s))) → IfOk opened (λ s. items s ≡ all) → IfOk made (λ b. b ≡ board all)
 made_of items board (Ok b) (Ok s) all is are = is ∙ ap board are
@@ -148,6 +148,6 @@ pub sound_over : (sectors : ℕ) (slots : List SlotSpec) (bytes : List (List ℕ
 sound_over sectors slots bytes good =
     subst (AreSound sectors) (extents_of-opened slots ∙ sym (extents_of-over slots bytes)) (sound sectors slots good)
 
--- they do under any name of their list
+-- and so does the same list under another name
 pub same_sound : (sectors : ℕ) (all slots : List BoardSlot) → slots ≡ all → AreSound sectors (extents_of all) → AreSound sectors (extents_of slots)
 same_sound sectors all slots same sound = subst (λ (xs : List BoardSlot). AreSound sectors (extents_of xs)) (sym same) sound
