@@ -1,13 +1,11 @@
-//! The bytes of one region of a guest's memory: the library's own, or a host's.
+//! The bytes that a host lends of its own memory.
 //!
 //! A guest's memory may be larger than a library should copy or clear, and a host often has it already, as a
-//! mapping that a guest runs on. The layers above see one type for both: they slice, write and drop.
+//! mapping that a guest runs on. `loan` has what C hands over, `lent` makes a `Vec` of it, which can't grow and frees nothing.
 #![tactic(auto)]
 
-mod bytes;
 mod lent;
 mod loan;
 
-pub use bytes::GuestBytes;
 pub use lent::lend;
 pub use loan::Loan;

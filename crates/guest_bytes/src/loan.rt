@@ -1,33 +1,61 @@
 //! A run of bytes as C lends it.
 
-ghost use Rattle.std.specs.Prelude.{◌≡◌, ℕ, ◌^◌, ◌<◌, List};
-ghost use Rattle.std.specs.Borrow.{full_share, u8};
-ghost use Rattle.std.specs.Ptr.{lies_at};
-ghost use denote.Array.{Array};
+ghost use Rattle.std.specs.Prelude.{◌≡◌, ℕ, ◌^◌, ◌<◌, List, [], length};
+ghost use Rattle.guest_bytes.specs.Loaned.{loaned};
 
 use crate::lent::lend;
 use std::marker::Model;
 use std_alloc::vec::Lodged;
 
-/// The `len` bytes from `ptr` on, which C gives up. An export takes it by value.
+/// The `len` bytes from `ptr` on, which C gives up; of no bytes `ptr` may be null. An export takes it by value, or out of an
+/// array of loans, in which it leaves an empty one.
 #[repr(C)]
 pub struct Loan {
     ptr: *mut u8,
     len: usize,
     pub ghost items: { List ℕ },
+    pub ghost sized: { length items ≡ len },
     pub ghost small: { len < 2 ^ 63 },
 }
 
 impl Model for Loan {
-    ghost also_owns = { λ loan. lies_at (Array u8 loan.len) full_share loan.ptr loan.items };
+    ghost also_owns = { λ loan. loaned loan.ptr loan.len loan.items };
 }
 
 impl Loan {
+    /// A loan of no bytes, at null.
+    pub fn empty() -> Loan
+        ensures { result.items ≡ [] }
+    {
+        Loan {
+            ptr: std::ptr::null_mut(),
+            len: 0,
+        }
+    }
+
+    /// Takes the bytes out, and leaves none.
+    pub fn take(&mut self) -> Vec<u8, Lodged>
+        ensures taken { result.items ≡ self.old.items }
+        ensures left { self.new.items ≡ [] }
+    {
+        std::mem::replace(self, Loan::empty()).into_bytes()
+    }
+
     /// The bytes.
     pub fn into_bytes(self) -> Vec<u8, Lodged>
         ensures { result.items ≡ self.items }
     {
         let Loan { ptr, len } = self;
+        if len == 0 {
+            return none();
+        }
         unsafe { lend(ptr, len) }
     }
+}
+
+// No bytes.
+fn none() -> Vec<u8, Lodged>
+    ensures { result.items ≡ [] }
+{
+    Vec::new(Lodged)
 }
