@@ -7,11 +7,11 @@ use crate::lent::lend;
 use std::marker::Model;
 use std_alloc::vec::Lodged;
 
-/// The `len` bytes from `ptr` on, which C gives up; of no bytes `ptr` may be null. An export takes it by value, or out of an
-/// array of loans, in which it leaves an empty one.
+/// `len` bytes that C gives up; of none the pointer may be null. An export takes it by value, or takes the bytes out of an
+/// array of loans.
 #[repr(C)]
 pub struct Loan {
-    ptr: *mut u8,
+    bytes: *mut u8,
     len: usize,
     pub ghost items: { List ℕ },
     pub ghost sized: { length items ≡ len },
@@ -19,7 +19,7 @@ pub struct Loan {
 }
 
 impl Model for Loan {
-    ghost also_owns = { λ loan. loaned loan.ptr loan.len loan.items };
+    ghost also_owns = { λ loan. loaned loan.bytes loan.len loan.items };
 }
 
 impl Loan {
@@ -28,7 +28,7 @@ impl Loan {
         ensures { result.items ≡ [] }
     {
         Loan {
-            ptr: std::ptr::null_mut(),
+            bytes: std::ptr::null_mut(),
             len: 0,
         }
     }
@@ -45,11 +45,11 @@ impl Loan {
     pub fn into_bytes(self) -> Vec<u8, Lodged>
         ensures { result.items ≡ self.items }
     {
-        let Loan { ptr, len } = self;
+        let Loan { bytes, len } = self;
         if len == 0 {
             return none();
         }
-        unsafe { lend(ptr, len) }
+        unsafe { lend(bytes, len) }
     }
 }
 

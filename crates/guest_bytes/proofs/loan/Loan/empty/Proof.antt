@@ -34,7 +34,7 @@ use Rattle.guest_bytes.proofs.loan.Loan.empty.Statement as stated
 use Rattle.guest_bytes.proofs.loan.Loan.empty.Code as code
 
 abbrev made : (R.the_row).Denot
-made = record { ptr = null_ptr; len = 0; items = []; sized = refl; small = lit< tt }
+made = record { bytes = null_ptr; len = 0; items = []; sized = refl; small = lit< tt }
 
 abbrev word : Val
 word = vstruct (of_list (vnull ∷ vint w64 0 ∷ []))

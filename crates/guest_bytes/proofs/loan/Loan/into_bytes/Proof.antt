@@ -154,10 +154,10 @@ module _ {M : Type 1} {𝓤 : Ura M} (𝓛 : Logic 𝓤) (at_mem : Memory → SP
       qed 𝓛 ((‵ ftrue ⊛ ‵ (fsep ((R.the_row).own_val d z.0.4.0) ftrue)) ∷ raw (emp 𝓤) ∷ []) ∵ split ! $ drop ! $ fsplit ! $
       fsplit ! $ fpick ! (λ vss. fsplit ! $ feq_l ! (λ ev. fsplit ! $ feq_l ! (λ ep. fsplit ! $ fsplit ! $ feq_l ! (λ el. flt_l ! (λ fits. drop ! $
       keep ! (0 ∷ []) $
-      let is : z.0.4.0 ≡ word (ptr_val d.ptr) d.len ∷ [] = ev ∙ ap (λ ps. vstruct (of_list (ps ++ (vss.1.0 ++ []))) ∷ []) ep
-      ∙ ap (λ ws. vstruct (of_list ((ptr_val d.ptr ∷ []) ++ (ws ++ []))) ∷ []) el in
+      let is : z.0.4.0 ≡ word (ptr_val d.bytes) d.len ∷ [] = ev ∙ ap (λ ps. vstruct (of_list (ps ++ (vss.1.0 ++ []))) ∷ []) ep
+      ∙ ap (λ ws. vstruct (of_list ((ptr_val d.bytes ∷ []) ++ (ws ++ []))) ∷ []) el in
       regoal ! (λ (us : List Val). prop (WpFn 𝓤 H 𝓣.C 𝓣.Λ code.function (us ++ []) Post)) is refl $
-      by ! (at d.ptr d.len d.sized fits d.small))))))
+      by ! (at d.bytes d.len d.sized fits d.small))))))
 
 pub into_bytes_spec : {M : Type 1} → stated.statement M
 unfolding tables_of
