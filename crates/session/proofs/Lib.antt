@@ -15,3 +15,5 @@ pub mod HostedSteps
 pub mod HostedAlone
 pub mod HostedLaws
 pub mod HostedExact
+pub mod Loans
+pub mod Refusals

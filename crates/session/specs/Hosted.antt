@@ -10,8 +10,9 @@ use Rattle.board.specs.declared.reply.Reply.{Reply}
 use Rattle.board.specs.Fault.{RefusesHosted}
 use Rattle.board.specs.Hosting.{HostedState, InFlight, hosted_opened, must_wait, operation_in}
 use Rattle.board.specs.HostedLine.{KeepsOtherGuests, TakesCall, with_slot_bytes}
+use Rattle.board.specs.Lent.{AreBytesOf, hosted_over, made_over}
 use Rattle.session.specs.declared.fault.SessionFault.{SessionFault}
-use Rattle.session.specs.declared.fault.SessionFault.TheVariants.{BadImage, BadOutlet, SpentBudget, Board, NoMemory}
+use Rattle.session.specs.declared.fault.SessionFault.TheVariants.{BadLoan, BadImage, BadOutlet, SpentBudget, Board, NoMemory}
 use Rattle.session.specs.declared.guest.GuestSpec.{GuestSpec}
 use Rattle.session.specs.declared.hosted.progress.HostedProgress.{HostedProgress}
 use Rattle.session.specs.declared.hosted.progress.HostedProgress.TheVariants.{Done, Asks}
@@ -28,6 +29,12 @@ abbrev pub new_hosted_session : List GuestSpec → HostedSessionState
 new_hosted_session guests = record {
   slots = map hosted_opened (slots_of guests);
   outputs = map (λ guest. none_waiting guest.outlet) guests;
+}
+
+-- a new session whose guests' memories have these bytes: those of each region, guest by guest
+abbrev pub new_hosted_session_over : List GuestSpec → List (List ℕ) → HostedSessionState
+new_hosted_session_over guests bytes = record (new_hosted_session guests) {
+  slots = made_over hosted_over (slots_of guests) bytes;
 }
 
 -- A call for a slot: a call of the board by the slot's outlet, whose output stands behind what waits there. Nothing else
@@ -89,8 +96,14 @@ pub record IsHostedBoardFault (guests : List GuestSpec) (fault : BoardFault) : T
 -- Why a session is refused: an outlet, then what a board is refused for. Want of memory may come before the latter, and
 -- comes only where no outlet is too large.
 abbrev pub IsHostedRefusedFor : List GuestSpec → SessionFault → Type 0
+IsHostedRefusedFor guests BadLoan = ⊥
 IsHostedRefusedFor guests BadImage = ⊥
 IsHostedRefusedFor guests BadOutlet = ¬ AreOutlets guests
 IsHostedRefusedFor guests SpentBudget = ⊥
 IsHostedRefusedFor guests (Board fault) = IsHostedBoardFault guests fault
 IsHostedRefusedFor guests NoMemory = AreOutlets guests
+
+-- Why a session over lent memory is refused: the lent bytes, and then what one over memory of its own is refused for.
+abbrev pub IsHostedLentRefusedFor : List GuestSpec → List (List ℕ) → SessionFault → Type 0
+IsHostedLentRefusedFor guests bytes BadLoan = ¬ AreBytesOf (slots_of guests) bytes
+IsHostedLentRefusedFor guests bytes why = AreBytesOf (slots_of guests) bytes × IsHostedRefusedFor guests why

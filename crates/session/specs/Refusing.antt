@@ -4,14 +4,19 @@ use Rattle.chain.specs.declared.budget.Budget.{Budget}
 use Rattle.chain.specs.Budget.{IsSpent}
 use Rattle.board.specs.declared.fault.BoardFault.{BoardFault}
 use Rattle.board.specs.Fault.{Refuses}
+use Rattle.board.specs.Lent.{AreBytesOf}
 use Rattle.session.specs.declared.fault.SessionFault.{SessionFault}
-use Rattle.session.specs.declared.fault.SessionFault.TheVariants.{BadImage, BadOutlet, SpentBudget, Board, NoMemory}
+use Rattle.session.specs.declared.fault.SessionFault.TheVariants.{BadLoan, BadImage, BadOutlet, SpentBudget, Board, NoMemory}
 use Rattle.session.specs.declared.guest.GuestSpec.{GuestSpec}
 use Rattle.session.specs.Session.{slots_of}
 
 -- no more output of a guest may wait than 2^24 bytes
 abbrev pub AreOutlets : List GuestSpec → Type 0
 AreOutlets guests = All (λ guest. guest.outlet ≤ 2 ^ 24) guests
+
+-- what is judged before the board: the image's size, the outlets and the budget
+abbrev pub IsJudged : List GuestSpec → List ℕ → Budget → Type 0
+IsJudged guests image budget = (length image % 512 ≡ 0) × AreOutlets guests × ¬ IsSpent budget
 
 -- the board would be refused for this, over an image of whole sectors
 pub record IsBoardFault (guests : List GuestSpec) (image : List ℕ) (cache : ℕ) (budget : Budget) (fault : BoardFault)
@@ -25,11 +30,18 @@ pub record IsBoardFault (guests : List GuestSpec) (image : List ℕ) (cache : �
 -- Why a session is refused: the image's size, then an outlet, then the budget, then what a board is refused for. Want
 -- of memory may come before the latter, and comes only where none of the others holds.
 abbrev pub IsRefusedFor : List GuestSpec → List ℕ → ℕ → Budget → SessionFault → Type 0
+IsRefusedFor guests image cache budget BadLoan = ⊥
 IsRefusedFor guests image cache budget BadImage = length image % 512 ≢ 0
 IsRefusedFor guests image cache budget BadOutlet = (length image % 512 ≡ 0) × ¬ AreOutlets guests
 IsRefusedFor guests image cache budget SpentBudget = (length image % 512 ≡ 0) × AreOutlets guests × IsSpent budget
 IsRefusedFor guests image cache budget (Board fault) = IsBoardFault guests image cache budget fault
-IsRefusedFor guests image cache budget NoMemory = (length image % 512 ≡ 0) × AreOutlets guests × ¬ IsSpent budget
+IsRefusedFor guests image cache budget NoMemory = IsJudged guests image budget
+
+-- Why a session over lent memory is refused: the lent bytes, and then what one over memory of its own is refused for.
+abbrev pub IsLentRefusedFor : List GuestSpec → List (List ℕ) → List ℕ → ℕ → Budget → SessionFault → Type 0
+IsLentRefusedFor guests bytes image cache budget BadLoan = ¬ AreBytesOf (slots_of guests) bytes
+IsLentRefusedFor guests bytes image cache budget why =
+    AreBytesOf (slots_of guests) bytes × IsRefusedFor guests image cache budget why
 
 -- why there is no session where there is no board
 abbrev pub session_fault : BoardFault → SessionFault

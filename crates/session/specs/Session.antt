@@ -12,6 +12,7 @@ use Rattle.board.specs.declared.reply.Reply.{Reply}
 use Rattle.board.specs.declared.reply.Reply.TheVariants.{BadSlot, BadRange, NoMemory}
 use Rattle.board.specs.declared.spec.SlotSpec.{SlotSpec}
 use Rattle.board.specs.Lending.{put_back}
+use Rattle.board.specs.Lent.{made_over, opened_over}
 use Rattle.board.specs.Slot.{BoardSlot, SlotState, opened, state_of}
 use Rattle.board.specs.World.{World, Answers, KeepsOthers, MayLackMemory, extents_of, seen}
 use Rattle.board.specs.Within.{MayPutOut, TakesWithin}
@@ -112,6 +113,12 @@ new_session guests image budget = record {
   outputs = map (λ guest. none_waiting guest.outlet) guests;
   paused = replicate (length guests) None;
   budget = budget;
+}
+
+-- a new session whose guests' memories have these bytes: those of each region, guest by guest
+abbrev pub new_session_over : List GuestSpec → List (List ℕ) → List ℕ → Budget → SessionState
+new_session_over guests bytes image budget = record (new_session guests image budget) {
+  slots = made_over opened_over (slots_of guests) bytes;
 }
 
 -- a session in which a slot, which was this one, has another memory, and nothing else is other

@@ -9,6 +9,9 @@ use thiserror::Error;
 /// A session that was refused.
 #[derive(Clone, Copy, Debug, Error, PartialEq, Eq)]
 pub enum SessionFault {
+    /// The lent bytes aren't as many as the guests' regions have, one run for each.
+    #[error("lent bytes have another number or length than the regions")]
+    BadLoan,
     /// The image isn't whole sectors of 512 bytes.
     #[error("the image isn't whole sectors of 512 bytes")]
     BadImage,

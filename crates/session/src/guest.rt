@@ -1,12 +1,15 @@
 //! What a session is made of.
 
-ghost use Rattle.std.specs.Prelude.{◌≡◌, ◌↔◌, map, IsTrue, IfOk};
+ghost use Rattle.std.specs.Prelude.{◌≡◌, ◌↔◌, length, map, take, IsTrue, IfOk};
+ghost use Rattle.std.specs.Vec.{vec_items};
+ghost use Rattle.board.specs.Lent.{AreBytesOf};
 ghost use Rattle.session.specs.Refusing.{AreOutlets};
 ghost use Rattle.session.specs.Session.{none_waiting, slots_of};
 
 use crate::output_queue::OutputQueue;
-use board::SlotSpec;
+use board::{RegionSpec, SlotSpec};
 use std::alloc::{AllocError, Allocator};
+use std_alloc::vec::Lodged;
 
 /// How many bytes of one guest's output may wait at most.
 const MOST_WAITING: u32 = 0x100_0000;
@@ -26,6 +29,37 @@ pub(crate) fn are_outlets(guests: &[GuestSpec]) -> bool
     ensures { IsTrue result ↔ AreOutlets guests.now }
 {
     guests.iter().all(|guest| guest.outlet <= MOST_WAITING)
+}
+
+/// Whether there are bytes for each region of the guests, in their order and as many as it has.
+pub(crate) fn are_bytes_of(guests: &[GuestSpec], bytes: &[Vec<u8, Lodged>]) -> bool
+    ensures { IsTrue result ↔ AreBytesOf (slots_of guests.now) (map vec_items bytes.now) }
+{
+    let mut next = 0;
+    for guest in guests {
+        let regions = guest.slot.regions.as_slice();
+        if !begin_as_long(regions, &bytes[next..]) {
+            return false;
+        }
+        next += regions.len();
+    }
+    next == bytes.len()
+}
+
+// Whether the first runs have as many bytes as these regions.
+fn begin_as_long(regions: &[RegionSpec], bytes: &[Vec<u8, Lodged>]) -> bool
+    ensures { IsTrue result ↔ (map (λ run. length run) (map vec_items (take (length regions.now) bytes.now))
+        ≡ map (λ region. region.len) regions.now) }
+{
+    if bytes.len() < regions.len() {
+        return false;
+    }
+    for place in 0..regions.len() {
+        if bytes[place].len() as u64 != regions[place].len {
+            return false;
+        }
+    }
+    true
 }
 
 /// The guests' slots of the board.

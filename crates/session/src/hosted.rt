@@ -4,16 +4,18 @@
 //! A module for each kind of call: `registers`, `disk`, `memory`, `console` and `saved`. `progress` is what a write or a
 //! completion came to, and `laws` has what holds of all calls, whatever their order.
 
-ghost use Rattle.std.specs.Prelude.{◌≡◌, ◌⊎◌, ◌↔◌, map, IfOk, OnOk, IfErr, IsErrAnd, IsErrOf};
+ghost use Rattle.std.specs.Prelude.{◌≡◌, ◌≢◌, ◌⊎◌, ◌↔◌, length, map, IfOk, OnOk, IfErr, IsErrAnd, IsErrOf};
+ghost use Rattle.std.specs.Vec.{vec_items};
 ghost use Rattle.board.specs.declared.event.EventKind.{EventKind};
 ghost use Rattle.board.specs.declared.fault.BoardFault.{BoardFault};
 ghost use Rattle.board.specs.Fault.{AreGoodHosted};
 ghost use Rattle.board.specs.Hosting.{IsOwn, hosted_opened};
+ghost use Rattle.board.specs.Lent.{AreBytesOf, hosted_over, made_over};
 ghost use Rattle.session.specs.declared.fault.SessionFault.{SessionFault};
-ghost use Rattle.session.specs.Hosted.{IsHostedBoardFault, IsHostedCall, IsHostedRefusedFor, new_hosted_session};
+ghost use Rattle.session.specs.Hosted.{IsHostedBoardFault, IsHostedCall, IsHostedLentRefusedFor, IsHostedRefusedFor, new_hosted_session, new_hosted_session_over};
 ghost use Rattle.session.specs.HostedAnswering.{SuitsCompletion, SuitsHosted};
 ghost use Rattle.session.specs.Refusing.{AreOutlets};
-ghost use Rattle.session.specs.Session.{slots_of};
+ghost use Rattle.session.specs.Session.{none_waiting, slots_of};
 
 mod console;
 mod disk;
@@ -24,7 +26,7 @@ mod registers;
 mod saved;
 
 use crate::fault::{SessionFault, why_not};
-use crate::guest::{GuestSpec, are_outlets, outputs, slots};
+use crate::guest::{GuestSpec, are_bytes_of, are_outlets, outputs, slots};
 pub use crate::hosted::laws::{
     a_flight_outlasts_own_events, a_hosted_write_in_place_is_an_event, each_hosted_guest_is_alone,
     what_waits_changes_nothing,
@@ -35,6 +37,7 @@ use block_device::Verdict;
 use board::{EventKind, HostedBoard, Reply};
 use std::alloc::{AllocError, Allocator, Global};
 use std::marker::Model;
+use std_alloc::vec::Lodged;
 
 /// Up to sixty-four guests whose disks the host serves. `new` makes all room: no other call takes memory.
 #[derive(Drop)]
@@ -72,6 +75,51 @@ impl<A: Allocator + Copy> HostedSession<A> {
             return Err(SessionFault::BadOutlet);
         }
         let board = board_of(alloc, guests)?;
+        HostedSession::of_board(alloc, guests, board)
+    }
+
+    /// A session as `new` makes it, whose guests' memories' bytes a host lends: those of each region, guest by guest. None is
+    /// copied, read or written, then or at the end.
+    pub fn over_lent(
+        alloc: A,
+        guests: &[GuestSpec],
+        bytes: Vec<Vec<u8, Lodged>, A>,
+    ) -> Result<HostedSession<A>, SessionFault>
+        ensures made { IfOk result (λ session.
+            session ≡ new_hosted_session_over guests.now (map vec_items bytes.items)) }
+        ensures lent { OnOk result (AreBytesOf (slots_of guests.now) (map vec_items bytes.items)) }
+        ensures accepted { OnOk result (AreGoodHosted (slots_of guests.now)) }
+        ensures outlets { OnOk result (AreOutlets guests.now) }
+        ensures fault { IfErr result (IsHostedLentRefusedFor guests.now (map vec_items bytes.items)) }
+
+        // exactly that fault, but that want of memory may come before the board's, and by `fault` before no other
+        ensures exact { (why : SessionFault) → why ≢ SessionFault.NoMemory →
+            IsHostedLentRefusedFor guests.now (map vec_items bytes.items) why →
+            IsErrAnd result (λ told. (told ≡ why) ⊎ (told ≡ SessionFault.NoMemory)) }
+    {
+        if !are_bytes_of(guests, &bytes) {
+            return Err(SessionFault::BadLoan);
+        }
+        if !are_outlets(guests) {
+            return Err(SessionFault::BadOutlet);
+        }
+        let board = lent_board_of(alloc, guests, bytes)?;
+        HostedSession::of_board(alloc, guests, board)
+    }
+
+    // A session of a board of these guests, of which nothing is put out.
+    fn of_board(
+        alloc: A,
+        guests: &[GuestSpec],
+        board: HostedBoard<A>,
+    ) -> Result<HostedSession<A>, SessionFault>
+        requires { length board ≡ length guests.now }
+        ensures made { IfOk result (λ session. session ≡ record {
+          slots = board;
+          outputs = map (λ guest. none_waiting guest.outlet) guests.now;
+        }) }
+        ensures fault { IfErr result (λ why. why ≡ SessionFault.NoMemory) }
+    {
         match outputs(alloc, guests) {
             Ok(outputs) => Ok(HostedSession { board, outputs }),
             Err(AllocError) => Err(SessionFault::NoMemory),
@@ -117,6 +165,30 @@ fn board_of<A: Allocator + Copy>(
         return Err(SessionFault::NoMemory);
     };
     match HostedBoard::new(alloc, &slots) {
+        Ok(board) => Ok(board),
+        Err(why) => Err(why_not(why)),
+    }
+}
+
+// The board of the guests' slots over bytes that a host lends.
+fn lent_board_of<A: Allocator + Copy>(
+    alloc: A,
+    guests: &[GuestSpec],
+    bytes: Vec<Vec<u8, Lodged>, A>,
+) -> Result<HostedBoard<A>, SessionFault>
+    requires lent { AreBytesOf (slots_of guests.now) (map vec_items bytes.items) }
+    requires outlets { AreOutlets guests.now }
+    ensures made { IfOk result (λ board.
+        board ≡ made_over hosted_over (slots_of guests.now) (map vec_items bytes.items)) }
+    ensures accepted { OnOk result (AreGoodHosted (slots_of guests.now)) }
+    ensures fault { IfErr result (IsHostedRefusedFor guests.now) }
+    ensures bad_board { (fault : BoardFault) → IsHostedBoardFault guests.now fault →
+        IsErrAnd result (λ why. (why ≡ SessionFault.Board fault) ⊎ (why ≡ SessionFault.NoMemory)) }
+{
+    let Ok(slots) = slots(alloc, guests) else {
+        return Err(SessionFault::NoMemory);
+    };
+    match HostedBoard::over_lent(alloc, &slots, bytes) {
         Ok(board) => Ok(board),
         Err(why) => Err(why_not(why)),
     }

@@ -1,19 +1,22 @@
 //! The session: a board over an image in memory, and what its consoles put out.
 
-ghost use Rattle.std.specs.Prelude.{◌≡◌, ◌≢◌, ◌⊎◌, ◌↔◌, ◌%◌, ◌/◌, map, length, IsFalse, IfOk, OnOk, IfErr, IsErrAnd, IsErrOf};
+ghost use Rattle.std.specs.Prelude.{◌≡◌, ◌≢◌, ◌⊎◌, ◌↔◌, ◌%◌, ◌/◌, ℕ, None, map, length, replicate, IsFalse, IfOk, OnOk, IfErr, OnErr, IsErrAnd, IsErrOf};
+ghost use Rattle.std.specs.Vec.{vec_items};
 ghost use Rattle.chain.specs.Budget.{IsSpent};
 ghost use Rattle.board.specs.declared.fault.BoardFault.{BoardFault};
 ghost use Rattle.sector_cache.specs.Disk.{new_disk};
 ghost use Rattle.sector_cache.specs.MemoryImage.{disk_of};
 ghost use Rattle.board.specs.Fault.{IsAccepted, Refuses};
+ghost use Rattle.board.specs.Image.{bytes_of};
+ghost use Rattle.board.specs.Lent.{AreBytesOf, made_over, opened_over};
 ghost use Rattle.board.specs.Slot.{opened};
 ghost use Rattle.session.specs.declared.fault.SessionFault.{SessionFault};
 ghost use Rattle.board.specs.declared.event.EventKind.{EventKind};
 ghost use Rattle.session.specs.Pacing.{GoOn, Handle};
 ghost use Rattle.session.specs.Answering.{SuitsCall};
 ghost use Rattle.session.specs.Pausing.{IsCall, IsWhole};
-ghost use Rattle.session.specs.Session.{HasNoRead, IsIdle, new_session, slots_of};
-ghost use Rattle.session.specs.Refusing.{AreOutlets, IsBoardFault, IsRefusedFor};
+ghost use Rattle.session.specs.Session.{HasNoRead, IsIdle, new_session, new_session_over, none_waiting, slots_of};
+ghost use Rattle.session.specs.Refusing.{AreOutlets, IsBoardFault, IsJudged, IsLentRefusedFor, IsRefusedFor};
 
 mod console;
 mod image;
@@ -22,7 +25,7 @@ mod registers;
 mod saved;
 
 use crate::fault::{SessionFault, why_not};
-use crate::guest::{GuestSpec, are_outlets, outputs, slots};
+use crate::guest::{GuestSpec, are_bytes_of, are_outlets, outputs, slots};
 use crate::output_queue::OutputQueue;
 use crate::paced::Paced;
 use crate::response::Response;
@@ -30,6 +33,7 @@ use board::{Board, Budget, Event, MemoryImage, Refused, Reply};
 use sector_cache::are_whole_sectors;
 use std::alloc::{AllocError, Allocator, Global};
 use std::marker::Model;
+use std_alloc::vec::Lodged;
 
 /// Up to sixty-four guests over one image in memory. `new` makes all room: no other call takes memory.
 #[derive(Drop)]
@@ -84,16 +88,60 @@ impl<A: Allocator + Copy> Session<A> {
         ensures bad_board { (fault : BoardFault) → IsBoardFault guests.now image.now cache budget fault →
             IsErrAnd result (λ why. (why ≡ SessionFault.Board fault) ⊎ (why ≡ SessionFault.NoMemory)) }
     {
-        if !are_whole_sectors(image.len() as u64) {
-            return Err(SessionFault::BadImage);
-        }
-        if !are_outlets(guests) {
-            return Err(SessionFault::BadOutlet);
-        }
-        if budget.is_spent() {
-            return Err(SessionFault::SpentBudget);
-        }
+        judge(guests, image, budget)?;
         let board = board_of(alloc, guests, image, cache, budget)?;
+        Session::of_board(alloc, guests, board, budget)
+    }
+
+    /// A session as `new` makes it, whose guests' memories' bytes a host lends: those of each region, guest by guest. None is
+    /// copied, read or written, then or at the end.
+    pub fn over_lent(
+        alloc: A,
+        guests: &[GuestSpec],
+        bytes: Vec<Vec<u8, Lodged>, A>,
+        image: &[u8],
+        cache: u32,
+        budget: Budget,
+    ) -> Result<Session<A>, SessionFault>
+        ensures made { IfOk result (λ session.
+            session ≡ new_session_over guests.now (map vec_items bytes.items) image.now budget) }
+        ensures lent { OnOk result (AreBytesOf (slots_of guests.now) (map vec_items bytes.items)) }
+        ensures accepted { OnOk result (IsAccepted (length image.now / 512) (slots_of guests.now) cache) }
+        ensures outlets { OnOk result (AreOutlets guests.now) }
+        ensures lasts { OnOk result (¬ IsSpent budget) }
+        ensures fault { IfErr result (IsLentRefusedFor guests.now (map vec_items bytes.items) image.now cache budget) }
+
+        // exactly that fault, but that want of memory may come before the board's, and by `fault` before no other
+        ensures exact { (why : SessionFault) → why ≢ SessionFault.NoMemory →
+            IsLentRefusedFor guests.now (map vec_items bytes.items) image.now cache budget why →
+            IsErrAnd result (λ told. (told ≡ why) ⊎ (told ≡ SessionFault.NoMemory)) }
+    {
+        if !are_bytes_of(guests, &bytes) {
+            return Err(SessionFault::BadLoan);
+        }
+        judge(guests, image, budget)?;
+        let board = lent_board_of(alloc, guests, bytes, image, cache, budget)?;
+        Session::of_board(alloc, guests, board, budget)
+    }
+
+    // A session of a board of these guests, of which nothing is put out or paused.
+    fn of_board(
+        alloc: A,
+        guests: &[GuestSpec],
+        board: Board<MemoryImage<A>, A>,
+        budget: Budget,
+    ) -> Result<Session<A>, SessionFault>
+        requires { length board.slots ≡ length guests.now }
+        ensures made { IfOk result (λ session. session ≡ record {
+          slots = board.slots;
+          image = bytes_of (disk_of board.image);
+          mark = (disk_of board.image).mark;
+          outputs = map (λ guest. none_waiting guest.outlet) guests.now;
+          paused = replicate (length guests.now) None;
+          budget = budget;
+        }) }
+        ensures fault { IfErr result (λ why. why ≡ SessionFault.NoMemory) }
+    {
         let Ok(paced) = Paced::new(alloc, board, budget) else {
             return Err(SessionFault::NoMemory);
         };
@@ -156,6 +204,24 @@ impl<A: Allocator> Session<A> {
     }
 }
 
+// Judges what is judged before the board.
+fn judge(guests: &[GuestSpec], image: &[u8], budget: Budget) -> Result<(), SessionFault>
+    ensures good { OnOk result (IsJudged guests.now image.now budget) }
+    ensures bad { OnErr result (¬ IsJudged guests.now image.now budget) }
+    ensures fault { IfErr result (λ why. (cache : ℕ) → IsRefusedFor guests.now image.now cache budget why) }
+{
+    if !are_whole_sectors(image.len() as u64) {
+        return Err(SessionFault::BadImage);
+    }
+    if !are_outlets(guests) {
+        return Err(SessionFault::BadOutlet);
+    }
+    if budget.is_spent() {
+        return Err(SessionFault::SpentBudget);
+    }
+    Ok(())
+}
+
 // The board of the guests' slots, over a copy of these bytes.
 fn board_of<A: Allocator + Copy>(
     alloc: A,
@@ -164,15 +230,11 @@ fn board_of<A: Allocator + Copy>(
     cache: u32,
     budget: Budget,
 ) -> Result<Board<MemoryImage<A>, A>, SessionFault>
-    requires whole { length image.now % 512 ≡ 0 }
-    requires outlets { AreOutlets guests.now }
-    requires lasts { ¬ IsSpent budget }
+    requires judged { IsJudged guests.now image.now budget }
     ensures slots { IfOk result (λ board. board.slots ≡ map opened (slots_of guests.now)) }
     ensures image { IfOk result (λ board. disk_of board.image ≡ new_disk image.now) }
     ensures accepted { OnOk result (IsAccepted (length image.now / 512) (slots_of guests.now) cache) }
     ensures fault { IfErr result (λ why. IsRefusedFor guests.now image.now cache budget why) }
-    ensures other { IfErr result (λ why. (why ≢ SessionFault.BadImage) × (why ≢ SessionFault.BadOutlet)
-        × (why ≢ SessionFault.SpentBudget)) }
     ensures bad_board { (fault : BoardFault) → fault ≢ BoardFault.NoMemory →
         Refuses (length image.now / 512) (slots_of guests.now) cache fault →
         IsErrAnd result (λ why. (why ≡ SessionFault.Board fault) ⊎ (why ≡ SessionFault.NoMemory)) }
@@ -180,14 +242,54 @@ fn board_of<A: Allocator + Copy>(
     let Ok(slots) = slots(alloc, guests) else {
         return Err(SessionFault::NoMemory);
     };
+    let image = image_of(alloc, image)?;
+    match Board::new(alloc, &slots, image, cache) {
+        Ok(board) => Ok(board),
+        Err(Refused { image: _, why }) => Err(why_not(why)),
+    }
+}
+
+// The board of the guests' slots over bytes that a host lends, and over a copy of the image's.
+fn lent_board_of<A: Allocator + Copy>(
+    alloc: A,
+    guests: &[GuestSpec],
+    bytes: Vec<Vec<u8, Lodged>, A>,
+    image: &[u8],
+    cache: u32,
+    budget: Budget,
+) -> Result<Board<MemoryImage<A>, A>, SessionFault>
+    requires lent { AreBytesOf (slots_of guests.now) (map vec_items bytes.items) }
+    requires judged { IsJudged guests.now image.now budget }
+    ensures slots { IfOk result (λ board.
+        board.slots ≡ made_over opened_over (slots_of guests.now) (map vec_items bytes.items)) }
+    ensures image { IfOk result (λ board. disk_of board.image ≡ new_disk image.now) }
+    ensures accepted { OnOk result (IsAccepted (length image.now / 512) (slots_of guests.now) cache) }
+    ensures fault { IfErr result (λ why. IsRefusedFor guests.now image.now cache budget why) }
+    ensures bad_board { (fault : BoardFault) → fault ≢ BoardFault.NoMemory →
+        Refuses (length image.now / 512) (slots_of guests.now) cache fault →
+        IsErrAnd result (λ why. (why ≡ SessionFault.Board fault) ⊎ (why ≡ SessionFault.NoMemory)) }
+{
+    let Ok(slots) = slots(alloc, guests) else {
+        return Err(SessionFault::NoMemory);
+    };
+    let image = image_of(alloc, image)?;
+    match Board::over_lent(alloc, &slots, bytes, image, cache) {
+        Ok(board) => Ok(board),
+        Err(Refused { image: _, why }) => Err(why_not(why)),
+    }
+}
+
+// An image of a copy of these bytes.
+fn image_of<A: Allocator + Copy>(alloc: A, image: &[u8]) -> Result<MemoryImage<A>, SessionFault>
+    requires whole { length image.now % 512 ≡ 0 }
+    ensures made { IfOk result (λ made. disk_of made ≡ new_disk image.now) }
+    ensures fault { IfErr result (λ why. why ≡ SessionFault.NoMemory) }
+{
     let Ok(bytes) = Vec::from_slice(alloc, image) else {
         return Err(SessionFault::NoMemory);
     };
     let Ok(image) = MemoryImage::new(bytes) else {
         unreachable!()
     };
-    match Board::new(alloc, &slots, image, cache) {
-        Ok(board) => Ok(board),
-        Err(Refused { image: _, why }) => Err(why_not(why)),
-    }
+    Ok(image)
 }

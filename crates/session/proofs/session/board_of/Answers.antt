@@ -7,11 +7,10 @@ use Rattle.board.specs.Fault.{Refuses}
 use Rattle.session.specs.Session.{slots_of}
 use Rattle.session.proofs.session.board_of.Goals as goal
 
-pub returns-in-Ok-new-2-clause-bad_board : goal.returns-in-Ok-new-2-clause-bad_board
-returns-in-Ok-new-2-clause-bad_board g c = λ fault other refused.
-    let sectors : (disk_of c.in-Ok-new.image).sector_count ≡ length c.args.image.now / 512 =
-    ap (λ (d : Disk). d.sector_count) c.in-Ok-new.ensures.seen ∙ ap (λ bytes. length bytes / 512) c.in-Ok-from_slice.ensures.items in
+pub returns-in-Ok-new-clause-bad_board : goal.returns-in-Ok-new-clause-bad_board
+returns-in-Ok-new-clause-bad_board g c = λ fault other refused.
+    let sectors : (disk_of c.in_ok-image.image).sector_count ≡ length c.args.image.now / 512 = ap (λ (d : Disk). d.sector_count) c.in_ok-image.ensures.made in
     let slots : c.deref.result.now ≡ slots_of c.args.guests.now = c.deref.ensures.value ∙ c.in-Ok.ensures in
-    absurd (c.in-Ok-new-2.ensures.exact fault other
-    (subst (λ (specs : List SlotSpec). Refuses (disk_of c.in-Ok-new.image).sector_count specs c.args.cache fault) (sym slots)
+    absurd (c.in-Ok-new.ensures.exact fault other
+    (subst (λ (specs : List SlotSpec). Refuses (disk_of c.in_ok-image.image).sector_count specs c.args.cache fault) (sym slots)
     (subst (λ n. Refuses n (slots_of c.args.guests.now) c.args.cache fault) (sym sectors) refused)))

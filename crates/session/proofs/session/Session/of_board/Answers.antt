@@ -1,0 +1,12 @@
+-- Each guest's output has room, and none of them is paused.
+use Rattle.std.proofs.Common.{length, None, sym, ◌∙◌, ap}
+use Rattle.std.proofs.lemmas.List.{length-map, length-replicate}
+use Rattle.session.specs.Session.{none_waiting}
+use Rattle.session.proofs.session.Session.of_board.Goals as goal
+
+pub invariant_of-result : goal.invariant_of-result
+invariant_of-result g c =
+    let slots = ap (λ p. length p.board.slots) c.in-Ok.ensures.made in (
+      ap length c.in-Ok-outputs.ensures ∙ length-map c.args.guests.now (λ guest. none_waiting guest.outlet) ∙ sym c.requires ∙ sym slots,
+      ap (λ p. length p.paused) c.in-Ok.ensures.made ∙ length-replicate (length c.args.board.slots) None ∙ sym slots,
+    )
