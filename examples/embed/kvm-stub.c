@@ -111,6 +111,15 @@ uint32_t kalyubos_create(struct kalyubos *board, const struct kalyubos_slot *slo
     return answer;
 }
 
+/* Its guests' memory is its own. */
+uint32_t kalyubos_create_lent(struct kalyubos *board, const struct kalyubos_slot *slots, size_t slots_len,
+                              struct kalyubos_loan *loans, size_t loans_len, const uint8_t *image, size_t image_len,
+                              uint32_t cache, uint32_t chains, uint64_t bytes)
+{
+    (void)loans, (void)loans_len;
+    return kalyubos_create(board, slots, slots_len, image, image_len, cache, chains, bytes);
+}
+
 uint32_t kalyubos_destroy(struct kalyubos *board)
 {
     for (size_t i = 0; i < GUESTS; i++)

@@ -7,6 +7,7 @@
  * `kvm pair` gives guest 0 a second CPU, with the program of kvm-second.S, which counts in memory: while a call for the guest
  * runs both CPUs stand, by cpus.c, so the count stays.
  * `kvm hosted` has no image: each disk is a file of its own, which file_disk.c reads while the guest runs on.
+ * `kvm lent` has the guests' memory in a file of memory, which it maps and lends to the board.
  * Where /dev/kvm can't be opened the host says so, with status 77.
  */
 #define _GNU_SOURCE
@@ -63,7 +64,7 @@ static const char *const DISKS[GUESTS] = { "the first half of the image\n", "the
 enum { DISK_LEN = 2 * 512 };
 
 static struct kalyubos board;
-static bool hosted;
+static bool hosted, lent;
 static pthread_mutex_t lock = PTHREAD_MUTEX_INITIALIZER;
 
 static int must(int result, const char *what)
@@ -85,7 +86,7 @@ static void must_do(uint32_t answer, const char *what)
 
 /* ---- the machine */
 
-/* A region of a guest's memory is the board's, where it lies; heap.c aligns it to pages, as KVM wants it. */
+/* A region of a guest's memory lies where the board says; heap.c aligns it to pages, as KVM wants it. */
 static uint8_t *map_region(const struct guest *guest, uint32_t number)
 {
     uint8_t *bytes;
@@ -411,6 +412,22 @@ static void report(const struct guest *guest)
     printf("interrupts: %u and %u, disturbed: %d\n", guest->lines.block, guest->lines.console, disturbed);
 }
 
+/* Each region of each guest lies in one file of memory, which another process could map too. */
+static void lend(struct kalyubos_loan *loans)
+{
+    int file = must(memfd_create("guests", MFD_CLOEXEC), "memfd_create");
+    off_t at = 0;
+    for (unsigned i = 0; i < GUESTS * REGIONS; i++) {
+        size_t len = MEMORY[i % REGIONS].len;
+        must(ftruncate(file, at + (off_t)len), "ftruncate");
+        void *bytes = mmap(NULL, len, PROT_READ | PROT_WRITE, MAP_SHARED, file, at);
+        must(bytes == MAP_FAILED ? -1 : 0, "a region");
+        loans[i] = (struct kalyubos_loan){ bytes, len };
+        at += (off_t)len;
+    }
+    close(file);
+}
+
 /* A board of both guests, over an image of both disks or with a file for each. */
 static void create(struct guest *guests)
 {
@@ -423,6 +440,13 @@ static void create(struct guest *guests)
         memcpy(slots[slot].regions, MEMORY, sizeof MEMORY);
         guests[slot].slot = slot;
         strcpy((char *)image + slot * DISK_LEN, DISKS[slot]);
+    }
+    if (lent) {
+        struct kalyubos_loan loans[GUESTS * REGIONS];
+        lend(loans);
+        must_do(kalyubos_create_lent(&board, slots, GUESTS, loans, GUESTS * REGIONS, image, sizeof image, 8, CHAINS, 0),
+                "create_lent");
+        return;
     }
     if (!hosted) {
         must_do(kalyubos_create(&board, slots, GUESTS, image, sizeof image, 8, CHAINS, 0), "create");
@@ -437,6 +461,7 @@ int main(int words_len, char **words)
 {
     bool floods = words_len == 2 && strcmp(words[1], "flood") == 0;
     hosted = words_len == 2 && strcmp(words[1], "hosted") == 0;
+    lent = words_len == 2 && strcmp(words[1], "lent") == 0;
     bool pair = words_len == 2 && strcmp(words[1], "pair") == 0;
     int kvm = open("/dev/kvm", O_RDWR | O_CLOEXEC);
     if (kvm < 0) {

@@ -149,6 +149,87 @@ impl Board {
         Ok(Board { handle })
     }
 
+    /// A board as [`with_budget`](Board::with_budget) makes it, over memory that the host lends: for each region of all slots, slot by
+    /// slot, as many bytes as it has. None is copied, cleared or touched, then or where the board is dropped, which frees none.
+    /// So a guest of any size is made at once, and its memory begins as the bytes stand.
+    ///
+    /// # Safety
+    ///
+    /// Until the board is dropped the bytes stay where they are, each with a value, and no two regions of any boards share one.
+    /// Nobody else reads or writes them while a call for their guest runs, while its [`memory`](Board::memory) is lent, or while a
+    /// service of it is paused. CPUs of other guests may run.
+    ///
+    /// ```
+    /// # use kalyubos::{Board, Budget, CreateError, Slot};
+    /// # use std::ptr::NonNull;
+    /// let mut bytes = vec![7; 0x1000];
+    /// let lent = [NonNull::from(&mut bytes[..])];
+    /// let slots = [Slot::new(0x8000_0000, 0x1000, 0..1)];
+    /// // SAFETY: nothing else reaches the bytes until the board is dropped.
+    /// let mut board = unsafe { Board::over_lent(&slots, &lent, &[0; 512], 1, Budget::default()) }?;
+    /// board.write_memory(0, 0x8000_0ffe, b"ab")?;
+    /// drop(board);
+    /// assert_eq!(&bytes[0xffd..], b"\x07ab");
+    ///
+    /// let none = unsafe { Board::over_lent(&slots, &[], &[0; 512], 1, Budget::default()) };
+    /// assert_eq!(none.unwrap_err(), CreateError::BadLoan);
+    /// # Ok::<(), Box<dyn std::error::Error>>(())
+    /// ```
+    pub unsafe fn over_lent(
+        slots: &[Slot],
+        lent: &[NonNull<[u8]>],
+        image: &[u8],
+        cache: u32,
+        budget: Budget,
+    ) -> Result<Board, CreateError> {
+        Board::check_version()?;
+        let slots = slots
+            .iter()
+            .map(Slot::in_c)
+            .collect::<Result<Vec<_>, _>>()?;
+        let mut loans: Vec<_> = lent.iter().map(loan_of).collect();
+        let mut handle = ffi::Handle::empty();
+        CreateError::check(unsafe {
+            ffi::kalyubos_create_lent(
+                &mut handle,
+                slots.as_ptr(),
+                slots.len(),
+                loans.as_mut_ptr(),
+                loans.len(),
+                image.as_ptr(),
+                image.len(),
+                cache,
+                budget.chains.map_or(0, NonZeroU32::get),
+                budget.bytes.map_or(0, NonZeroU64::get),
+            )
+        })?;
+        Ok(Board { handle })
+    }
+
+    // A board whose disks the host serves, over memory that it lends; the caller keeps the duties of `over_lent`.
+    pub(crate) unsafe fn hosted_over_lent(
+        slots: &[Slot],
+        lent: &[NonNull<[u8]>],
+    ) -> Result<Board, CreateError> {
+        Board::check_version()?;
+        let slots = slots
+            .iter()
+            .map(Slot::in_c)
+            .collect::<Result<Vec<_>, _>>()?;
+        let mut loans: Vec<_> = lent.iter().map(loan_of).collect();
+        let mut handle = ffi::Handle::empty();
+        CreateError::check(unsafe {
+            ffi::kalyubos_create_hosted_lent(
+                &mut handle,
+                slots.as_ptr(),
+                slots.len(),
+                loans.as_mut_ptr(),
+                loans.len(),
+            )
+        })?;
+        Ok(Board { handle })
+    }
+
     // A board whose disks the host serves.
     pub(crate) fn hosted(slots: &[Slot]) -> Result<Board, CreateError> {
         Board::check_version()?;
@@ -419,5 +500,13 @@ impl Drop for Board {
     fn drop(&mut self) {
         // It holds a board, so the answer is 0.
         unsafe { ffi::kalyubos_destroy(&mut self.handle) };
+    }
+}
+
+// Lent bytes, as C has them.
+fn loan_of(bytes: &NonNull<[u8]>) -> ffi::Loan {
+    ffi::Loan {
+        bytes: bytes.as_ptr().cast(),
+        len: bytes.len(),
     }
 }

@@ -73,6 +73,8 @@ pub enum CreateError {
     BadCache,
     /// An outlet is asked to keep more than 2^24 bytes.
     BadOutlet,
+    /// The lent bytes have another number or length than the regions; see [`Board::over_lent`](crate::Board::over_lent).
+    BadLoan,
     /// The library that is linked has a slot of another size than the crate.
     BadSize,
     /// The library that is linked is of another version, this one, than the crate.
@@ -129,6 +131,7 @@ impl CreateError {
             16 => BadOutlet,
             17 => BadSize,
             28 => RegionsNotApart,
+            29 => BadLoan,
             number => Other(number),
         })
     }
@@ -224,6 +227,7 @@ impl fmt::Display for CreateError {
             ExtentsOverlap => "two slots share a sector",
             BadCache => "a cache keeps 1 to 65536 sectors",
             BadOutlet => "an outlet keeps 2^24 bytes at most",
+            BadLoan => "each region of each slot needs lent bytes of its length",
             BadSize => "the library's slot has another size than the crate's",
             WrongLibrary(version) => {
                 return write!(

@@ -59,6 +59,13 @@ pub struct Operation {
 /// How many runs an operation has at most.
 pub const RUNS: usize = 256;
 
+/// Bytes that the host lends.
+#[repr(C)]
+pub struct Loan {
+    pub bytes: *mut u8,
+    pub len: usize,
+}
+
 unsafe extern "C" {
     pub fn kalyubos_version() -> u32;
     pub fn kalyubos_create(
@@ -72,6 +79,25 @@ unsafe extern "C" {
         bytes: u64,
     ) -> u32;
     pub fn kalyubos_create_hosted(board: *mut Handle, slots: *const Slot, slots_len: usize) -> u32;
+    pub fn kalyubos_create_lent(
+        board: *mut Handle,
+        slots: *const Slot,
+        slots_len: usize,
+        loans: *mut Loan,
+        loans_len: usize,
+        image: *const u8,
+        image_len: usize,
+        cache: u32,
+        chains: u32,
+        bytes: u64,
+    ) -> u32;
+    pub fn kalyubos_create_hosted_lent(
+        board: *mut Handle,
+        slots: *const Slot,
+        slots_len: usize,
+        loans: *mut Loan,
+        loans_len: usize,
+    ) -> u32;
     pub fn kalyubos_destroy(board: *mut Handle) -> u32;
     pub fn kalyubos_read(
         board: *mut Handle,

@@ -52,6 +52,22 @@ impl HostedBoard {
         })
     }
 
+    /// A board as [`new`](HostedBoard::new) makes it, over memory that the host lends, as [`Board::over_lent`] has it.
+    ///
+    /// # Safety
+    ///
+    /// The duties of [`Board::over_lent`].
+    pub unsafe fn over_lent(
+        slots: &[Slot],
+        lent: &[NonNull<[u8]>],
+    ) -> Result<HostedBoard, CreateError> {
+        Ok(HostedBoard {
+            // SAFETY: the caller keeps the duties.
+            board: unsafe { Board::hosted_over_lent(slots, lent) }?,
+            runs: Box::new([Run::default(); ffi::RUNS]),
+        })
+    }
+
     /// What a guest's read gives, as [`Board::read`].
     pub fn read(&mut self, slot: u8, window: Window, offset: u16, width: u8) -> Result<u32, Error> {
         self.board.read(slot, window, offset, width)
