@@ -25,7 +25,7 @@
  *
  * The library is built for x86-64-v2 (SSE4.2 and POPCNT) and Linux's calling convention.
  *
- * The library keeps no pointer of the caller: a call copies what it needs. Each call answers a number. After any but
+ * The library keeps no pointer of the caller but those of loans (kalyubos_create_lent): a call copies what it needs. Each call answers a number. After any but
  * KALYUBOS_DONE its out parameters are unchanged, with two exceptions: `pending` is told after every answer where the
  * slot exists, and `took` after KALYUBOS_MORE too. The numbers never change; a later version only adds some.
  *
@@ -33,14 +33,14 @@
  * version takes its own size alone, and answers KALYUBOS_BAD_SIZE for any other before it looks at another field. A
  * later version that this header fits (kalyubos_version) also takes this version's size, and then does what this
  * version does. It adds fields behind all others. The structs of an array lie `size` bytes apart, so all have one size.
- * The handle, struct kalyubos_region, struct kalyubos_pending and struct kalyubos_block have no size and never change: a
+ * The handle, struct kalyubos_region, struct kalyubos_loan, struct kalyubos_pending and struct kalyubos_block have no size and never change: a
  * later version tells more by further calls.
  *
  * There are two kinds of board. kalyubos_create makes one whose disks are parts of an image in the library's memory.
  * kalyubos_create_hosted makes one whose disks the host serves: the board says what it wants of a disk, the host does it
  * as it likes, and says that it is done; meanwhile the guest runs on. All calls are there for both.
  *
- * The two calls that make a board take all memory that it needs, and kalyubos_destroy gives it back. No other call takes
+ * The four calls that make a board take all memory that it needs, and kalyubos_destroy gives it back. No other call takes
  * or gives any, so no guest can be refused memory for what another did: what a guest sees is decided by its own slot's
  * calls alone, the completions of its disk among them.
  */
@@ -94,7 +94,8 @@ enum {
     KALYUBOS_BAD_STATE = 25,        /* the snapshot has a state that no driver can bring a window into; nothing changed */
     KALYUBOS_SHORT_BUFFER = 26,     /* the snapshot doesn't fit into the buffer; nothing is written */
     KALYUBOS_NO_REGIONS = 27,       /* a slot has no region of memory */
-    KALYUBOS_REGIONS_NOT_APART = 28 /* a region doesn't begin behind a gap after the one before it */
+    KALYUBOS_REGIONS_NOT_APART = 28, /* a region doesn't begin behind a gap after the one before it */
+    KALYUBOS_BAD_LOAN = 29          /* the loans have another number or length than the regions */
 };
 
 /* What an answer says, as a sentence for a person. It is never null: a number of a later version has a sentence too. */
@@ -159,6 +160,8 @@ static inline const char *kalyubos_answer(uint32_t number)
         return "a slot needs a region of memory";
     case KALYUBOS_REGIONS_NOT_APART:
         return "regions stand in ascending order, with a gap between each two";
+    case KALYUBOS_BAD_LOAN:
+        return "each region of each slot needs a loan of its length";
     default:
         return "a number that this version of kalyubos.h doesn't know";
     }
@@ -311,6 +314,32 @@ static inline size_t kalyubos_region_at_fault(uint32_t answer, const struct kaly
  * them: what orders the calls of a guest's CPUs and of its disk is that guest's own.
  */
 uint32_t kalyubos_create_hosted(struct kalyubos *board, const struct kalyubos_slot *slots, size_t slots_len);
+
+/* `len` bytes of the host's, from `bytes` on. Where there are none, `bytes` may be null. It never changes. */
+struct kalyubos_loan {
+    uint8_t *bytes;
+    size_t len;
+};
+
+/*
+ * Make a board as kalyubos_create and kalyubos_create_hosted do, over memory that the host lends for the board's life: a loan
+ * for each region of all slots, slot by slot, of the region's length. No lent byte is copied, cleared or touched by these
+ * calls or by kalyubos_destroy, which frees none: a guest of 64 GiB is made at once. Its memory begins as the bytes
+ * stand, and kalyubos_memory lends them back.
+ *
+ * BAD_LOAN comes after BAD_SIZE and before all other numbers. NO_MEMORY may come in the place of all but BAD_SIZE.
+ *
+ * Each loan is taken: null and 0 are left in its place. After HAS_BOARD and BAD_SIZE all loans are as they were, after another
+ * refusal some may be. Either way the bytes of a refused call are the host's again; it fills the array anew before it tries again.
+ *
+ * Until kalyubos_destroy the bytes stay mapped where they are, no two loans of any boards share a byte, and the duty above
+ * on a guest's memory in place holds of them: nobody touches them while a call for their guest runs.
+ */
+uint32_t kalyubos_create_lent(struct kalyubos *board, const struct kalyubos_slot *slots, size_t slots_len,
+                              struct kalyubos_loan *loans, size_t loans_len, const uint8_t *image, size_t image_len,
+                              uint32_t cache, uint32_t chains, uint64_t bytes);
+uint32_t kalyubos_create_hosted_lent(struct kalyubos *board, const struct kalyubos_slot *slots, size_t slots_len,
+                                     struct kalyubos_loan *loans, size_t loans_len);
 
 /*
  * Ends the board, frees its memory and leaves the handle empty. Take the image's bytes out before, let go of

@@ -2,3 +2,4 @@ pub mod AsBox
 pub mod HandleSteps
 pub mod Outlets
 pub mod Runs
+pub mod OneByOne

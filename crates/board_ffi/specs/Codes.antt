@@ -140,6 +140,7 @@ board_code board.NoMemory = 5
 
 -- a session that was refused
 abbrev pub fault_code : SessionFault → ℕ
+fault_code session.BadLoan = 29
 fault_code session.BadImage = 7
 fault_code session.BadOutlet = 16
 -- no budget that C describes is spent

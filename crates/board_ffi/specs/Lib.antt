@@ -4,4 +4,5 @@ pub mod OfImage
 pub mod Hosted
 pub mod Calls
 pub mod Create
+pub mod Lent
 pub mod Version

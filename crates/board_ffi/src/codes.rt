@@ -68,6 +68,8 @@ pub(crate) const NO_REGIONS: u32 = 27;
 
 pub(crate) const REGIONS_NOT_APART: u32 = 28;
 
+pub(crate) const BAD_LOAN: u32 = 29;
+
 /// The number of a call that was refused.
 pub(crate) fn of_refusal(why: Refusal) -> u32
     ensures { result ≡ refusal_code why }
@@ -191,6 +193,7 @@ pub(crate) fn of_fault(why: SessionFault) -> u32
     ensures { result ≡ fault_code why }
 {
     match why {
+        SessionFault::BadLoan => BAD_LOAN,
         SessionFault::BadImage => BAD_IMAGE,
         SessionFault::BadOutlet => BAD_OUTLET,
         // no budget that C describes is spent

@@ -166,8 +166,8 @@ fn session(
     }
 }
 
-// How much one call may serve, where 0 is no limit.
-fn budget(chains: u32, bytes: u64) -> Budget
+/// How much one call may serve, where 0 is no limit.
+pub(crate) fn budget(chains: u32, bytes: u64) -> Budget
     ensures value { result ≡ budget_of chains bytes }
     ensures lasts { ¬ IsSpent result }
 {

@@ -3,7 +3,8 @@
 //! Each export takes a handle, does what the session behind it does, and answers a number. `handle` is what
 //! C holds, `any_session` the session of either kind, `codes` the numbers, `pending` what waits once a call is answered,
 //! `operation` what a disk is asked for. `region` describes a guest's memory. `create` makes a board over an image and destroys
-//! any, `create_hosted` makes one whose disks the host serves; `registers`, `disk`, `memory`, `console`, `saved` and `image`
+//! any, `create_hosted` makes one whose disks the host serves, `create_lent` and `create_hosted_lent` make them over memory
+//! that the host lends (`loans`); `registers`, `disk`, `memory`, `console`, `saved` and `image`
 //! have the calls on one. `version` is the header's number.
 #![tactic(auto)]
 
@@ -12,9 +13,12 @@ mod codes;
 mod console;
 mod create;
 mod create_hosted;
+mod create_hosted_lent;
+mod create_lent;
 mod disk;
 mod handle;
 mod image;
+mod loans;
 mod memory;
 mod operation;
 mod pending;

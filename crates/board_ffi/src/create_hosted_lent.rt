@@ -1,0 +1,98 @@
+//! A board whose disks the host serves is made of what C describes, over memory that C lends.
+
+ghost use Rattle.std.specs.Prelude.{◌≡◌, ◌≢◌, ◌⊎◌, ◌↔◌, [], All, Some, None, IfOk, IfErr, OnOk, IfSome, IsErrAnd, map};
+ghost use Rattle.board.specs.Fault.{AreGoodHosted};
+ghost use Rattle.board.specs.Lent.{AreBytesOf};
+ghost use Rattle.session.specs.declared.fault.SessionFault.{SessionFault};
+ghost use Rattle.session.specs.Hosted.{IsHostedLentRefusedFor, new_hosted_session_over};
+ghost use Rattle.session.specs.Refusing.{AreOutlets};
+ghost use Rattle.session.specs.Session.{slots_of};
+ghost use Rattle.board_ffi.specs.declared.any_session.AnySession.{AnySession};
+ghost use Rattle.board_ffi.specs.Codes.{fault_code};
+ghost use Rattle.board_ffi.specs.Create.{AreSized, guest_of};
+ghost use Rattle.board_ffi.specs.Lent.{IsHostedMadeOver, IsHostedNotMadeOver, lent_bytes};
+
+use crate::any_session::AnySession;
+use crate::codes::{BAD_SIZE, DONE, HAS_BOARD, of_fault};
+use crate::create::{Slot, are_sized, guests};
+use crate::handle::Handle;
+use crate::loans::taken;
+use guest_bytes::Loan;
+use session::{HostedSession, SessionFault};
+use std::alloc::Global;
+
+/// Makes a board as `kalyubos_create_hosted` does, over bytes that the host lends: a loan for each region, slot by slot. Each
+/// loan is taken, and an empty one left.
+#[unsafe(no_mangle)]
+pub extern "C" fn kalyubos_create_hosted_lent(
+    alloc: Global,
+    board: &mut Handle,
+    slots: &[Slot],
+    loans: &mut [Loan],
+) -> u32
+    ensures full { IfSome board.old.session (λ old. (result ≡ 2) × (board.new.session ≡ Some old)) }
+
+    // the sizes are judged before all else that is described
+    ensures bad_size { board.old.session ≡ None → ((result ≡ 17) ↔ ¬ AreSized slots.now) }
+    ensures sized { board.old.session ≡ None → result ≢ 17 → AreSized slots.now }
+    ensures bad_size_keeps { board.old.session ≡ None → result ≡ 17 → board.new.session ≡ None }
+
+    ensures made { board.old.session ≡ None → result ≡ 0 →
+        IsHostedMadeOver (map guest_of slots.now) (lent_bytes loans.old) board.new.session }
+    ensures not_made { board.old.session ≡ None → result ≢ 0 → result ≢ 17 →
+        IsHostedNotMadeOver (map guest_of slots.now) (lent_bytes loans.old) result board.new.session }
+
+    // exactly that number, but that want of memory may come before it
+    ensures exact { board.old.session ≡ None → AreSized slots.now → (why : SessionFault) → why ≢ SessionFault.NoMemory →
+        IsHostedLentRefusedFor (map guest_of slots.now) (lent_bytes loans.old) why →
+        (result ≡ fault_code why) ⊎ (result ≡ 5) }
+
+    ensures loans_taken { board.old.session ≡ None → result ≡ 0 → All (λ loan. loan.items ≡ []) loans.new }
+    ensures loans_kept { (result ≡ 2) ⊎ (result ≡ 17) → loans.new ≡ loans.old }
+{
+    if let Some(held) = board.take(alloc) {
+        board.put(held);
+        return HAS_BOARD;
+    }
+    if !are_sized(slots) {
+        return BAD_SIZE;
+    }
+    match session(alloc, slots, loans) {
+        Ok(session) => {
+            board.put(session);
+            DONE
+        }
+        Err(why) => of_fault(why),
+    }
+}
+
+// A session of these slots over these loans.
+fn session(
+    alloc: Global,
+    slots: &[Slot],
+    loans: &mut [Loan],
+) -> Result<Box<AnySession>, SessionFault>
+    ensures made { IfOk result (λ session. session.value ≡
+        AnySession.Hosted (new_hosted_session_over (map guest_of slots.now) (lent_bytes loans.old))) }
+    ensures lent { OnOk result (AreBytesOf (slots_of (map guest_of slots.now)) (lent_bytes loans.old)) }
+    ensures accepted { OnOk result (AreGoodHosted (slots_of (map guest_of slots.now))) }
+    ensures outlets { OnOk result (AreOutlets (map guest_of slots.now)) }
+    ensures fault { IfErr result (λ why. (why ≡ SessionFault.NoMemory) ⊎
+        IsHostedLentRefusedFor (map guest_of slots.now) (lent_bytes loans.old) why) }
+    ensures exact { (why : SessionFault) → why ≢ SessionFault.NoMemory →
+        IsHostedLentRefusedFor (map guest_of slots.now) (lent_bytes loans.old) why →
+        IsErrAnd result (λ told. (told ≡ why) ⊎ (told ≡ SessionFault.NoMemory)) }
+    ensures left { OnOk result (All (λ loan. loan.items ≡ []) loans.new) }
+{
+    let Ok(guests) = guests(alloc, slots) else {
+        return Err(SessionFault::NoMemory);
+    };
+    let Ok(bytes) = taken(alloc, loans) else {
+        return Err(SessionFault::NoMemory);
+    };
+    let session = HostedSession::over_lent(alloc, &guests, bytes)?;
+    match Box::new(alloc, AnySession::Hosted(session)) {
+        Ok(session) => Ok(session),
+        Err(_) => Err(SessionFault::NoMemory),
+    }
+}

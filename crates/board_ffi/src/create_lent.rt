@@ -1,0 +1,106 @@
+//! A board over an image is made of what C describes, over memory that C lends.
+
+ghost use Rattle.std.specs.Prelude.{◌≡◌, ◌≢◌, ◌⊎◌, ◌↔◌, ◌/◌, [], All, Some, None, IfOk, IfErr, OnOk, IfSome, IsErrAnd, length, map};
+ghost use Rattle.chain.specs.Budget.{IsSpent};
+ghost use Rattle.board.specs.Fault.{IsAccepted};
+ghost use Rattle.board.specs.Lent.{AreBytesOf};
+ghost use Rattle.session.specs.declared.fault.SessionFault.{SessionFault};
+ghost use Rattle.session.specs.Refusing.{AreOutlets, IsLentRefusedFor};
+ghost use Rattle.session.specs.Session.{new_session_over, slots_of};
+ghost use Rattle.board_ffi.specs.declared.any_session.AnySession.{AnySession};
+ghost use Rattle.board_ffi.specs.Codes.{fault_code};
+ghost use Rattle.board_ffi.specs.Create.{AreSized, budget_of, guest_of};
+ghost use Rattle.board_ffi.specs.Lent.{IsMadeOver, IsNotMadeOver, lent_bytes};
+
+use crate::any_session::AnySession;
+use crate::codes::{BAD_SIZE, DONE, HAS_BOARD, of_fault};
+use crate::create::{Slot, are_sized, budget, guests};
+use crate::handle::Handle;
+use crate::loans::taken;
+use guest_bytes::Loan;
+use session::{Budget, Session, SessionFault};
+use std::alloc::Global;
+
+/// Makes a board as `kalyubos_create` does, over bytes that the host lends: a loan for each region, slot by slot. Each loan
+/// is taken, and an empty one left.
+#[unsafe(no_mangle)]
+pub extern "C" fn kalyubos_create_lent(
+    alloc: Global,
+    board: &mut Handle,
+    slots: &[Slot],
+    loans: &mut [Loan],
+    image: &[u8],
+    cache: u32,
+    chains: u32,
+    bytes: u64,
+) -> u32
+    ensures full { IfSome board.old.session (λ old. (result ≡ 2) × (board.new.session ≡ Some old)) }
+
+    // the sizes are judged before all else that is described
+    ensures bad_size { board.old.session ≡ None → ((result ≡ 17) ↔ ¬ AreSized slots.now) }
+    ensures sized { board.old.session ≡ None → result ≢ 17 → AreSized slots.now }
+    ensures bad_size_keeps { board.old.session ≡ None → result ≡ 17 → board.new.session ≡ None }
+
+    ensures made { board.old.session ≡ None → result ≡ 0 →
+        IsMadeOver (map guest_of slots.now) (lent_bytes loans.old) image.now cache (budget_of chains bytes) board.new.session }
+    ensures not_made { board.old.session ≡ None → result ≢ 0 → result ≢ 17 → IsNotMadeOver (map guest_of slots.now)
+        (lent_bytes loans.old) image.now cache (budget_of chains bytes) result board.new.session }
+
+    // exactly that number, but that want of memory may come before it
+    ensures exact { board.old.session ≡ None → AreSized slots.now → (why : SessionFault) → why ≢ SessionFault.NoMemory →
+        IsLentRefusedFor (map guest_of slots.now) (lent_bytes loans.old) image.now cache (budget_of chains bytes) why →
+        (result ≡ fault_code why) ⊎ (result ≡ 5) }
+
+    ensures loans_taken { board.old.session ≡ None → result ≡ 0 → All (λ loan. loan.items ≡ []) loans.new }
+    ensures loans_kept { (result ≡ 2) ⊎ (result ≡ 17) → loans.new ≡ loans.old }
+{
+    if let Some(held) = board.take(alloc) {
+        board.put(held);
+        return HAS_BOARD;
+    }
+    if !are_sized(slots) {
+        return BAD_SIZE;
+    }
+    match session(alloc, slots, loans, image, cache, budget(chains, bytes)) {
+        Ok(session) => {
+            board.put(session);
+            DONE
+        }
+        Err(why) => of_fault(why),
+    }
+}
+
+// A session of these slots over these loans.
+fn session(
+    alloc: Global,
+    slots: &[Slot],
+    loans: &mut [Loan],
+    image: &[u8],
+    cache: u32,
+    budget: Budget,
+) -> Result<Box<AnySession>, SessionFault>
+    requires { ¬ IsSpent budget }
+    ensures made { IfOk result (λ session. session.value ≡
+        AnySession.OfImage (new_session_over (map guest_of slots.now) (lent_bytes loans.old) image.now budget)) }
+    ensures lent { OnOk result (AreBytesOf (slots_of (map guest_of slots.now)) (lent_bytes loans.old)) }
+    ensures accepted { OnOk result (IsAccepted (length image.now / 512) (slots_of (map guest_of slots.now)) cache) }
+    ensures outlets { OnOk result (AreOutlets (map guest_of slots.now)) }
+    ensures fault { IfErr result (λ why. (why ≡ SessionFault.NoMemory) ⊎
+        IsLentRefusedFor (map guest_of slots.now) (lent_bytes loans.old) image.now cache budget why) }
+    ensures exact { (why : SessionFault) → why ≢ SessionFault.NoMemory →
+        IsLentRefusedFor (map guest_of slots.now) (lent_bytes loans.old) image.now cache budget why →
+        IsErrAnd result (λ told. (told ≡ why) ⊎ (told ≡ SessionFault.NoMemory)) }
+    ensures left { OnOk result (All (λ loan. loan.items ≡ []) loans.new) }
+{
+    let Ok(guests) = guests(alloc, slots) else {
+        return Err(SessionFault::NoMemory);
+    };
+    let Ok(bytes) = taken(alloc, loans) else {
+        return Err(SessionFault::NoMemory);
+    };
+    let session = Session::over_lent(alloc, &guests, bytes, image, cache, budget)?;
+    match Box::new(alloc, AnySession::OfImage(session)) {
+        Ok(session) => Ok(session),
+        Err(_) => Err(SessionFault::NoMemory),
+    }
+}
