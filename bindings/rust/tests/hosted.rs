@@ -1,6 +1,7 @@
 //! A board whose disks the host serves: a flight from its write to its completion.
 
 use kalyubos::{CreateError, Error, HostedBoard, Kind, Outcome, Run, Slot, Window};
+use std::ptr::NonNull;
 
 const MEMORY: u64 = 0x8000_0000;
 const LEN: u64 = 0x1_0000;
@@ -122,4 +123,22 @@ fn refusals_are_told() {
         HostedBoard::new(&[long]).unwrap_err(),
         CreateError::ExtentOutside
     );
+}
+
+#[test]
+fn memory_may_be_lent() {
+    let mut bytes = vec![0; LEN as usize];
+    let lent = [NonNull::from(&mut bytes[..])];
+    let slots = [Slot::new(MEMORY, LEN, 0..2)];
+    // SAFETY: nothing else reaches the bytes until the board is dropped.
+    let mut board = unsafe { HostedBoard::over_lent(&slots, &lent) }.expect("a board");
+    board
+        .write_memory(0, MEMORY + LEN - 1, &[7])
+        .expect("a store");
+    drop(board);
+    assert_eq!(bytes.last(), Some(&7));
+
+    // SAFETY: nothing is lent.
+    let none = unsafe { HostedBoard::over_lent(&slots, &[]) };
+    assert_eq!(none.unwrap_err(), CreateError::BadLoan);
 }
