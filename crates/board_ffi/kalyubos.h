@@ -330,9 +330,9 @@ struct kalyubos_loan {
  * BAD_LOAN comes after BAD_SIZE and before all other numbers. NO_MEMORY may come in the place of all but BAD_SIZE.
  *
  * Each loan is taken: null and 0 are left in its place. After HAS_BOARD and BAD_SIZE all loans are as they were, after another
- * refusal some may be. Either way the bytes of a refused call are the host's again; it fills the array anew before it tries again.
+ * refusal some may be. The bytes of a refused call are the host's again; it fills the array before it tries again.
  *
- * Until kalyubos_destroy the bytes stay mapped where they are, no two loans of any boards share a byte, and the duty above
+ * Until kalyubos_destroy the bytes stay mapped where they are, and no two loans of any boards share a byte. The duty above
  * on a guest's memory in place holds of them: nobody touches them while a call for their guest runs.
  */
 uint32_t kalyubos_create_lent(struct kalyubos *board, const struct kalyubos_slot *slots, size_t slots_len,
@@ -414,8 +414,8 @@ uint32_t kalyubos_completed(struct kalyubos *board, uint8_t slot, bool failed, s
  * Lends the slot's memory in place, from address `addr` to the end of the region that holds it: `bytes` is where the byte
  * of `addr` lies, and `len` how many there are from it on. BAD_RANGE where no region holds `addr`. Both stay until
  * kalyubos_destroy. Read and write the bytes as you like between calls for the slot, or map them to its CPUs; what is
- * written in place is the event of a memory write of that guest. Each region is one block of the heap, of exactly as many
- * bytes: a heap that begins such blocks at a page makes it fit to be mapped.
+ * written in place is the event of a memory write of that guest. Each region that isn't lent is one block of the heap, of
+ * exactly as many bytes: a heap that begins such blocks at a page makes it fit to be mapped.
  */
 uint32_t kalyubos_memory(struct kalyubos *board, uint8_t slot, uint64_t addr, uint8_t **bytes, size_t *len);
 
