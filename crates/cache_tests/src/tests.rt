@@ -1,20 +1,12 @@
-//! Worked values of the images and the cache, and what a caller can prove over any image.
+//! Worked values of the images and the cache.
 
-mod blind;
-mod both;
 mod files;
-mod gather;
 mod image_calls;
 mod in_place;
 mod memory_file;
-mod plain;
 mod recorded;
-mod refused;
 mod sectors;
-mod switched;
 
-use blind::BlindImage;
-use gather::gather;
 use sector_cache::{
     CacheFault, FileImageFault, Image, ImageError, ImageFault, MemoryImage, ScriptedImage,
     SectorCache,
@@ -167,26 +159,6 @@ fn zeros_go_through(rt: HostRuntime) -> Result<(), Fail> {
     let found = with_zeros(cached(rt.alloc(), image, 2)?);
     let wanted = halves(rt.alloc(), &[0x10, 0x10, 0, 0, 0x12, 0x12])?;
     same(&rt, &"sector 1", &found, &Some(wanted));
-    Ok(())
-}
-
-/// Appends sectors 2 and 0 of an image of three.
-fn gather_two(image: &mut MemoryImage, list: &mut Vec<u8>) -> Result<(), AllocError> {
-    if image.sectors() != 3 {
-        return Ok(());
-    }
-    gather(image, &[2, 0], list)
-}
-
-#[test]
-fn sectors_are_gathered(rt: HostRuntime) -> Result<(), Fail> {
-    let mut image = MemoryImage::new(halves(rt.alloc(), &[0x10, 0x10, 0x11, 0x11, 0x12, 0x12])?)?;
-    let mut list = Vec::new(rt.alloc());
-    gather_two(&mut image, &mut list)?;
-    let wanted = halves(rt.alloc(), &[0x12, 0x12, 0x10, 0x10])?;
-    same(&rt, &"2 and 0", &list, &wanted);
-    gather(&mut BlindImage::new(), &[1], &mut list)?;
-    same(&rt, &"one more", &list.len(), &1536);
     Ok(())
 }
 

@@ -7,10 +7,8 @@
 mod answer;
 mod chains;
 mod check;
-mod consoles;
 mod guests;
 mod memory;
-mod port;
 mod requests;
 mod rings;
 mod row;

@@ -1,6 +1,5 @@
 //! An image in memory is lent where it lies, and a cache keeps nothing of it.
 
-use crate::tests::refused::requests_of;
 use crate::tests::same;
 use crate::tests::sectors::{
     Call, Given, cached, call_of, eight_bytes, eight_sectors, filled, halves_of,
@@ -88,6 +87,13 @@ fn a_cache_lends_what_lies_in_memory(rt: HostRuntime) -> Result<(), Fail> {
         check_step(&rt, &mut cache, step);
     }
     Ok(())
+}
+
+// How many requests for memory a cache of this capacity makes.
+fn requests_of(heap: &RefusingHeap, image: MemoryImage, capacity: u32) -> Result<u64, Fail> {
+    heap.refuse_from(0);
+    let _cache = cached(heap, image, capacity)?;
+    Ok(heap.requests())
 }
 
 /// Room is taken for one sector, however many may be kept.

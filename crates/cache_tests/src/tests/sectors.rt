@@ -73,20 +73,3 @@ pub fn call_of<I: Image, A: Allocator + Copy>(cache: &mut SectorCache<I, A>, cal
         _ => None,
     }
 }
-
-/// Numbers that look random, in an order that is always the same.
-#[derive(Drop)]
-pub struct Numbers {
-    pub state: u64,
-}
-
-impl Numbers {
-    /// A number below 2^`bits`, of at most 31 bits.
-    pub fn of_bits(&mut self, bits: u32) -> u64 {
-        self.state = self
-            .state
-            .wrapping_mul(6_364_136_223_846_793_005)
-            .wrapping_add(1);
-        (self.state >> 33) & ((1 << bits.min(31)) - 1)
-    }
-}

@@ -1,7 +1,6 @@
 //! The rows of a file, one after another.
 
 use crate::calls::chains::Chains;
-use crate::calls::consoles::Consoles;
 use crate::calls::guests::Guests;
 use crate::calls::memory::Memory;
 use crate::calls::requests::Requests;
@@ -46,7 +45,6 @@ fn check_subject<R: AllocGlobal, W: Write>(
     let alloc = rt.alloc();
     match subject {
         "chains" => check_made(rt, file, rows, Chains::new(alloc), out),
-        "consoles" => check_consoles(rt, file, rows, out),
         "guests" => check_guests(rt, file, rows, out),
         "memory" => check_made(rt, file, rows, Memory::new(alloc), out),
         "requests" => check_made(rt, file, rows, Requests::new(alloc), out),
@@ -59,16 +57,6 @@ fn check_subject<R: AllocGlobal, W: Write>(
             Ok(false)
         }
     }
-}
-
-fn check_consoles<R: AllocGlobal, W: Write>(
-    rt: &R,
-    file: &str,
-    rows: &str,
-    out: &mut W,
-) -> io::Result<bool> {
-    let heap = RefusingHeap::new(rt.alloc());
-    check_made(rt, file, rows, Consoles::new(rt.alloc(), &heap), out)
 }
 
 fn check_guests<R: AllocGlobal, W: Write>(
