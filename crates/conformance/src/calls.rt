@@ -9,7 +9,6 @@ mod chains;
 mod check;
 mod guests;
 mod memory;
-mod requests;
 mod rings;
 mod row;
 mod subject;

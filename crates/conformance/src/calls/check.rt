@@ -3,7 +3,6 @@
 use crate::calls::chains::Chains;
 use crate::calls::guests::Guests;
 use crate::calls::memory::Memory;
-use crate::calls::requests::Requests;
 use crate::calls::rings::Rings;
 use crate::calls::row::{Row, row_of};
 use crate::calls::subject::{Stuck, Subject};
@@ -47,7 +46,6 @@ fn check_subject<R: AllocGlobal, W: Write>(
         "chains" => check_made(rt, file, rows, Chains::new(alloc), out),
         "guests" => check_guests(rt, file, rows, out),
         "memory" => check_made(rt, file, rows, Memory::new(alloc), out),
-        "requests" => check_made(rt, file, rows, Requests::new(alloc), out),
         "rings" => check_made(rt, file, rows, Rings::new(alloc), out),
         "traces" => check_made(rt, file, rows, Ok(Traces::new(alloc)), out),
         "wants" => check_made(rt, file, rows, Wants::new(alloc), out),
