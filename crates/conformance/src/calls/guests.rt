@@ -156,12 +156,8 @@ impl<B: Allocator> Subject for Guests<'_, B> {
 // An image of so many bytes, of which each of sector k is 10 + k.
 fn image_of(alloc: Global, len: u32) -> Result<Vec<u8>, AllocError> {
     let mut image = Vec::new(alloc);
-    let mut byte = 0x0fu8;
     for at in 0..len {
-        if at % 512 == 0 {
-            byte = byte.wrapping_add(1);
-        }
-        image.push(byte)?;
+        image.push((at / 512) as u8 | 0x10)?;
     }
     Ok(image)
 }

@@ -13,6 +13,11 @@ pub(crate) fn row_of(line: &str) -> Option<Row<'_>> {
     if line.is_empty() || line.starts_with('#') {
         return None;
     }
-    let (call, answer) = line.split_once(" = ").unwrap_or((line, "ok"));
-    Some(Row { call, answer })
+    match line.split_once(" = ") {
+        Some((call, answer)) => Some(Row { call, answer }),
+        None => Some(Row {
+            call: line,
+            answer: "ok",
+        }),
+    }
 }

@@ -240,7 +240,7 @@ fn read_memory<A: Allocator + Copy>(
 // What a register gave, or the refusal.
 fn put_value(answer: &mut String, value: Result<u32, Refusal>) -> Result<(), Stuck> {
     match value {
-        Ok(value) => written(write!(answer, "{value:08x}")),
+        Ok(value) => put_number(answer, u64::from(value)),
         Err(why) => put_result(answer, Err(why)),
     }
 }
