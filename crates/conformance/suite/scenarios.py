@@ -10,6 +10,8 @@ CRATE = os.path.dirname(os.path.dirname(os.path.abspath(__file__)))
 # The worked scenarios, those that are made from tables, and those of these with a large image, which the gate's program doesn't replay.
 FOLDERS = [os.path.join(CRATE, "data", name) for name in ("scenarios", "matrix", "large")]
 SECTOR = 512
+# The files that a scenario may have.
+ENDS = (".trace", ".records", ".before", ".fails", ".after")
 
 
 class Broken(Exception):
@@ -89,6 +91,16 @@ LISTED = re.compile(r"- `([^`]*)`:? ?(.*)")
 def load():
     """All scenarios, first the worked ones."""
     return [scenario for folder in FOLDERS for scenario in load_folder(folder)]
+
+
+def strays(folder, listed):
+    """The files of the subjects of a folder that belong to none of its scenarios."""
+    names = {scenario.name for scenario in listed if scenario.part == os.path.basename(folder)}
+    for subject in sorted(entry.name for entry in os.scandir(folder) if entry.is_dir()):
+        for file in sorted(os.listdir(os.path.join(folder, subject))):
+            name, end = os.path.splitext(f"{subject}/{file}")
+            if name not in names or end not in ENDS:
+                yield f"{os.path.basename(folder)}/{subject}/{file} belongs to no scenario"
 
 
 def load_folder(folder):

@@ -7,15 +7,13 @@ use crate::scenarios::finding::Finding;
 use crate::scenarios::page::{PAGE, names_of};
 use crate::scenarios::replayed::{Compared, outcome_of};
 use crate::scenarios::scenario::Scenario;
-use crate::scenarios::strays::has_no_strays;
 use crate::scenarios::versions::in_version_2;
 use std::alloc::Global;
 use std::io::Write;
 use std::rt::Files;
 use std::{fs, io};
 
-/// Checks all scenarios that the folder's page lists, writes a line for each, and a line for each file that
-/// belongs to none. The answer is whether all is well.
+/// Checks all scenarios that the folder's page lists, and writes a line for each. The answer is whether all is well.
 pub(crate) fn check_folder<R: Files + AllocGlobal + Clone + Drop, W: Write>(
     rt: &R,
     folder: &str,
@@ -30,7 +28,7 @@ pub(crate) fn check_folder<R: Files + AllocGlobal + Clone + Drop, W: Write>(
     let tally = check_all(rt, folder, &names, out)?;
     let count = tally.in_version_2;
     writeln!(out, "{folder}: {count} give the same in version 2")?;
-    Ok(has_no_strays(rt, folder, &names, out)? && tally.all_pass)
+    Ok(tally.all_pass)
 }
 
 /// What came of the scenarios of a folder.

@@ -21,9 +21,6 @@ const FAILS: &str = "fails";
 /// The file of what has become of the image, where it was changed or flushed.
 pub(crate) const AFTER: &str = "after";
 
-/// The parts that a scenario may have.
-pub(crate) const PARTS: [&str; 5] = [TRACE, RECORDS, BEFORE, FAILS, AFTER];
-
 /// What stands for an image that is neither changed nor flushed.
 const LEFT_ALONE: &str = "flushes 0\n";
 
