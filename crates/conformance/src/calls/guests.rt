@@ -157,7 +157,7 @@ impl<B: Allocator> Subject for Guests<'_, B> {
 fn image_of(alloc: Global, len: u32) -> Result<Vec<u8>, AllocError> {
     let mut image = Vec::new(alloc);
     for at in 0..len {
-        image.push((at / 512) as u8 | 0x10)?;
+        image.push((at / 512 % 16) as u8 | 0x10)?;
     }
     Ok(image)
 }
