@@ -11,7 +11,7 @@ use crate::calls::wants::Wants;
 use crate::calls::windows::Windows;
 use crate::calls::words::Words;
 use linked_list_allocator::LocalHeap;
-use refusing::RefusingHeap;
+use test_support::RefusingHeap;
 use std::io::Write;
 use std::rt::Files;
 use std::{fs, io};

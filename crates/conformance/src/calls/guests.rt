@@ -11,7 +11,7 @@ use crate::calls::subject::{Stuck, Subject};
 use crate::calls::words::Words;
 use board::{Board, Event, Extent, RegionSpec, Regions, SlotSpec};
 use linked_list_allocator::LocalHeap;
-use refusing::RefusingHeap;
+use test_support::RefusingHeap;
 use sector_cache::ScriptedImage;
 use session::{Budget, GuestSpec, Session};
 use std::alloc::{AllocError, Allocator, Global};

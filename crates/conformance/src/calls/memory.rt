@@ -6,7 +6,7 @@ use crate::calls::answer::{put_bytes, put_flag, put_number, put_option, put_resu
 use crate::calls::subject::{Stuck, Subject};
 use crate::calls::words::Words;
 use guest_memory::{GuestMemory, RegionSpec};
-use refusing::RefusingHeap;
+use test_support::RefusingHeap;
 use std::alloc::Global;
 
 /// The memory until a call makes another.

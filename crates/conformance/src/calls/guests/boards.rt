@@ -9,7 +9,7 @@ use crate::calls::answer::{put_flag, put_number, put_word, written};
 use crate::calls::subject::Stuck;
 use crate::calls::words::Words;
 use board::{Board, BoardFault, Event, Image, Record, Refused, SlotSpec};
-use refusing::RefusingHeap;
+use test_support::RefusingHeap;
 use sector_cache::ScriptedImage;
 use std::alloc::Allocator;
 use std::str;

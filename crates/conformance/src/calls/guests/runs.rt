@@ -8,7 +8,7 @@ use crate::calls::answer::{put_number, written};
 use crate::calls::subject::Stuck;
 use crate::calls::words::Words;
 use board::{Board, Event, Image, Record, Reply};
-use refusing::RefusingHeap;
+use test_support::RefusingHeap;
 use std::alloc::Allocator;
 
 /// What a run came to of which a request for memory was refused.

@@ -5,7 +5,7 @@ use crate::calls::answer::{put_bytes, put_number, put_result, put_word, written}
 use crate::calls::subject::Stuck;
 use crate::calls::words::Words;
 use board::{Event, EventKind};
-use refusing::RefusingHeap;
+use test_support::RefusingHeap;
 use session::{Budget, GuestSpec, Progress, Refusal, Session, SessionFault, Typed};
 use std::alloc::{Allocator, Global};
 

@@ -6,7 +6,7 @@ use crate::calls::answer::{put_word, written};
 use crate::calls::subject::Stuck;
 use crate::calls::words::Words;
 use board::SlotSpec;
-use refusing::RefusingHeap;
+use test_support::RefusingHeap;
 use std::alloc::{Allocator, Global};
 use std::str;
 use trace::{FaultKind, Trace, TraceFault, is_printable, print_trace, read_trace, to_version};

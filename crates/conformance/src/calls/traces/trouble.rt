@@ -3,7 +3,7 @@
 use super::Traces;
 use super::streams::{Reader, Writer};
 use crate::calls::subject::Stuck;
-use refusing::RefusingHeap;
+use test_support::RefusingHeap;
 use replay::{ReplayFault, finish, replay};
 use sector_cache::{Image, ScriptedImage};
 use std::alloc::{AllocError, Allocator, Global};

@@ -1,2 +1,0 @@
-mod NextRequest
-mod Receiver

@@ -1,0 +1,4 @@
+pub mod MemoryFiles
+mod NextRequest
+mod Receiver
+pub mod Recorded
