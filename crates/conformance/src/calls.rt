@@ -12,7 +12,6 @@ mod memory;
 mod rings;
 mod row;
 mod subject;
-mod traces;
 mod wants;
 mod windows;
 mod words;

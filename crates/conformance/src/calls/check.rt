@@ -6,7 +6,6 @@ use crate::calls::memory::Memory;
 use crate::calls::rings::Rings;
 use crate::calls::row::{Row, row_of};
 use crate::calls::subject::{Stuck, Subject};
-use crate::calls::traces::Traces;
 use crate::calls::wants::Wants;
 use crate::calls::windows::Windows;
 use crate::calls::words::Words;
@@ -47,7 +46,6 @@ fn check_subject<R: AllocGlobal, W: Write>(
         "guests" => check_guests(rt, file, rows, out),
         "memory" => check_made(rt, file, rows, Memory::new(alloc), out),
         "rings" => check_made(rt, file, rows, Rings::new(alloc), out),
-        "traces" => check_made(rt, file, rows, Ok(Traces::new(alloc)), out),
         "wants" => check_made(rt, file, rows, Wants::new(alloc), out),
         "windows" => check_made(rt, file, rows, Windows::new(alloc), out),
         _ => {
