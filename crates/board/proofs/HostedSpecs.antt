@@ -25,17 +25,6 @@ pub good_hosted_more : (slots : List SlotSpec) (n : ℕ) (d : SlotSpec) → n < 
 good_hosted_more slots n d below good one i spec near there =
     more_at slots n (get_or slots n d) good one (slice_get-get_or slots n d below) i spec near there (cases_lt i n)
 
--- a slot's fault, where those before it are good, refuses the board
-pub refused_hosted : (slots : List SlotSpec) (n : ℕ) (spec : SlotSpec) (fault : BoardFault) → slice_get slots n ≡ Some spec → 1 ≤ length slots → length slots ≤ 64 → GoodHostedBelow slots n
-    → IsFaultOf most_sectors [] (with_own_disk spec) fault → RefusesHosted slots fault
-refused_hosted slots n spec NoSlots there some few good is = absurd is
-refused_hosted slots n spec TooManySlots there some few good is = absurd is
-refused_hosted slots n spec (Memory fault) there some few good is = record { some = some; few = few; at_slot = n; spec = spec; there = there; before = good; fault_is = is }
-refused_hosted slots n spec ExtentOutside there some few good is = record { some = some; few = few; at_slot = n; spec = spec; there = there; before = good; fault_is = is }
-refused_hosted slots n spec ExtentsOverlap there some few good is = let below : is.shared.0 < 0 = is.shared.2 in absurd (omega (arith, below))
-refused_hosted slots n spec (Cache fault) there some few good is = absurd is
-refused_hosted slots n spec NoMemory there some few good is = absurd is
-
 -- where all slots were found good, they are
 pub good_hosted_all : (slots : List SlotSpec) (n : ℕ) → length slots ≤ n → GoodHostedBelow slots n → GoodHostedBelow slots (length slots)
 good_hosted_all slots n all good i spec below there = good i spec (omega arith) there

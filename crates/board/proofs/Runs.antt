@@ -74,10 +74,6 @@ pub record Reached {A : Type 0} (old new : World) (events : List (Event A)) (bef
   pub events_are : events_of moves ≡ events
   pub records_are : after ≡ before ++ records_of moves
 
--- at first it did nothing
-pub reached_none : {A : Type 0} (old : World) (before : List (Record A)) → Reached old old [] before before
-reached_none old before = record { moves = []; line = refl; events_are = refl; records_are = sym (append-nil before) }
-
 -- then the board handles one event more, and its record is added
 pub reached_more : {A : Type 0} (old mid new : World) (events : List (Event A)) (event : Event A) (reply : Reply A) (block console : ℕ) (out : List ℕ) (before so_far after : List (Record A)) →
     Reached old mid events before so_far → Handles mid event reply block console [] out new →

@@ -220,20 +220,3 @@ pub good_ends : (rs : List RegionSpec) → AreGood rs → All (λ r. r.base + r.
 good_ends rs good k d below = (good.each k (get_or rs k d) below (slice_get-get_or rs k d below)).place.own.below
 
 -- ---- one region
-
--- one good region
-pub one_good : (r : RegionSpec) → IsSize r.len → IsBase r.base r.len → AreGood (r ∷ [])
-one_good r size base = all_judged (r ∷ []) 1 (0 + r.len) (omega arith) (omega arith)
-    (more_judged (r ∷ []) 0 0 r (omega arith) (none_judged (r ∷ [])) (record {
-      size = record { own = size; together = omega (arith, size.most) };
-      place = record { own = base; spans = All-nil (λ other. r.base + r.len < other.base + 2 ^ 64) };
-      above = All-nil (λ other. other.base + other.len < r.base);
-    }))
-
--- has a good size and a good base
-pub good_one : (r : RegionSpec) → AreGood (r ∷ []) → IsSize r.len × IsBase r.base r.len
-good_one r good = let one = good_first r [] good.each in (one.size.own, one.place.own)
-
--- and its memory is that of zeros
-pub one_zeroed : (base len : ℕ) → zeroed_regions (record { base = base; len = len } ∷ []) ≡ zeroed base len
-one_zeroed base len = zeroed_region_is (map zeroed_region (record { base = base; len = len } ∷ [])) base len refl

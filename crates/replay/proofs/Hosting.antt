@@ -58,24 +58,6 @@ nothing_begins : (f : Option InFlight) → told_of_flight (if begins None f then
 nothing_begins None = refl
 nothing_begins (Some here) = refl
 
-one_flight : (f : Option InFlight) (operation : Operation) (runs : List Segment) → operation_in f ≡ Some operation → IfSome f (λ here. runs ≡ here.runs) → Some (operation, runs) ≡ told_of_flight f
-one_flight None operation runs is here = absurd cc
-one_flight (Some found) operation runs is here = let same : found.flight.operation ≡ operation = cc in rw (here, same) refl
-
-no_one_flight : (f : Option InFlight) → operation_in f ≡ None → None ≡ told_of_flight f
-no_one_flight None is = refl
-no_one_flight (Some found) is = absurd cc
-
--- the operation and its runs, as the board tells them
-pub flight_told : (o : Option HostedState) (operation : Operation) (runs : List Segment) → option_and_then (λ (s : HostedState). operation_in s.flight) o ≡ Some operation
-    → IsSomeAnd o (λ found. IfSome found.flight (λ here. runs ≡ here.runs)) → Some (operation, runs) ≡ told_of_flight (option_and_then (λ (s : HostedState). s.flight) o)
-flight_told None operation runs is here = absurd cc
-flight_told (Some state) operation runs is here = one_flight state.flight operation runs is here
-
-pub no_flight_told : (o : Option HostedState) → option_and_then (λ (s : HostedState). operation_in s.flight) o ≡ None → None ≡ told_of_flight (option_and_then (λ (s : HostedState). s.flight) o)
-no_flight_told None is = refl
-no_flight_told (Some state) is = no_one_flight state.flight is
-
 -- ---- what is answered
 
 -- a call that puts nothing out

@@ -30,9 +30,6 @@ pub length-extent_of : (bytes : List ℕ) (start count : ℕ) → 512 * (start +
 length-extent_of bytes start count inside =
     length-take-le (512 * count) (drop (512 * start) bytes) (omega (arith, length-drop (512 * start) bytes))
 
-pub length-sector_of : (bytes : List ℕ) (sector : ℕ) → 512 * (sector + 1) ≤ length bytes → length (sector_of bytes sector) ≡ 512
-length-sector_of bytes sector inside = length-extent_of bytes sector 1 inside
-
 pub length-with_sector : (bytes : List ℕ) (sector : ℕ) (new : List ℕ) → 512 * (sector + 1) ≤ length bytes → length new ≡ 512 → length (with_sector bytes sector new) ≡ length bytes
 length-with_sector bytes sector new inside whole =
     omega (arith, length-append (take (512 * sector) bytes) (new ++ drop (512 * (sector + 1)) bytes), length-append new (drop (512 * (sector + 1)) bytes), length-take-le (512 * sector) bytes (omega arith), length-drop (512 * (sector + 1)) bytes)
@@ -106,14 +103,6 @@ sector_of-with_sector_other bytes sector new other inside whole differs =
     extent_of-with_sector_apart bytes sector new other 1 inside whole
     (elim (cases_lt sector other) [ inl below ↦ inl below | inr above ↦ inr (omega arith) ])
 
--- an extent that the sector is in has the new bytes at the sector counted from its start
-pub extent_of-with_sector : (bytes : List ℕ) (start count sector : ℕ) (new : List ℕ) → 512 * (start + count) ≤ length bytes → sector < count → length new ≡ 512 → extent_of (with_sector bytes (start + sector) new) start count ≡ with_sector (extent_of bytes start count) sector new
-extent_of-with_sector bytes start count sector new inside within whole =
-    same_lists _ _ (long ∙ sym long_extent) same_bytes
-  where
-    long : length (extent_of (with_sector bytes (start + sector) new) start count) ≡ 512 * count
-    long = length-extent_of (with_sector bytes (start + sector) new) start count (omega (arith, length-with_sector bytes (start + sector) new (omega arith) whole))
-
     old_long : length (extent_of bytes start count) ≡ 512 * count
     old_long = length-extent_of bytes start count inside
 
@@ -143,22 +132,6 @@ extent_of-with_sector bytes start count sector new inside within whole =
               ]
         ])
 
--- writing what stands there changes nothing
-pub with_sector-sector_of : (bytes : List ℕ) (sector : ℕ) → with_sector bytes sector (sector_of bytes sector) ≡ bytes
-with_sector-sector_of bytes sector =
-    ap (λ rest. take (512 * sector) bytes ++ (sector_of bytes sector ++ rest)) (ap (λ n. drop n bytes) (omega arith) ∙ sym (drop-drop 512 (512 * sector) bytes))
-    ∙ ap (λ rest. take (512 * sector) bytes ++ rest) (take-append-drop 512 (drop (512 * sector) bytes))
-    ∙ take-append-drop (512 * sector) bytes
-
--- of two writes to one sector the later stands
-pub with_sector-with_sector : (bytes : List ℕ) (sector : ℕ) (old new : List ℕ) → 512 * (sector + 1) ≤ length bytes → length old ≡ 512 → with_sector (with_sector bytes sector old) sector new ≡ with_sector bytes sector new
-with_sector-with_sector bytes sector old new inside whole =
-    ap (λ front. front ++ (new ++ drop (512 * (sector + 1)) (with_sector bytes sector old))) (take_at (take (512 * sector) bytes) (old ++ drop (512 * (sector + 1)) bytes) (512 * sector) front_long)
-    ∙ ap (λ rest. take (512 * sector) bytes ++ (new ++ rest)) rest_same
-  where
-    front_long : length (take (512 * sector) bytes) ≡ 512 * sector
-    front_long = length-take-le (512 * sector) bytes (omega arith)
-
     rest_same : drop (512 * (sector + 1)) (with_sector bytes sector old) ≡ drop (512 * (sector + 1)) bytes
     rest_same =
         ap (λ n. drop n (with_sector bytes sector old)) (let e : 512 * (sector + 1) ≡ 512 * sector + 512 = omega arith in e)
@@ -176,10 +149,6 @@ extent_of-extent_of bytes start count from some within =
     ∙ take-take (512 * some) (512 * (count - from)) (drop (512 * from) (drop (512 * start) bytes)) (omega arith)
     ∙ ap (take (512 * some)) (drop-drop (512 * from) (512 * start) bytes)
     ∙ ap (λ n. take (512 * some) (drop n bytes)) (let e : 512 * start + 512 * from ≡ 512 * (start + from) = omega arith in e)
-
--- a sector of an extent is one of the bytes
-pub sector_of-extent_of : (bytes : List ℕ) (start count sector : ℕ) → sector < count → sector_of (extent_of bytes start count) sector ≡ sector_of bytes (start + sector)
-sector_of-extent_of bytes start count sector within = extent_of-extent_of bytes start count sector 1 (omega arith)
 
 -- one sector more
 pub extent_of-more : (bytes : List ℕ) (start count : ℕ) → extent_of bytes start (count + 1) ≡ extent_of bytes start count ++ sector_of bytes (start + count)

@@ -234,11 +234,3 @@ refused_where {A} told r why P same when =
 pub served_in : {A : Type 0} (told : Reply A) (r : Result HostedProgress Refusal) → told ≡ hosted_served r → refusal_in told ≡ refused r
 served_in told (Ok progress) is = rw is refl
 served_in {A} told (Err why) is = rw is (refusing_in A why)
-
-pub value_in : {A : Type 0} (told : Reply A) (r : Result ℕ Refusal) → told ≡ hosted_value r → refusal_in told ≡ refused r
-value_in told (Ok value) is = rw is refl
-value_in {A} told (Err why) is = rw is (refusing_in A why)
-
-pub done_in : {A : Type 0} (told : Reply A) (r : Result (Unit {0}) Refusal) → told ≡ hosted_done r → refusal_in told ≡ refused r
-done_in told (Ok value) is = rw is refl
-done_in {A} told (Err why) is = rw is (refusing_in A why)

@@ -73,11 +73,6 @@ no_such_slot {A} slots outputs h event past =
     (record { block = 0; console = 0; takes = λ limit waiting. calls_missing {A = A} slots h event limit waiting (slice_get_past slots h past) })
     (λ other differ. refl)
 
--- a range that isn't there
-pub refusing_range : {A : Type 0} (inside : Bool) → hosted_refusing {A = A} (if inside then refusal.BadRange else refusal.BadSlot) ≡ (if inside then BadRange else BadSlot)
-refusing_range true = refl
-refusing_range false = refl
-
 -- ---- how many slots there are
 
 many_at : {A : Type 0} (slots : List HostedState) (h : ℕ) (call : HostedCall A) (told : Told A) (new : List HostedState) (o : Option HostedState) → MatchOption o (CallsNone slots told new) (λ s. CallsSlot slots h s call told new) → length new ≡ length slots
@@ -170,30 +165,6 @@ pub suits_completion : {A : Type 0} (slots : List HostedState) (h : ℕ) (verdic
 suits_completion slots h verdict limit reply block console waiting left new takes = completed_at slots h verdict limit waiting _ new (slice_get slots h) takes.calls
 
 -- ---- what a write or a completion is answered
-
-pub serving_write : {A : Type 0} (window : DeviceKind) (offset width value : ℕ) (r : Reply A) → SuitsHosted (Write window offset width value) r → IsHostedServing r
-serving_write window offset width value (reply.Value n) suits = absurd suits
-serving_write window offset width value reply.Done suits = tt
-serving_write window offset width value (reply.Bytes bytes) suits = absurd suits
-serving_write window offset width value (reply.Took taken) suits = absurd suits
-serving_write window offset width value reply.BadSlot suits = tt
-serving_write window offset width value reply.BadRange suits = tt
-serving_write window offset width value reply.BadState suits = absurd suits
-serving_write window offset width value reply.NoMemory suits = tt
-serving_write window offset width value reply.Busy suits = tt
-serving_write window offset width value reply.Idle suits = tt
-
-pub serving_completion : {A : Type 0} (r : Reply A) → SuitsCompletion r → IsHostedServing r
-serving_completion (reply.Value n) suits = absurd suits
-serving_completion reply.Done suits = tt
-serving_completion (reply.Bytes bytes) suits = absurd suits
-serving_completion (reply.Took taken) suits = absurd suits
-serving_completion reply.BadSlot suits = tt
-serving_completion reply.BadRange suits = tt
-serving_completion reply.BadState suits = absurd suits
-serving_completion reply.NoMemory suits = tt
-serving_completion reply.Busy suits = tt
-serving_completion reply.Idle suits = tt
 
 -- ---- what is typed
 

@@ -646,10 +646,6 @@ past_of (suc n) (suc m) never = let rest = past_of n m (λ h. never (omega (arit
 pub called_past : {A : Type 0} (s : SessionState) (call : Call A) → length s.paused ≤ slot_in call → IsCall s call (Answered BadSlot) s
 called_past s call past = rw (slice_get_past s.paused (slot_in call) past) (refl, refl)
 
--- nothing is paused of a slot that isn't there
-pub idle_past : (s : SessionState) (slot : ℕ) → length s.paused ≡ length s.slots → length s.slots ≤ slot → IsIdle slot s
-idle_past s slot many past = let far : length s.paused ≤ slot = omega (arith, many, past) in rw (slice_get_past s.paused slot far) refl
-
 busy_at : (o : Option (Option Pause)) → (option_and_then (λ (here : Option Pause). here) o ≡ None → ⊥) → (pause : Pause) × (o ≡ Some (Some pause))
 busy_at None busy = absurd (busy refl)
 busy_at (Some None) busy = absurd (busy refl)

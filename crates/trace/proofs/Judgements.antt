@@ -156,9 +156,6 @@ pub first_more : (A : Type 0) (whole : List ℕ) (j new : Judgement) (k : ℕ) (
     → JudgedSofar A whole new (k + 1) after
 first_more A whole j new k rest after s h = judged_more A whole j new k rest h.line after (begun_before j rest) s h.ended refl h.judged
 
-pub first_shortens : {A : Type 0} (rest after : List ℕ) (old new : Judgement) → JudgesFirst A rest after old new → length after < length rest
-first_shortens rest after old new h = omega (arith, ap length h.ended, length-append h.line (10 ∷ after))
-
 -- ---- what is answered
 
 -- a fault of the text, which is then no trace's

@@ -48,10 +48,6 @@ may_move w j k late le h =
       | inr place ↦ (place k).1 le
     ]
 
-pub not_second : (w : Word) → MayStand 3 w → MayStand 2 w → ⊥
-not_second w late second =
-    elim (place_of w) [ inl two ↦ absurd (not_late 3 (omega arith) (two 3 late)) | inr place ↦ not_late 2 ((place 2).0 second) refl ]
-
 -- ---- a line that is refused
 
 after : (version : ℕ) (begun : Bool) (line : List ℕ) (word : Word) (fault : FaultKind) (fields : List (List ℕ)) → MayStand 3 word → IsWordOf version word → fields_of line ≡ spelled word ∷ fields → (begun ≡ true → word ≡ Slot → ⊥) → RefusesFields version word fields fault → RefusesAfterWord version begun line fault

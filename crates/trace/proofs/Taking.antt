@@ -18,15 +18,3 @@ not_ended l h = some_more (fields_of l) (some_fields l) h
 -- a value beside its width
 pub no_value : (width bytes : List ℕ) (w : ℕ) → IsWidthField width w → ((n : ℕ) → ¬ IsFixed (2 * w) bytes n) → ¬ Says (Value width) bytes
 no_value width bytes w wide none said = let n = said w wide in none n.0 n.1
-
-same_width : (width : List ℕ) (v w : ℕ) → IsWidthField width v → IsWidthField width w → v ≡ w
-same_width width v w one other = omega (arith, ap (λ (xs : List ℕ). get_or xs 0 0) (sym one.spelled ∙ other.spelled))
-
-pub value_said : (width bytes : List ℕ) (w n : ℕ) → IsWidthField width w → IsFixed (2 * w) bytes n → Says (Value width) bytes
-value_said width bytes w n wide is = λ other h. (n, subst (λ (x : ℕ). IsFixed (2 * x) bytes n) (same_width width w other wide h) is)
-
-pub value_read : (width bytes : List ℕ) (w n : ℕ) → IsWidthField width w → IsFixed (2 * w) bytes n → SaysValue (Value width) bytes (value.Value w n)
-value_read width bytes w n wide is = record {
-  is_of = λ other h. (n, subst (λ (x : ℕ). (value.Value w n ≡ value.Value x n) × (n < 16 ^ (2 * x))) (same_width width w other wide h) (refl, is.fits));
-  spelled = is.spelled;
-}
