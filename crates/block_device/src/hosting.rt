@@ -109,7 +109,7 @@ impl BlockDevice {
                     operation,
                 })
             }
-            Leaving::Plain(left) => match show(window, left) {
+            Leaving::Plain(left) => match show(window, left, room) {
                 Progress::More => Hosted::More,
                 Progress::Done => Hosted::Done,
             },
@@ -175,6 +175,7 @@ impl BlockDevice {
                     match self.begin(mem, chain) {
                         Begun::Answered(answer) => {
                             queue.give(mem, token, answer.len, answer.wrote);
+                            chain.count(answer.len);
                         }
                         Begun::Asks(request) => return Halt::Asks(Asked { token, request }),
                     }
@@ -193,12 +194,13 @@ impl Flight {
         self,
         mem: &mut GuestMemory<M>,
         window: &mut Window,
-        room: &Chain,
+        room: &mut Chain,
         verdict: Verdict,
     )
         requires sound { IsSound mem.old window.old }
-        requires flight { IsInFlight mem.old window.old room.now self }
-        ensures completes { CompletesIn self verdict mem.old mem.new window.old window.new room.now }
+        requires flight { IsInFlight mem.old window.old room.old self }
+        ensures completes { CompletesIn self verdict mem.old mem.new window.old window.new room.old }
+        ensures room { room.new ≡ room.old }
         ensures range { SameRange mem.old mem.new }
         ensures sound { IsSound mem.new window.new }
     {
@@ -208,7 +210,7 @@ impl Flight {
         self.give_back(mem, queue, room, verdict);
         let wanted = queue.close(mem);
         let fault = None;
-        let _ = show(window, Left::Closed { fault, wanted });
+        let _ = show(window, Left::Closed { fault, wanted }, room);
     }
 
     /// Writes the status of the chain in flight, and gives it back.
@@ -216,14 +218,15 @@ impl Flight {
         self,
         mem: &mut GuestMemory<M>,
         queue: &mut Queue,
-        chain: &Chain,
+        chain: &mut Chain,
         verdict: Verdict,
     )
         requires queue { LiesIn mem.old queue.old }
         requires taken { IsTaken queue.old self.token }
-        requires good { Good mem.old chain.now }
-        requires status { 0 < length (writable_of chain.now) }
-        ensures gives { IsGivenBack self verdict chain.now mem.old mem.new queue.old queue.new }
+        requires good { Good mem.old chain.old }
+        requires status { 0 < length (writable_of chain.old) }
+        ensures gives { IsGivenBack self verdict chain.old mem.old mem.new queue.old queue.new }
+        ensures chain { chain.new ≡ chain.old }
         ensures range { SameRange mem.old mem.new }
         ensures queue { LiesIn mem.new queue.new }
         ensures made { made_as queue.new ≡ made_as queue.old }
@@ -232,5 +235,6 @@ impl Flight {
         let done = Done::by(self.operation.kind, verdict, room);
         let answer = finish(mem, chain, done);
         queue.give(mem, self.token, answer.len, answer.wrote);
+        chain.count(answer.len);
     }
 }

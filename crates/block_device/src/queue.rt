@@ -134,6 +134,7 @@ impl BlockDevice {
                     left.spend(chain);
                     let answer = self.answer(mem, chain, cache);
                     queue.give(mem, token, answer.len, answer.wrote);
+                    chain.count(answer.len);
                     failed |= answer.failed;
                 }
                 Ok(None) => {

@@ -108,20 +108,22 @@ impl BlockDevice {
         };
         let service = self.serve_queue(mem, queue, cache, stage, budget, room);
         Piece {
-            progress: show(window, service.left),
+            progress: show(window, service.left, room),
             failed: service.failed,
         }
     }
 }
 
 /// What the window shows of a queue that is left so: nothing of one that stands open; else a used buffer where the
-/// driver wants to be told of one, and after a fault that a reset is needed.
-pub(crate) fn show(window: &mut Window, left: Left) -> Progress
+/// driver wants to be told of one, and after a fault that a reset is needed. Pauses and faults are counted in `room`.
+pub(crate) fn show(window: &mut Window, left: Left, room: &mut Chain) -> Progress
     ensures progress { result ≡ progress_of left }
     ensures after { window.new ≡ shown left window.old }
+    ensures room { room.new ≡ room.old }
     ensures sound { (m : Memory) → IsSound m window.old → IsSound m window.new }
 {
     let Left::Closed { fault, wanted } = left else {
+        room.count_pause();
         return Progress::More;
     };
     if wanted {
@@ -129,6 +131,7 @@ pub(crate) fn show(window: &mut Window, left: Left) -> Progress
     }
     if fault.is_some() {
         window.needs_reset();
+        room.count_fault();
     }
     Progress::Done
 }

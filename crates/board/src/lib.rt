@@ -8,12 +8,13 @@
 //! `board` is the board. `spec` says what it is made of, `check` and `fault` why one is refused;
 //! `event` is what comes in and `reply` what goes out, and `pause` what an event comes to whose service
 //! may pause. `slot` serves one guest, its memory, its two windows and its two devices, and knows of no
-//! other; `features` says what its devices offer, and `lent` makes its memory of a host's bytes. `laws` has what holds of every run by itself.
+//! other; `counters` is what it counts of them, `features` says what its devices offer, and `lent` makes its memory of a host's bytes. `laws` has what holds of every run by itself.
 #![tactic(auto)]
 
 mod board;
 mod bytes;
 mod check;
+mod counters;
 mod event;
 mod fault;
 mod features;
@@ -31,6 +32,7 @@ pub use board::{Board, Taken};
 pub use bytes::Bytes;
 pub use chain::Budget;
 pub use console_device::Outlet;
+pub use counters::Counters;
 pub use event::{Event, EventKind};
 pub use fault::BoardFault;
 pub use guest_memory::{GuestMemory, MemoryFault, RegionSpec, Regions};

@@ -30,6 +30,7 @@ mod service;
 mod view;
 mod window;
 
+use crate::counters::Counters;
 use crate::event::EventKind;
 use crate::pause::{Pause, Turn};
 use crate::reply::Reply;
@@ -57,6 +58,8 @@ pub(crate) struct Slot<A: Allocator = Global> {
     chain: Chain,
     // Whether an event of the slot has met a refusal.
     disturbed: bool,
+    // The notifications and refusals; the chain counts the rest. None of it is seen.
+    counters: Counters,
 }
 
 impl<A: Allocator> Model for Slot<A> {
@@ -119,6 +122,7 @@ impl<A: Allocator + Copy> Slot<A> {
             console: Window::new(DeviceKind::Console, features::of_console()),
             chain: Chain::new(),
             disturbed: false,
+            counters: Counters::default(),
         })
     }
 
@@ -198,6 +202,7 @@ impl<A: Allocator + Copy> Slot<A> {
         let Answer { turn, failed } = answer;
         if failed || matches!(turn, Turn::Answered(Reply::NoMemory)) {
             self.disturbed = true;
+            self.counters.refused();
         }
         turn
     }
@@ -268,6 +273,20 @@ impl<A: Allocator> Slot<A> {
         ensures { result ≡ self.now.disturbed }
     {
         self.disturbed
+    }
+
+    /// What the slot's devices did.
+    pub(crate) fn counters(&self) -> Counters {
+        self.counters.with(self.chain.counts())
+    }
+
+    /// Counts a reply that is a refusal.
+    pub(crate) fn count_reply(&mut self, reply: &Reply<A>)
+        ensures { self.new ≡ self.old }
+    {
+        if matches!(reply, Reply::NoMemory) {
+            self.counters.refused();
+        }
     }
 
     /// The guest's memory.

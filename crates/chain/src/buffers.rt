@@ -5,6 +5,7 @@ ghost use Rattle.guest_memory.specs.Memory.{Memory};
 ghost use Rattle.chain.specs.Buffers.{Admits, Good, Refuses, Within, buffer_of, total_len};
 ghost use Rattle.chain.specs.Bytes.{len_of, readable_of, rest_at, segments_of, writable_of};
 
+use crate::counts::Counts;
 use crate::fault::Fault;
 use crate::segment::{Buffer, Segment};
 use arrayvec::ArrayVec;
@@ -47,6 +48,8 @@ pub struct Chain {
     starts: ArrayVec<Start, MOST_BUFFERS>,
     readable: u32,
     writable: u32,
+    // what the services did whose room this is
+    counts: Counts,
 }
 
 impl Model for Chain {
@@ -71,10 +74,11 @@ impl Chain {
             starts: ArrayVec::new(),
             readable: 0,
             writable: 0,
+            counts: Counts::default(),
         }
     }
 
-    /// Takes all buffers out.
+    /// Takes all buffers out. What is counted stays.
     pub fn clear(&mut self)
         ensures { self.new ≡ [] }
     {
@@ -187,5 +191,31 @@ impl Chain {
         ensures { result ≡ total_len self.now }
     {
         u64::from(self.readable + self.writable)
+    }
+
+    /// Counts the chain as given back, with this used length.
+    pub fn count(&mut self, written: u32)
+        ensures { self.new ≡ self.old }
+    {
+        self.counts.used(self.readable, written);
+    }
+
+    /// Counts a service that ended by a fault.
+    pub fn count_fault(&mut self)
+        ensures { self.new ≡ self.old }
+    {
+        self.counts.faults = self.counts.faults.wrapping_add(1);
+    }
+
+    /// Counts a piece of a service that ended in a pause.
+    pub fn count_pause(&mut self)
+        ensures { self.new ≡ self.old }
+    {
+        self.counts.pauses = self.counts.pauses.wrapping_add(1);
+    }
+
+    /// What the services did whose room this is, since it was made. No clause speaks of the numbers.
+    pub fn counts(&self) -> Counts {
+        self.counts
     }
 }

@@ -92,7 +92,10 @@ fn serve_chains<S: Stream, M: Allocator>(
                 }
                 left.spend(chain);
                 match stream.serve(mem, chain) {
-                    Ok(answer) => queue.give(mem, token, answer.len, answer.wrote),
+                    Ok(answer) => {
+                        queue.give(mem, token, answer.len, answer.wrote);
+                        chain.count(answer.len);
+                    }
                     Err(why) => return Stop::End(Err(why)),
                 }
             }

@@ -57,7 +57,7 @@ impl<A: Allocator> ConsoleDevice<A> {
             return Progress::Done;
         };
         let left = serve_queue(&mut self.pending, mem, queue, stage, budget, room);
-        show(window, left).unwrap_or(Progress::Done)
+        show(window, left, room).unwrap_or(Progress::Done)
     }
 
     /// Puts out the chains on offer (5.3.6), in the window of this device, behind what stands in `out`. A chain
@@ -116,18 +116,19 @@ impl<A: Allocator> ConsoleDevice<A> {
             return Ok(Progress::Done);
         };
         let left = serve_queue(out, mem, queue, stage, budget, room);
-        show(window, left)
+        show(window, left, room)
     }
 }
 
 /// What the window shows of a queue that is left so: nothing of one that stands open; else a used buffer where the
-/// driver wants to be told of one, and after a fault that a reset is needed.
-fn show(window: &mut Window, left: Left) -> Result<Progress, NoMemory>
+/// driver wants to be told of one, and after a fault that a reset is needed. Pauses and faults are counted in `room`.
+fn show(window: &mut Window, left: Left, room: &mut Chain) -> Result<Progress, NoMemory>
     ensures answer { result ≡ answer_of left }
     ensures after { window.new ≡ shown left window.old }
     ensures sound { (m : Memory) → IsSound m window.old → IsSound m window.new }
 {
     let Left::Closed { ending, wanted } = left else {
+        room.count_pause();
         return Ok(Progress::More);
     };
     if wanted {
@@ -135,6 +136,7 @@ fn show(window: &mut Window, left: Left) -> Result<Progress, NoMemory>
     }
     if ending?.is_some() {
         window.needs_reset();
+        room.count_fault();
     }
     Ok(Progress::Done)
 }

@@ -4,6 +4,7 @@ ghost use Rattle.std.specs.Prelude.{◌≡◌, ◌↔◌, ◌<◌, IsSome, IfSom
 ghost use Rattle.std.specs.List.{slice_get};
 
 use crate::board::Board;
+use crate::counters::Counters;
 use block_device::BlockDevice;
 use console_device::ConsoleDevice;
 use mmio_window::Window;
@@ -11,6 +12,14 @@ use sector_cache::Image;
 use std::alloc::Allocator;
 
 impl<I: Image, A: Allocator> Board<I, A> {
+    /// What the slot's devices did since the board was made. A restore keeps the numbers.
+    pub fn counters(&self, slot: u8) -> Option<Counters>
+        ensures { IsSome result ↔ (slot < length self.now.slots) }
+    {
+        let slot = self.slot(slot)?;
+        Some(slot.counters())
+    }
+
     /// The window of the slot's block device.
     pub fn block_window(&self, slot: u8) -> Option<&Window>
         ensures there { IsSome result ↔ (slot < length self.now.slots) }

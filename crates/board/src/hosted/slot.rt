@@ -19,6 +19,7 @@ mod access;
 mod saved;
 
 use crate::check::own_disk;
+use crate::counters::Counters;
 use crate::event::EventKind;
 use crate::pause::Turn;
 use crate::reply::Reply;
@@ -87,7 +88,11 @@ impl<A: Allocator + Copy> HostedSlot<A> {
     {
         match what {
             EventKind::Complete { verdict } => self.complete(*verdict),
-            _ => self.answer_own(alloc, what, out),
+            _ => {
+                let reply = self.answer_own(alloc, what, out);
+                self.slot.count_reply(&reply);
+                reply
+            }
         }
     }
 
@@ -147,6 +152,11 @@ impl<A: Allocator> HostedSlot<A> {
         self.slot.interrupts()
     }
 
+    /// What the slot's devices did: the chain in flight is counted once it is given back.
+    pub(crate) fn counters(&self) -> Counters {
+        self.slot.counters().with(self.room.counts())
+    }
+
     /// What the host is asked to do: the operation in flight.
     pub(crate) fn operation(&self) -> Option<Operation>
         ensures { result ≡ operation_in self.now.flight }
@@ -176,7 +186,7 @@ impl<A: Allocator> HostedSlot<A> {
         let Some(flight) = self.flight.take() else {
             return Reply::Idle;
         };
-        self.slot.complete(flight, &self.room, verdict);
+        self.slot.complete(flight, &mut self.room, verdict);
         self.look();
         Reply::Done
     }

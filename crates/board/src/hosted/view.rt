@@ -4,6 +4,7 @@ ghost use Rattle.std.specs.Prelude.{◌≡◌, ◌↔◌, ◌<◌, IsSome, IfSom
 ghost use Rattle.std.specs.List.{slice_get};
 ghost use Rattle.board.specs.Task.{device_of};
 
+use crate::counters::Counters;
 use crate::hosted::HostedBoard;
 use block_device::BlockDevice;
 use console_device::ConsoleDevice;
@@ -11,6 +12,14 @@ use mmio_window::Window;
 use std::alloc::Allocator;
 
 impl<A: Allocator> HostedBoard<A> {
+    /// What the slot's devices did since the board was made. A restore keeps the numbers.
+    pub fn counters(&self, slot: u8) -> Option<Counters>
+        ensures { IsSome result ↔ (slot < length self.now) }
+    {
+        let slot = self.slot(slot)?;
+        Some(slot.counters())
+    }
+
     /// The window of the slot's block device.
     pub fn block_window(&self, slot: u8) -> Option<&Window>
         ensures there { IsSome result ↔ (slot < length self.now) }

@@ -174,11 +174,13 @@ impl<A: Allocator> Slot<A> {
     }
 
     /// Completes the chain in flight, whose buffers stand in `room`.
-    pub(crate) fn complete(&mut self, flight: Flight, room: &Chain, verdict: Verdict)
-        requires flight { IsInFlight self.old.memory self.old.block room.now flight }
-        ensures completes { CompletesIn flight verdict self.old.memory self.new.memory self.old.block self.new.block room.now }
+    pub(crate) fn complete(&mut self, flight: Flight, room: &mut Chain, verdict: Verdict)
+        requires flight { IsInFlight self.old.memory self.old.block room.old flight }
+        ensures completes { CompletesIn flight verdict self.old.memory self.new.memory self.old.block self.new.block room.old }
+        ensures room { room.new ≡ room.old }
         ensures rest { self.new ≡ record self.old { memory = self.new.memory; block = self.new.block } }
     {
+        self.counters.completed(verdict);
         flight.complete(&mut self.memory, &mut self.block, room, verdict);
     }
 }

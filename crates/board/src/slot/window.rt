@@ -122,9 +122,15 @@ impl<A: Allocator + Copy> Slot<A> {
         ensures disturbed { self.new.disturbed ≡ self.old.disturbed }
     {
         match window {
-            DeviceKind::Block => block_duty(self.block.write(offset, width, value, &self.memory)),
+            DeviceKind::Block => {
+                let action = self.block.write(offset, width, value, &self.memory);
+                self.counters.wrote(action);
+                block_duty(action)
+            }
             DeviceKind::Console => {
-                console_duty(self.console.write(offset, width, value, &self.memory))
+                let action = self.console.write(offset, width, value, &self.memory);
+                self.counters.wrote(action);
+                console_duty(action)
             }
         }
     }
