@@ -103,42 +103,6 @@ sector_of-with_sector_other bytes sector new other inside whole differs =
     extent_of-with_sector_apart bytes sector new other 1 inside whole
     (elim (cases_lt sector other) [ inl below ↦ inl below | inr above ↦ inr (omega arith) ])
 
-    old_long : length (extent_of bytes start count) ≡ 512 * count
-    old_long = length-extent_of bytes start count inside
-
-    long_extent : length (with_sector (extent_of bytes start count) sector new) ≡ 512 * count
-    long_extent = length-with_sector (extent_of bytes start count) sector new (omega (arith, old_long)) whole ∙ old_long
-
-    same_bytes : (i d : ℕ) → i < length (extent_of (with_sector bytes (start + sector) new) start count) → get_or (extent_of (with_sector bytes (start + sector) new) start count) i d ≡ get_or (with_sector (extent_of bytes start count) sector new) i d
-    same_bytes i d under =
-        let below : i < 512 * count = omega (arith, long, under) in
-        get_or-extent_of (with_sector bytes (start + sector) new) start count i d below
-        ∙ (elim (cases_lt i (512 * sector)) [
-          | inl before ↦
-              get_or-with_sector_before bytes (start + sector) new (512 * start + i) d (omega arith) (omega arith)
-              ∙ sym (get_or-extent_of bytes start count i d below)
-              ∙ sym (get_or-with_sector_before (extent_of bytes start count) sector new i d (omega (arith, old_long)) before)
-          | inr from ↦
-              elim (cases_lt i (512 * (sector + 1))) [
-                | inl inner ↦
-                    ap (λ j. get_or (with_sector bytes (start + sector) new) j d) (let e : 512 * start + i ≡ 512 * (start + sector) + (i - 512 * sector) = omega arith in e)
-                    ∙ get_or-with_sector_within bytes (start + sector) new (i - 512 * sector) d (omega arith) whole (omega arith)
-                    ∙ sym (get_or-with_sector_within (extent_of bytes start count) sector new (i - 512 * sector) d (omega (arith, old_long)) whole (omega arith))
-                    ∙ ap (λ j. get_or (with_sector (extent_of bytes start count) sector new) j d) (let e : 512 * sector + (i - 512 * sector) ≡ i = omega arith in e)
-                | inr after ↦
-                    get_or-with_sector_after bytes (start + sector) new (512 * start + i) d (omega arith) whole (omega arith)
-                    ∙ sym (get_or-extent_of bytes start count i d below)
-                    ∙ sym (get_or-with_sector_after (extent_of bytes start count) sector new i d (omega (arith, old_long)) whole after)
-              ]
-        ])
-
-    rest_same : drop (512 * (sector + 1)) (with_sector bytes sector old) ≡ drop (512 * (sector + 1)) bytes
-    rest_same =
-        ap (λ n. drop n (with_sector bytes sector old)) (let e : 512 * (sector + 1) ≡ 512 * sector + 512 = omega arith in e)
-        ∙ sym (drop-drop 512 (512 * sector) (with_sector bytes sector old))
-        ∙ ap (drop 512) (drop_at (take (512 * sector) bytes) (old ++ drop (512 * (sector + 1)) bytes) (512 * sector) front_long)
-        ∙ drop_at old (drop (512 * (sector + 1)) bytes) 512 whole
-
 -- Extents of extents.
 
 -- an extent within an extent is one of the bytes
