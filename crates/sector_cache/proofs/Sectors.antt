@@ -42,13 +42,6 @@ get_or-with_sector_before bytes sector new i d inside before =
     get_or_append_left (take (512 * sector) bytes) (new ++ drop (512 * (sector + 1)) bytes) d i (omega (arith, length-take-le (512 * sector) bytes inside))
     ∙ get_or-take (512 * sector) bytes i d before
 
--- a byte of the sector is one of the new bytes
-pub get_or-with_sector_within : (bytes : List ℕ) (sector : ℕ) (new : List ℕ) (i d : ℕ) → 512 * sector ≤ length bytes → length new ≡ 512 → i < 512 → get_or (with_sector bytes sector new) (512 * sector + i) d ≡ get_or new i d
-get_or-with_sector_within bytes sector new i d inside whole within =
-    get_or-append_right (take (512 * sector) bytes) (new ++ drop (512 * (sector + 1)) bytes) (512 * sector) (512 * sector + i) d (length-take-le (512 * sector) bytes inside) (omega arith)
-    ∙ ap (λ j. get_or (new ++ drop (512 * (sector + 1)) bytes) j d) (let e : 512 * sector + i - 512 * sector ≡ i = omega arith in e)
-    ∙ get_or_append_left new (drop (512 * (sector + 1)) bytes) d i (omega arith)
-
 -- a byte after the sector is as it was
 pub get_or-with_sector_after : (bytes : List ℕ) (sector : ℕ) (new : List ℕ) (i d : ℕ) → 512 * sector ≤ length bytes → length new ≡ 512 → 512 * (sector + 1) ≤ i → get_or (with_sector bytes sector new) i d ≡ get_or bytes i d
 get_or-with_sector_after bytes sector new i d inside whole after =
