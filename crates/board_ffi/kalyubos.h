@@ -33,8 +33,8 @@
  * version takes its own size alone, and answers KALYUBOS_BAD_SIZE for any other before it looks at another field. A
  * later version that this header fits (kalyubos_version) also takes this version's size, and then does what this
  * version does. It adds fields behind all others. The structs of an array lie `size` bytes apart, so all have one size.
- * The handle, struct kalyubos_region, struct kalyubos_loan, struct kalyubos_pending and struct kalyubos_block have no size and never change: a
- * later version tells more by further calls.
+ * The handle, struct kalyubos_region, struct kalyubos_loan, struct kalyubos_pending, struct kalyubos_counters and struct
+ * kalyubos_block have no size and never change: a later version tells more by further calls.
  *
  * There are two kinds of board. kalyubos_create makes one whose disks are parts of an image in the library's memory.
  * kalyubos_create_hosted makes one whose disks the host serves: the board says what it wants of a disk, the host does it
@@ -183,6 +183,20 @@ struct kalyubos_pending {
     uint32_t block;   /* InterruptStatus of the slot's block window; its line is high while this isn't 0 */
     uint32_t console; /* and of its console window */
     uint64_t output;  /* how many bytes of its console's output wait to be taken */
+};
+
+/*
+ * What the devices of a slot did since its board was made, each number modulo 2^64. kalyubos_restore keeps the numbers. They
+ * are counted beside the proof: tests compare them, and no promise speaks of them.
+ */
+struct kalyubos_counters {
+    uint64_t notifies;  /* writes to QueueNotify that named a ready queue of a live window */
+    uint64_t chains;    /* chains that were given back as used */
+    uint64_t bytes_in;  /* bytes that devices wrote into the guest's memory: the sum of the used lengths */
+    uint64_t bytes_out; /* bytes of the readable buffers of used chains, headers included */
+    uint64_t faults;    /* services that ended by a fault, so that a window asks for a reset */
+    uint64_t refusals;  /* calls answered NO_ROOM, and completions that said that an operation failed */
+    uint64_t pauses;    /* calls answered MORE */
 };
 
 /* How many regions the memory of a guest has at most. */
@@ -377,8 +391,8 @@ uint32_t kalyubos_write(struct kalyubos *board, uint8_t slot, uint8_t window, ui
  * then waits.
  *
  * From MORE until the end of the service the guest waits as in a long call: every call for its slot but this one is
- * answered BUSY and changes nothing, except kalyubos_interrupts, kalyubos_disturbed and kalyubos_take_output. Calls for
- * other slots may stand in between, and no guest sees that one paused.
+ * answered BUSY and changes nothing, except kalyubos_interrupts, kalyubos_disturbed, kalyubos_counters and
+ * kalyubos_take_output. Calls for other slots may stand in between, and no guest sees that one paused.
  */
 uint32_t kalyubos_go_on(struct kalyubos *board, uint8_t slot, struct kalyubos_pending *pending);
 
@@ -448,6 +462,9 @@ uint32_t kalyubos_interrupts(struct kalyubos *board, uint8_t slot, uint8_t *bloc
 
 /* Whether a call of the image ever failed for the slot: never, since the image is in memory, or there is none. */
 uint32_t kalyubos_disturbed(struct kalyubos *board, uint8_t slot, bool *disturbed);
+
+/* What the slot's devices did since the board was made; told in a pause too, and while something is in flight. */
+uint32_t kalyubos_counters(struct kalyubos *board, uint8_t slot, struct kalyubos_counters *counters);
 
 /*
  * How many bytes the slot's snapshot has: some 300, and its pending input. It stays so until the next call for the slot.

@@ -164,9 +164,12 @@ static void look(struct guest *guest)
 {
     uint8_t block = 0, console = 0;
     bool disturbed = false;
+    struct kalyubos_counters counters = {0};
     tell_number(guest, kalyubos_interrupts(guest->board, guest->slot, &block, &console));
     tell_number(guest, kalyubos_disturbed(guest->board, guest->slot, &disturbed));
     tell_number(guest, (uint64_t)block << 16 | (uint64_t)console << 8 | disturbed);
+    tell_number(guest, kalyubos_counters(guest->board, guest->slot, &counters));
+    tell(guest, &counters, sizeof counters);
 }
 
 static void turn(struct guest *guest)

@@ -7,7 +7,8 @@
  * thread of its own, all at once and without a lock. A driver has up to eight requests on offer. Its host does an
  * operation when it likes, and says of some that they failed. The driver compares what is asked with its request, and
  * each used entry, status and read with a disk that it keeps in mind. Now and then it resets its device in the middle, or
- * writes over the request that is in flight: its head, descriptors, header and segment.
+ * writes over the request that is in flight: its head, descriptors, header and segment. At its end it compares what the
+ * library counted with what it asked for.
  */
 #include <inttypes.h>
 #include <pthread.h>
@@ -40,6 +41,7 @@ struct guest {
     uint16_t offered, used;
     uint8_t mind[SECTORS * SECTOR];
     bool is_known[SECTORS];
+    struct kalyubos_counters counted; /* and what its device did, as the driver counts */
 
     /* the host's: the disk, what is in flight, and whether what was completed failed */
     uint8_t disk[SECTORS * SECTOR];
@@ -137,6 +139,7 @@ static void complete(struct guest *guest)
         move(guest);
     guest->verdicts[guest->asked++ % PLACES] = failed;
     guest->failures += failed;
+    guest->counted.refusals += failed;
     guest->is_asked = false;
     uint32_t answer = kalyubos_completed(guest->board, guest->slot, failed, &pending);
     need(pending.block & 1, "a completion without a notification", answer);
@@ -178,6 +181,17 @@ static struct request draw(struct guest *guest)
     return it;
 }
 
+/* Whether the device writes the data of a request, and how many bytes they are. */
+static bool is_read(const struct request *it)
+{
+    return it->type == IN || it->type == GET_ID;
+}
+
+static uint32_t data_len(const struct request *it)
+{
+    return it->type == GET_ID ? 20 : it->type == WRITE_ZEROES ? 16 : it->count * SECTOR;
+}
+
 static void offer(struct guest *guest)
 {
     uint16_t number = guest->offered++, head = (uint16_t)(4 * (number % PLACES));
@@ -186,15 +200,13 @@ static void offer(struct guest *guest)
     struct { uint64_t sector; uint32_t count, flags; } zeroed = { it.sector, it.count, 0 };
     uint32_t at = HEADERS + 32 * (number % PLACES);
     uint8_t *data = data_of(guest, number);
-    uint32_t len = it.type == GET_ID ? 20 : it.type == WRITE_ZEROES ? sizeof zeroed : it.count * SECTOR;
-    bool is_read = it.type == IN || it.type == GET_ID;
     memcpy(guest->memory + at, &header, sizeof header);
     guest->memory[at + 16] = 0xff;
     memset(data, (int)chance(guest, 256), MOST * SECTOR);
     if (it.type == WRITE_ZEROES)
         memcpy(data, &zeroed, sizeof zeroed);
     describe(guest, head, MEMORY + at, sizeof header, 1);
-    describe(guest, head + 1u, address_of(guest, data), len, is_read ? 3 : 1);
+    describe(guest, head + 1u, address_of(guest, data), data_len(&it), is_read(&it) ? 3 : 1);
     describe(guest, head + 2u, MEMORY + at + 16, 1, 2);
     memcpy(guest->memory + AVAIL + 4 + 2 * (number % RING), &head, sizeof head);
     memcpy(guest->memory + AVAIL + 2, &guest->offered, sizeof guest->offered);
@@ -228,7 +240,7 @@ static void end_badly(struct guest *guest, const struct request *it)
 /* The used len (2.7.8.2): the data of a read and the status, where all was written; else what was written at the front. */
 static uint32_t used_len(const struct request *it, uint8_t status)
 {
-    uint32_t room = it->type == IN ? it->count * SECTOR : it->type == GET_ID ? 20 : 0;
+    uint32_t room = is_read(it) ? data_len(it) : 0;
     return status == OK || room == 0 ? room + 1 : 0;
 }
 
@@ -250,6 +262,9 @@ static void take_back(struct guest *guest)
             end_well(guest, number);
         else
             end_badly(guest, it);
+        guest->counted.chains++;
+        guest->counted.bytes_in += entry.len;
+        guest->counted.bytes_out += 16 + (is_read(it) ? 0 : data_len(it)); /* its header, and data that the device reads */
         guest->asked += guest->asked == number; /* it asked for nothing */
     }
     set(guest, 0x64, 1);
@@ -266,6 +281,7 @@ static void set(struct guest *guest, uint16_t offset, uint32_t value)
         take_back(guest);
     }
     need(answer != KALYUBOS_IO || offset == 0x50, "a store asks", offset);
+    guest->counted.notifies += offset == 0x50;
     take_answer(guest, answer);
 }
 
@@ -342,12 +358,21 @@ static void end_all_requests(struct guest *guest)
     need(guest->used == guest->offered, "requests are left", guest->offered);
 }
 
+/* A sane driver meets no fault, and its board has no budget: nothing pauses. */
+static void compare_counters(struct guest *guest)
+{
+    struct kalyubos_counters it;
+    need(kalyubos_counters(guest->board, guest->slot, &it) == KALYUBOS_DONE, "counters", guest->slot);
+    need(memcmp(&it, &guest->counted, sizeof it) == 0, "other counters", it.chains);
+}
+
 static void *run(void *user)
 {
     struct guest *guest = user;
     while (guest->turns != 0)
         turn(guest);
     end_all_requests(guest);
+    compare_counters(guest);
     return NULL;
 }
 
@@ -409,7 +434,7 @@ int main(int argc, char **argv)
         run_on_threads(seed);
         count();
     }
-    printf("drivers: %" PRIu64 " seeds, %d guests each: each of %" PRIu64 " requests ended as its host said, %" PRIu64
-           " operations failed\n", seeds, GUESTS, done, failures);
+    printf("drivers: %" PRIu64 " seeds, %d guests each: each of %" PRIu64 " requests ended as its host said and was counted, %"
+           PRIu64 " operations failed\n", seeds, GUESTS, done, failures);
     return 0;
 }

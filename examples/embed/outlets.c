@@ -72,6 +72,25 @@ static void follow(struct kalyubos *board, const char *steps, char *answers, cha
         *answers = *steps == 'N' ? notify(board) : (char)('0' + take(board, text + strlen(text), 8));
 }
 
+static uint64_t how_often(const char *text, char letter)
+{
+    uint64_t count = 0;
+    for (; *text != 0; text++)
+        count += *text == letter;
+    return count;
+}
+
+/* Three chains of eight bytes went out, and each notification counts, and each that found no room. */
+static void check_counters(struct kalyubos *board, uint64_t notifies, uint64_t refusals, uint64_t number)
+{
+    const struct kalyubos_counters wanted = { .notifies = notifies, .chains = 3, .bytes_out = 8, .refusals = refusals };
+    struct kalyubos_counters it;
+    need(kalyubos_counters(board, 0, &it) == KALYUBOS_DONE, "counters", number);
+    need(memcmp(&it, &wanted, sizeof it) == 0, "an order's counters", number);
+    need(kalyubos_counters(board, 1, &it) == KALYUBOS_BAD_SLOT, "counters of no slot", number);
+    need(memcmp(&it, &wanted, sizeof it) == 0, "counters that were told of no slot", number);
+}
+
 static void check_order(const char *steps, const char *wanted, uint64_t number)
 {
     static const uint8_t ring[] = { 3, 0, 0, 0, 1, 0, 2, 0 };
@@ -87,6 +106,8 @@ static void check_order(const char *steps, const char *wanted, uint64_t number)
     need(strcmp(answers, wanted) == 0, "an order's answers", number);
     follow(&board, "TNTNT", rest, text);
     need(strcmp(text, "abcdefgh") == 0, "an order's bytes", number);
+    check_counters(&board, how_often(steps, 'N') + how_often(rest, 'd') + how_often(rest, 'r'),
+                   how_often(answers, 'r') + how_often(rest, 'r'), number);
     end(&board);
 }
 

@@ -225,8 +225,10 @@ static void look(struct kalyubos *board, uint8_t slot)
     uint8_t bytes[BUFFER], block, console;
     size_t len = 0;
     bool disturbed;
+    struct kalyubos_counters counters;
     kalyubos_interrupts(board, slot, &block, &console);
     kalyubos_disturbed(board, slot, &disturbed);
+    kalyubos_counters(board, slot, &counters);
     if (!told(board))
         kalyubos_take_output(board, slot, bytes, chance(sizeof bytes), &len);
     if (kalyubos_image_len(board, &len) == KALYUBOS_DONE && len != sizeof image)

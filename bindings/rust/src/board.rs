@@ -1,5 +1,6 @@
 //! The board and its calls.
 
+use crate::counters::Counters;
 use crate::error::{CreateError, Error};
 use crate::ffi;
 use crate::slot::Slot;
@@ -464,6 +465,20 @@ impl Board {
         let mut disturbed = false;
         Error::check(unsafe { ffi::kalyubos_disturbed(&mut self.handle, slot, &mut disturbed) })?;
         Ok(disturbed)
+    }
+
+    /// What the slot's devices did since the board was made. It may be asked at any time, also in a pause.
+    ///
+    /// ```
+    /// # use kalyubos::{Board, Counters, Slot};
+    /// let mut board = Board::new(&[Slot::new(0, 0x1000, 0..1)], &[0; 512], 1)?;
+    /// assert_eq!(board.counters(0)?, Counters::default());
+    /// # Ok::<(), Box<dyn std::error::Error>>(())
+    /// ```
+    pub fn counters(&mut self, slot: u8) -> Result<Counters, Error> {
+        let mut counters = Counters::default();
+        Error::check(unsafe { ffi::kalyubos_counters(&mut self.handle, slot, &mut counters) })?;
+        Ok(counters)
     }
 
     /// The image's length in bytes.

@@ -1,5 +1,6 @@
 //! The declarations of `kalyubos.h`, which says what each call does and what its caller must keep.
 
+use crate::counters::Counters;
 use crate::operation::Run;
 use crate::slot::Region;
 use std::ffi::c_void;
@@ -180,6 +181,7 @@ unsafe extern "C" {
         console: *mut u8,
     ) -> u32;
     pub fn kalyubos_disturbed(board: *mut Handle, slot: u8, disturbed: *mut bool) -> u32;
+    pub fn kalyubos_counters(board: *mut Handle, slot: u8, counters: *mut Counters) -> u32;
     pub fn kalyubos_saved_len(board: *mut Handle, slot: u8, len: *mut usize) -> u32;
     pub fn kalyubos_save(
         board: *mut Handle,

@@ -1,6 +1,7 @@
 //! A board whose disks the host serves, and its calls.
 
 use crate::board::{Board, Interrupts, Pending, Window};
+use crate::counters::Counters;
 use crate::error::{CreateError, Error, RestoreError};
 use crate::ffi;
 use crate::operation::{Operation, Outcome, Run};
@@ -215,5 +216,10 @@ impl HostedBoard {
     /// Both interrupt words of a slot.
     pub fn interrupts(&mut self, slot: u8) -> Result<Interrupts, Error> {
         self.board.interrupts(slot)
+    }
+
+    /// What the slot's devices did, as [`Board::counters`]. A request is counted once it is completed.
+    pub fn counters(&mut self, slot: u8) -> Result<Counters, Error> {
+        self.board.counters(slot)
     }
 }

@@ -2,6 +2,7 @@
 #![warn(missing_docs)]
 
 mod board;
+mod counters;
 mod error;
 mod ffi;
 mod hosted;
@@ -11,6 +12,7 @@ mod saved;
 mod slot;
 
 pub use board::{Board, Budget, Interrupts, Pending, Window};
+pub use counters::Counters;
 pub use error::{CreateError, Error, RestoreError};
 pub use hosted::{HostedBoard, Served};
 pub use identity::{Identity, IdentityTooLong};

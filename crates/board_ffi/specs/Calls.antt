@@ -105,6 +105,9 @@ HasWords slot block console = ByKind (image.HasWords slot block console) (hosted
 abbrev pub IsUndisturbed : ℕ → Bool → AnySession → AnySession → Type 0
 IsUndisturbed slot disturbed = ByKind (image.IsUndisturbed slot disturbed) (hosted.IsUndisturbed slot disturbed)
 
+abbrev pub HasCounters : ℕ → AnySession → AnySession → Type 0
+HasCounters slot = ByKind (image.HasCounters slot) (hosted.HasCounters slot)
+
 abbrev pub HasImage : ℕ → ℕ → AnySession → AnySession → Type 0
 HasImage code len = ByKind (image.HasImage code len) (hosted.HasNoImage code)
 

@@ -100,6 +100,11 @@ pub record IsUndisturbed (slot : ℕ) (disturbed : Bool) (old new : HostedSessio
   pub noted : disturbed ≡ false
   pub kept : new ≡ old
 
+-- there is such a slot, whose counters are told, and nothing changes
+pub record HasCounters (slot : ℕ) (old new : HostedSessionState) : Type 0 where
+  pub there : slot < length old.slots
+  pub kept : new ≡ old
+
 -- something of a slot is in flight
 abbrev pub IsAtWork : ℕ → HostedSessionState → Type 0
 IsAtWork slot session = IsSomeAnd (slice_get session.slots slot) (λ found. IsSome found.flight)

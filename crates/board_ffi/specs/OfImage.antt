@@ -87,6 +87,11 @@ pub record IsUndisturbed (slot : ℕ) (disturbed : Bool) (old new : SessionState
   pub noted : disturbed ≡ false
   pub kept : new ≡ old
 
+-- there is such a slot, whose counters are told, and nothing changes
+pub record HasCounters (slot : ℕ) (old new : SessionState) : Type 0 where
+  pub there : slot < length old.slots
+  pub kept : new ≡ old
+
 -- the image's length, and nothing changes
 pub record HasImage (code len : ℕ) (old new : SessionState) : Type 0 where
   pub code_is : code ≡ 0

@@ -4,13 +4,14 @@
 //! C holds, `any_session` the session of either kind, `codes` the numbers, `pending` what waits once a call is answered,
 //! `operation` what a disk is asked for. `region` describes a guest's memory. `create` makes a board over an image and destroys
 //! any, `create_hosted` makes one whose disks the host serves, `create_lent` and `create_hosted_lent` make them over memory
-//! that the host lends (`loans`); `registers`, `disk`, `memory`, `console`, `saved` and `image`
+//! that the host lends (`loans`); `registers`, `disk`, `memory`, `console`, `saved`, `image` and `counters`
 //! have the calls on one. `version` is the header's number.
 #![tactic(auto)]
 
 mod any_session;
 mod codes;
 mod console;
+mod counters;
 mod create;
 mod create_hosted;
 mod create_hosted_lent;

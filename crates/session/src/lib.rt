@@ -24,9 +24,9 @@ mod typed;
 
 pub use block_device::{Operation, OperationKind, Verdict};
 pub use board::{
-    Board, BoardFault, Budget, CacheFault, DeviceKind, Event, EventKind, Extent, GuestMemory,
-    MemoryFault, Outlet, Pause, RegionSpec, Regions, Reply, RestoreFault, RestoreRefusal,
-    SaveRefusal, Service, SlotSpec,
+    Board, BoardFault, Budget, CacheFault, Counters, DeviceKind, Event, EventKind, Extent,
+    GuestMemory, MemoryFault, Outlet, Pause, RegionSpec, Regions, Reply, RestoreFault,
+    RestoreRefusal, SaveRefusal, Service, SlotSpec,
 };
 pub use chain::{Progress, Segment};
 pub use fault::SessionFault;

@@ -1,12 +1,13 @@
 //! A guest's reads and writes of registers.
 
-ghost use Rattle.std.specs.Prelude.{◌≡◌, ◌≢◌, ◌<◌, ◌≤◌, None, Some, false};
+ghost use Rattle.std.specs.Prelude.{◌≡◌, ◌≢◌, ◌<◌, ◌≤◌, IsSome, None, Some, false};
 ghost use Rattle.board.specs.declared.event.EventKind.{EventKind};
 ghost use Rattle.board.specs.declared.reply.Reply.{Reply};
-ghost use Rattle.board_ffi.specs.Calls.{GoesOn, HasWords, IsMissing, IsUndisturbed, Takes, Writes};
+ghost use Rattle.board_ffi.specs.Calls.{GoesOn, HasCounters, HasWords, IsMissing, IsUndisturbed, Takes, Writes};
 
 use crate::any_session::{AnySession, answer_at};
 use crate::codes::{BAD_SLOT, DONE, of_hosted_progress, of_served, told};
+use crate::counters::Counters;
 use session::DeviceKind;
 
 impl AnySession {
@@ -82,6 +83,18 @@ impl AnySession {
             AnySession::Hosted(session) => tell_undisturbed(slot, session.slots(), disturbed),
         }
     }
+
+    /// Tells what a guest's devices did.
+    pub(crate) fn counters(&self, slot: u8, counters: &mut Counters) -> u32
+        ensures told { result ≡ 0 → HasCounters slot self.now self.now }
+        ensures missing { result ≢ 0 → IsMissing slot result self.now self.now }
+        ensures kept { result ≢ 0 → counters.new ≡ counters.old }
+    {
+        match self {
+            AnySession::OfImage(session) => tell_counters(session.counters(slot), counters),
+            AnySession::Hosted(session) => tell_counters(session.counters(slot), counters),
+        }
+    }
 }
 
 // Tells both words of a slot, where it is there.
@@ -111,5 +124,19 @@ fn tell_undisturbed(slot: u8, slots: usize, disturbed: &mut bool) -> u32
         return BAD_SLOT;
     }
     *disturbed = false;
+    DONE
+}
+
+// Tells what the devices of a slot did, where it is there.
+fn tell_counters(counted: Option<session::Counters>, counters: &mut Counters) -> u32
+    ensures there { result ≡ 0 → IsSome counted }
+    ensures missing { result ≢ 0 → ¬ IsSome counted }
+    ensures bad_slot { result ≢ 0 → result ≡ 3 }
+    ensures kept { result ≢ 0 → counters.new ≡ counters.old }
+{
+    let Some(counted) = counted else {
+        return BAD_SLOT;
+    };
+    *counters = Counters::of(counted);
     DONE
 }

@@ -1,6 +1,6 @@
 //! What a guest does to its devices' registers, and the words that stand for its interrupt lines.
 
-ghost use Rattle.std.specs.Prelude.{◌≡◌, ◌↔◌, ◌≤◌, length, IfOk, IsErrOf, IsSomeAnd};
+ghost use Rattle.std.specs.Prelude.{◌≡◌, ◌↔◌, ◌<◌, ◌≤◌, length, IfOk, IsErrOf, IsSome, IsSomeAnd};
 ghost use Rattle.std.specs.List.{slice_get};
 ghost use Rattle.std.specs.Option.{option_map};
 ghost use Rattle.board.specs.declared.event.EventKind.{EventKind};
@@ -12,7 +12,7 @@ ghost use Rattle.session.specs.HostedAnswering.{hosted_served, hosted_value};
 
 use crate::hosted::{HostedProgress, HostedSession};
 use crate::refusal::Refusal;
-use board::{DeviceKind, EventKind, Reply};
+use board::{Counters, DeviceKind, EventKind, Reply};
 use std::alloc::Allocator;
 
 impl<A: Allocator + Copy> HostedSession<A> {
@@ -81,6 +81,13 @@ impl<A: Allocator> HostedSession<A> {
         ensures { result ≡ option_map words_of (slice_get self.now.slots slot) }
     {
         self.board.interrupts(slot)
+    }
+
+    /// What the slot's devices did since the session was made. A restore keeps the numbers.
+    pub fn counters(&self, slot: u8) -> Option<Counters>
+        ensures { IsSome result ↔ (slot < length self.now.slots) }
+    {
+        self.board.counters(slot)
     }
 
     /// How many slots there are, from 1 to 64. They are numbered from 0.

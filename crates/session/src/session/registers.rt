@@ -1,6 +1,6 @@
 //! What a guest does to its devices' registers, and the words that stand for its interrupt lines.
 
-ghost use Rattle.std.specs.Prelude.{◌≡◌, length, false};
+ghost use Rattle.std.specs.Prelude.{◌≡◌, ◌↔◌, ◌<◌, IsSome, length, false};
 ghost use Rattle.std.specs.List.{slice_get};
 ghost use Rattle.std.specs.Option.{option_map};
 ghost use Rattle.board.specs.declared.event.EventKind.{EventKind};
@@ -12,7 +12,7 @@ ghost use Rattle.session.specs.Pausing.{IsCall, IsWhole, WentOn};
 use crate::refusal::Refusal;
 use crate::response::Response;
 use crate::session::Session;
-use board::{DeviceKind, Event, EventKind, Reply};
+use board::{Counters, DeviceKind, Event, EventKind, Reply};
 use chain::Progress;
 use std::alloc::Allocator;
 
@@ -104,6 +104,13 @@ impl<A: Allocator> Session<A> {
         ensures { result ≡ option_map (λ found. false) (slice_get self.now.slots slot) }
     {
         self.paced.board().memory(slot).map(|_| false)
+    }
+
+    /// What the slot's devices did since the session was made. A restore keeps the numbers.
+    pub fn counters(&self, slot: u8) -> Option<Counters>
+        ensures { IsSome result ↔ (slot < length self.now.slots) }
+    {
+        self.paced.board().counters(slot)
     }
 
     /// How many slots there are, from 1 to 64. They are numbered from 0.
