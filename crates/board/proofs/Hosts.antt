@@ -1,23 +1,18 @@
 -- What a slot does whose disk the host serves, as the one-slot machine has it.
-use Rattle.std.proofs.Common.{◌≡◌, ℕ, zero, suc, Bool, true, false, Option, Some, None, List, [], refl, sym, ◌∙◌, ap, subst, append-nil}
+use Rattle.std.proofs.Common.{◌≡◌, ℕ, Bool, true, false, Option, Some, None, List, [], refl, sym, ◌∙◌, ap, subst, append-nil}
 use Rattle.std.specs.Prelude.{◌&&◌, IsSome, is_some}
-use Rattle.mmio_window.specs.declared.action.Action.{Action}
-use Rattle.mmio_window.specs.declared.action.Action.TheVariants as action
-use Rattle.mmio_window.specs.declared.device_kind.DeviceKind.TheVariants.{Block, Console}
 use Rattle.board.specs.declared.event.EventKind.{EventKind}
-use Rattle.board.specs.declared.event.EventKind.TheVariants.{Read, Write, MemRead, MemWrite, Input, Resize, Restore, Complete}
 use Rattle.board.specs.declared.pause.Turn.TheVariants as turn
 use Rattle.board.specs.declared.reply.Reply.{Reply}
 use Rattle.board.specs.declared.reply.Reply.TheVariants.{Busy, Done}
 use Rattle.block_device.specs.declared.device.BlockDevice.{BlockDevice}
 use Rattle.block_device.specs.declared.extent.Extent.{Extent}
 use Rattle.board.specs.Image.{Health, sectors_of}
-use Rattle.board.specs.Hosting.{GivesAtRest, GivesInFlight, HostedOutcome, HostedState, InFlight, IsBesideDisk, IsOwn, LooksAtQueue, OwnGives, TakesHosted, WaitsOrGives, answers, device_at, hosted_slot, is_block_task, must_wait, notifies_block, unlimited, unseen}
-use Rattle.board.specs.Machine.{at_rest, task_at, with_write}
+use Rattle.board.specs.Hosting.{GivesAtRest, GivesInFlight, HostedOutcome, HostedState, InFlight, IsBesideDisk, IsOwn, LooksAtQueue, OwnGives, TakesHosted, WaitsOrGives, answers, device_at, hosted_slot, must_wait, notifies_block, unlimited, unseen}
+use Rattle.board.specs.Machine.{at_rest}
 use Rattle.board.specs.Pausing.{Begins, ServesTurn, readied}
 use Rattle.board.specs.Slot.{BoardSlot, SlotState, state_of}
-use Rattle.board.specs.Task.{Task, Nothing, ServeBlock, ServeReceive, ServeTransmit, PutOut, task_of}
-use Rattle.board.specs.Within.{BeginsWithin, PutsOutWithin, TakesWithin}
+use Rattle.board.specs.Within.{BeginsWithin, TakesWithin}
 use Rattle.board.proofs.Answered.{ended_within}
 use Rattle.board.proofs.Flights.{own_count}
 use Rattle.board.proofs.Waiting.{next_own}

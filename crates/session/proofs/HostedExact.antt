@@ -23,7 +23,7 @@ use Rattle.board.proofs.Waiting.{own_next, untied}
 use Rattle.session.specs.declared.hosted.progress.HostedProgress.{HostedProgress}
 use Rattle.session.specs.declared.refusal.Refusal.{Refusal}
 use Rattle.session.specs.declared.refusal.Refusal.TheVariants as refusal
-use Rattle.session.specs.HostedAnswering.{hosted_done, hosted_refusing, hosted_served, hosted_value}
+use Rattle.session.specs.HostedAnswering.{hosted_refusing, hosted_served}
 use Rattle.session.specs.Hosted.{HoldsUp, HostedSessionState, IsAtRest, IsHostedCall}
 use Rattle.session.specs.Session.{HasNoRead}
 use Rattle.session.proofs.HostedLaws.{came_to, told_none}

@@ -1,10 +1,9 @@
 -- What a board tells whose disks the host serves, as a call of the session.
 use Rattle.std.proofs.Common.{◌≡◌, ℕ, ◌<◌, ◌≤◌, ◌↔◌, Bool, true, false, List, [], length, Option, Some, None, refl, sym, ◌∙◌, ap, subst, arith}
-use Rattle.std.specs.Prelude.{if◌then◌else◌, slice_set, MatchOption, unwrap_or, IfNone, IfSome, IsErrOf, IsSome, Result, Ok, Err}
+use Rattle.std.specs.Prelude.{slice_set, MatchOption, unwrap_or, IfNone, IfSome, IsErrOf, IsSome, Result, Ok, Err}
 use Rattle.std.specs.List.{slice_get}
 use Rattle.std.proofs.lemmas.List.{length-set}
 use Rattle.std.proofs.lemmas.Option.{slice_get_past, slice_get_within}
-use Rattle.mmio_window.specs.declared.device_kind.DeviceKind.{DeviceKind}
 use Rattle.board.specs.declared.event.EventKind.{EventKind}
 use Rattle.board.specs.declared.event.EventKind.TheVariants.{Read, Write, MemRead, MemWrite, Input, Resize, Restore, Complete}
 use Rattle.board.specs.declared.reply.Reply.{Reply}
@@ -21,7 +20,7 @@ use Rattle.session.specs.declared.refusal.Refusal.{Refusal}
 use Rattle.session.specs.declared.refusal.Refusal.TheVariants as refusal
 use Rattle.session.specs.Answering.{Suits}
 use Rattle.session.specs.Hosted.{HostedSessionState, IsHostedCall}
-use Rattle.session.specs.HostedAnswering.{IsHostedServing, SuitsCompletion, SuitsHosted, hosted_refusing, hosted_typed}
+use Rattle.session.specs.HostedAnswering.{SuitsCompletion, SuitsHosted, hosted_typed}
 use Rattle.session.specs.Session.{Waiting, none_waiting, waiting_at}
 use Rattle.session.proofs.Steps.{given_suits, limits_set, others_output, set_there}
 
