@@ -10,10 +10,10 @@ use crate::calls::wants::Wants;
 use crate::calls::windows::Windows;
 use crate::calls::words::Words;
 use linked_list_allocator::LocalHeap;
-use test_support::RefusingHeap;
 use std::io::Write;
 use std::rt::Files;
 use std::{fs, io};
+use test_support::RefusingHeap;
 
 /// How much memory the guests of a file have at most.
 const HEAP: usize = 0x400_0000;

@@ -11,10 +11,10 @@ use crate::calls::subject::{Stuck, Subject};
 use crate::calls::words::Words;
 use board::{Board, Event, Extent, RegionSpec, Regions, SlotSpec};
 use linked_list_allocator::LocalHeap;
-use test_support::RefusingHeap;
 use sector_cache::ScriptedImage;
 use session::{Budget, GuestSpec, Session};
 use std::alloc::{AllocError, Allocator, Global};
+use test_support::RefusingHeap;
 use trace::event_of_line;
 
 /// What a driver writes that accepts VERSION_1 alone (3.1.1): offsets and values.

@@ -6,8 +6,8 @@ use crate::calls::answer::{put_bytes, put_flag, put_number, put_option, put_resu
 use crate::calls::subject::{Stuck, Subject};
 use crate::calls::words::Words;
 use guest_memory::{GuestMemory, RegionSpec};
-use test_support::RefusingHeap;
 use std::alloc::Global;
+use test_support::RefusingHeap;
 
 /// The memory until a call makes another.
 const FIRST: RegionSpec = RegionSpec {

@@ -9,10 +9,10 @@ use crate::calls::answer::{put_flag, put_number, put_word, written};
 use crate::calls::subject::Stuck;
 use crate::calls::words::Words;
 use board::{Board, BoardFault, Event, Image, Record, Refused, SlotSpec};
-use test_support::RefusingHeap;
 use sector_cache::ScriptedImage;
 use std::alloc::Allocator;
 use std::str;
+use test_support::RefusingHeap;
 use trace::print_records;
 
 /// The board of guests, or why it is refused and whether the image comes back as it was.

@@ -8,8 +8,8 @@ use crate::calls::answer::{put_number, written};
 use crate::calls::subject::Stuck;
 use crate::calls::words::Words;
 use board::{Board, Event, Image, Record, Reply};
-use test_support::RefusingHeap;
 use std::alloc::Allocator;
+use test_support::RefusingHeap;
 
 /// What a run came to of which a request for memory was refused.
 #[derive(Drop)]

@@ -5,9 +5,9 @@ use crate::calls::answer::{put_bytes, put_number, put_result, put_word, written}
 use crate::calls::subject::Stuck;
 use crate::calls::words::Words;
 use board::{Event, EventKind};
-use test_support::RefusingHeap;
 use session::{Budget, GuestSpec, Progress, Refusal, Session, SessionFault, Typed};
 use std::alloc::{Allocator, Global};
+use test_support::RefusingHeap;
 
 /// How many bytes of a room for output an answer shows.
 const SHOWN: usize = 8;
