@@ -45,7 +45,7 @@ show-check: vshow
 	@crates/show/look/rules crates/show/out/vshow
 	@crates/show/look/check --fuzz $(N) --from $(FROM) crates/show/out/vshow
 
-# The gate: every proof, the must-fail edits, the tests and the programs. It shows how far it is.
+# The gate: every proof, the must-fail edits, the programs and the scenarios. It shows how far it is.
 test:
 	@.ci/gate
 
