@@ -1,4 +1,3 @@
-pub mod Courses
 pub mod Deciding
 pub mod Notified
 pub mod Receiving

@@ -3,4 +3,3 @@ pub mod Console
 pub mod Device
 pub mod Input
 pub mod Output
-pub mod Serving

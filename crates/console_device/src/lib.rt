@@ -7,10 +7,8 @@ mod laws;
 mod no_memory;
 mod outlet;
 mod pending;
-mod queue;
 mod receive;
 mod serve;
-mod stream;
 mod transmit;
 mod view;
 

@@ -1,35 +1,56 @@
-//! The receive queue's end: pending input.
+//! The receive queue's device: it serves chains over pending input.
 
 use crate::no_memory::NoMemory;
 use crate::pending::Pending;
-use crate::stream::{Answer, Stream};
 use chain::Chain;
 use guest_memory::GuestMemory;
+use mmio_window::{Device, Used};
 use std::alloc::Allocator;
 
-impl<A: Allocator> Stream for Pending<A> {
-    ghost use Rattle.std.specs.Prelude.{None};
+/// Puts pending input into chains. It refuses none.
+#[derive(Drop)]
+pub(crate) struct Receive;
+
+impl<A: Allocator> Device<Pending<A>> for Receive {
+    type Refusal = NoMemory;
+
+    ghost use Rattle.std.specs.Prelude.{ℕ, List};
     ghost use Rattle.console_device.specs.Device.{receive};
 
-    ghost bytes = { λ pending. pending };
+    ghost State = { List ℕ };
 
-    ghost limit = { λ pending. None };
+    ghost state = { λ here pending. pending };
 
-    ghost device = { λ limit. receive };
+    ghost Setup = { Unit {0} };
 
-    fn takes(&self) -> bool {
-        !self.is_empty()
+    ghost setup = { λ here pending. tt };
+
+    ghost device = { λ fixed. receive };
+
+    ghost Refuses = { λ fixed pending memory buffers why. ⊥ };
+
+    ghost IsReady = { λ here pending. Unit {0} };
+
+    ghost Keeps = { λ here pending there later. Unit {0} };
+
+    fn takes(&self, pending: &Pending<A>) -> bool {
+        !pending.is_empty()
     }
 
     fn serve<M: Allocator>(
         &mut self,
         mem: &mut GuestMemory<M>,
         chain: &Chain,
-    ) -> Result<Answer, NoMemory> {
-        let count = self.fill(mem, chain);
-        Ok(Answer {
+        pending: &mut Pending<A>,
+    ) -> Result<Used, NoMemory> {
+        let count = pending.fill(mem, chain);
+        Ok(Used {
             len: count as u32,
             wrote: count > 0,
         })
     }
+
+    ghost keeps_all = { λ here pending. tt };
+
+    ghost keeps_on = { λ here there last pending later after one other. tt };
 }

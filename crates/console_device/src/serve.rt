@@ -1,7 +1,7 @@
 //! A service of each queue, whole or in pieces, and what the window shows of it.
 
 ghost use Rattle.std.specs.Prelude.{◌≡◌, IfOk, OnOk, OnErr};
-ghost use Rattle.guest_memory.specs.Memory.{Memory, SameRange};
+ghost use Rattle.guest_memory.specs.Memory.{SameRange};
 ghost use Rattle.chain.specs.Service.{Refused};
 ghost use Rattle.mmio_window.specs.Pieces.{IsRefusedAt, ServesTo};
 ghost use Rattle.mmio_window.specs.Serving.{IsNotified, Notified};
@@ -9,15 +9,15 @@ ghost use Rattle.mmio_window.specs.Soundness.{IsSound};
 ghost use Rattle.mmio_window.specs.Window.{queue_at};
 ghost use Rattle.console_device.specs.Device.{exact_transmit, receive, transmit, transmit_fitting, transmit_within};
 ghost use Rattle.console_device.specs.Output.{IsUnrefused};
-ghost use Rattle.console_device.specs.Serving.{answer_of, shown};
 
 use crate::device::{ConsoleDevice, RECEIVEQ, TRANSMITQ};
 use crate::no_memory::NoMemory;
 use crate::outlet::Outlet;
-use crate::queue::{Left, serve_queue};
-use chain::{Budget, Chain, Progress};
+use crate::receive::Receive;
+use crate::transmit::Transmit;
+use chain::{Budget, Chain, Progress, Virtqueue};
 use guest_memory::GuestMemory;
-use mmio_window::{Stage, Window};
+use mmio_window::{Left, Stage, Window, serve_queue, show};
 use std::alloc::Allocator;
 
 impl<A: Allocator> ConsoleDevice<A> {
@@ -56,8 +56,12 @@ impl<A: Allocator> ConsoleDevice<A> {
         let Some(queue) = window.queue(RECEIVEQ) else {
             return Progress::Done;
         };
-        let left = serve_queue(&mut self.pending, mem, queue, stage, budget, room);
-        show(window, left, room).unwrap_or(Progress::Done)
+        let mut device = Receive;
+        let pending = &mut self.pending;
+        let Ok(left) = serve_queue(&mut device, pending, mem, queue, stage, budget, room) else {
+            unreachable!();
+        };
+        show(window, left, room)
     }
 
     /// Puts out the chains on offer (5.3.6), in the window of this device, behind what stands in `out`. A chain
@@ -115,28 +119,15 @@ impl<A: Allocator> ConsoleDevice<A> {
         let Some(queue) = window.queue(TRANSMITQ) else {
             return Ok(Progress::Done);
         };
-        let left = serve_queue(out, mem, queue, stage, budget, room);
-        show(window, left, room)
+        let mut device = Transmit;
+        match serve_queue(&mut device, out, mem, queue, stage, budget, room) {
+            Ok(left) => Ok(show(window, left, room)),
+            Err(refused) => {
+                let fault = None;
+                let wanted = queue.close(mem);
+                let _ = show(window, Left::Closed { fault, wanted }, room);
+                Err(refused.why)
+            }
+        }
     }
-}
-
-/// What the window shows of a queue that is left so: nothing of one that stands open; else a used buffer where the
-/// driver wants to be told of one, and after a fault that a reset is needed. Pauses and faults are counted in `room`.
-fn show(window: &mut Window, left: Left, room: &mut Chain) -> Result<Progress, NoMemory>
-    ensures answer { result ≡ answer_of left }
-    ensures after { window.new ≡ shown left window.old }
-    ensures sound { (m : Memory) → IsSound m window.old → IsSound m window.new }
-{
-    let Left::Closed { ending, wanted } = left else {
-        room.count_pause();
-        return Ok(Progress::More);
-    };
-    if wanted {
-        window.used_interrupt();
-    }
-    if ending?.is_some() {
-        window.needs_reset();
-        room.count_fault();
-    }
-    Ok(Progress::Done)
 }

@@ -1,4 +1,4 @@
-//! The transmit queue's end: what is put out.
+//! The transmit queue's device: it serves chains over what is put out.
 
 ghost use Rattle.std.specs.Prelude.{◌≡◌, ◌≢◌, ◌++◌, ◌+◌, [], All, length, OnOk, OnErr};
 ghost use Rattle.chain.specs.Buffers.{Within};
@@ -7,21 +7,40 @@ ghost use Rattle.console_device.specs.Device.{Fits, MayRefuse};
 
 use crate::no_memory::NoMemory;
 use crate::outlet::Outlet;
-use crate::stream::{Answer, Stream};
 use chain::Chain;
 use guest_memory::GuestMemory;
+use mmio_window::{Device, Used};
 use std::alloc::Allocator;
 
-impl<O: Outlet> Stream for O {
+/// Puts out the readable bytes of chains. It refuses one whose bytes find no memory.
+#[derive(Drop)]
+pub(crate) struct Transmit;
+
+impl<O: Outlet> Device<O> for Transmit {
+    type Refusal = NoMemory;
+
+    ghost use Rattle.std.specs.Prelude.{ℕ, List, Option, length};
+    ghost use Rattle.chain.specs.Bytes.{readable_of, writable_of};
     ghost use Rattle.console_device.specs.Device.{transmit_within};
 
-    ghost bytes = { λ out. O.bytes out };
+    ghost State = { List ℕ };
 
-    ghost limit = { λ out. O.limit out };
+    ghost state = { λ here out. O.bytes out };
+
+    ghost Setup = { Option ℕ };
+
+    ghost setup = { λ here out. O.limit out };
 
     ghost device = { λ limit. transmit_within limit };
 
-    fn takes(&self) -> bool {
+    ghost Refuses = { λ limit out memory buffers why.
+        (transmit_within limit).LacksMemory out (readable_of memory buffers) (length (writable_of buffers)) };
+
+    ghost IsReady = { λ here out. Unit {0} };
+
+    ghost Keeps = { λ here out there later. Unit {0} };
+
+    fn takes(&self, _out: &O) -> bool {
         true
     }
 
@@ -29,10 +48,15 @@ impl<O: Outlet> Stream for O {
         &mut self,
         mem: &mut GuestMemory<M>,
         chain: &Chain,
-    ) -> Result<Answer, NoMemory> {
-        put_out(mem, chain, self)?;
-        Ok(Answer::UNWRITTEN)
+        out: &mut O,
+    ) -> Result<Used, NoMemory> {
+        put_out(mem, chain, out)?;
+        Ok(Used::UNWRITTEN)
     }
+
+    ghost keeps_all = { λ here out. tt };
+
+    ghost keeps_on = { λ here there last out later after one other. tt };
 }
 
 /// Puts out the readable bytes of a chain. Room for all of them is made before the first goes out.

@@ -8,5 +8,7 @@ pub mod Services
 pub mod Pieces
 pub mod PiecesExact
 pub mod Stages
+pub mod Courses
+pub mod Leaving
 pub mod Saving
 pub mod Devices

@@ -8,6 +8,7 @@
 
 mod action;
 mod configuration;
+mod device;
 mod device_kind;
 mod interrupts;
 mod laws;
@@ -15,11 +16,13 @@ mod queue;
 mod queue_registers;
 mod register;
 mod saved;
+mod service;
 mod stage;
 mod window;
 
 pub use action::Action;
 pub use configuration::{CONFIGURATION_LEN, CONFIGURATION_OFFSET};
+pub use device::{Device, Used};
 pub use device_kind::DeviceKind;
 pub use laws::{
     generation_stays, next_place_is_ignored, one_chain_or_fault_at_a_place,
@@ -30,5 +33,6 @@ pub use queue::{Queue, Token};
 pub use queue_registers::QueueRegisters;
 pub use register::{Register, may_stop_queues};
 pub use saved::{Reached, SavedQueue, SavedWindow};
+pub use service::{Left, Refused, serve_queue, show};
 pub use stage::Stage;
 pub use window::Window;

@@ -1,0 +1,62 @@
+-- How a piece of a service leaves its queue, for any device: closed, open in a pause, or open at a chain that the device
+-- leaves on offer.
+use Rattle.std.specs.Prelude.{◌≡◌, Option, None, List}
+use Rattle.guest_memory.specs.Memory.{Memory}
+use Rattle.chain.specs.declared.budget.Budget.{Budget}
+use Rattle.chain.specs.declared.budget.Progress.{Progress}
+use Rattle.chain.specs.declared.budget.Progress.TheVariants.{More, Done}
+use Rattle.chain.specs.declared.segment.Buffer.{Buffer}
+use Rattle.chain.specs.Budget.{AreWithin, chains_of}
+use Rattle.chain.specs.Buffers.{Good}
+use Rattle.chain.specs.Pieces.{Pauses, RunsWithin}
+use Rattle.chain.specs.Service.{Device, Site, Course, IsReady}
+use Rattle.mmio_window.specs.declared.service.Left.{Left}
+use Rattle.mmio_window.specs.declared.service.Left.TheVariants.{Open, Closed}
+use Rattle.mmio_window.specs.declared.service.Refused.{Refused}
+use Rattle.mmio_window.specs.declared.service.Stop.{Stop}
+use Rattle.mmio_window.specs.declared.service.Stop.TheVariants.{Pause, End}
+use Rattle.mmio_window.specs.declared.queue.Queue.{Queue}
+use Rattle.mmio_window.specs.declared.stage.Stage.{Stage}
+use Rattle.mmio_window.specs.Pieces.{EndsAt, PausesAt, fault_at, opened_at}
+use Rattle.mmio_window.specs.Queue.{IsTaken, entry_of, queue_kind}
+use Rattle.mmio_window.specs.Serving.{after_service, ending_of}
+use Rattle.mmio_window.specs.Window.{WindowState}
+
+-- where a service stands: the guest's memory, the queue, and the device's state
+abbrev pub site_at : {State : Type 0} → Memory → Queue → State → Site Queue State
+site_at m queue state = record { memory = m; ring = queue; state = state }
+
+-- the chains of a piece
+abbrev pub Stops : {State : Type 0} → Device State → Budget → Site Queue State → Site Queue State → Stop → Type 0
+Stops device budget start now Pause = Pauses queue_kind device budget start now
+Stops device budget start now (End fault) = RunsWithin queue_kind device budget start (ending_of fault) now
+
+-- a piece, by how it leaves the queue
+abbrev pub LeavesQueue : {State : Type 0} → Device State → Stage → Budget → Site Queue State → Site Queue State → Left → Type 0
+LeavesQueue device stage budget old new Open = PausesAt stage device budget old new
+LeavesQueue device stage budget old new (Closed fault wanted) = EndsAt stage device budget old new (ending_of fault) wanted
+
+-- Chains were served within the budget, and the one on offer has these buffers; the device leaves it, for a reason that
+-- it has then.
+pub record IsLeftAt {State E : Type 0} (device : Device State) (Refuses : State → Memory → List Buffer → E → Type 0) (budget : Budget) (start now : Site Queue State) (buffers : List Buffer) (refused : Refused E) : Type 0 where
+  pub course : Course queue_kind device start now
+  pub within : AreWithin budget (chains_of course.chains)
+  pub ready : IsReady queue_kind device now
+  pub offered : queue_kind.Offers now.memory now.ring buffers (entry_of refused.token)
+  pub taken : IsTaken now.ring refused.token
+  pub good : Good now.memory buffers
+  pub refuses : Refuses now.state now.memory buffers refused.why
+
+-- the same of a piece, from its opening on
+pub record RefusesAt {State E : Type 0} (device : Device State) (Refuses : State → Memory → List Buffer → E → Type 0) (stage : Stage) (budget : Budget) (old new : Site Queue State) (buffers : List Buffer) (refused : Refused E) : Type 0 where
+  pub opens : fault_at stage old.memory old.ring ≡ None
+  pub left : IsLeftAt device Refuses budget (record old { ring = opened_at stage old.memory old.ring }) new buffers refused
+
+-- what a window shows of a queue that is left so
+abbrev pub shown : Left → WindowState → WindowState
+shown Open w = w
+shown (Closed fault wanted) w = after_service (ending_of fault) wanted w
+
+abbrev pub progress_of : Left → Progress
+progress_of Open = More
+progress_of (Closed fault wanted) = Done
