@@ -3,18 +3,16 @@ use Rattle.std.proofs.Common.{◌≡◌, ◌⊎◌, inl, inr, ℕ, zero, suc, �
 use Rattle.std.specs.List.{All, slice_get}
 use Rattle.std.proofs.lemmas.Bool.{cases_lt, cases_order}
 use Rattle.std.proofs.lemmas.List.{get_or-map, length-map, length-replicate}
-use Rattle.std.proofs.lemmas.List.Elements.{All-head, All-nil, All-tail}
+use Rattle.std.proofs.lemmas.List.Elements.{All-head, All-tail}
 use Rattle.std.proofs.lemmas.List.Sums.{sum_by-cons, sum_by_more}
 use Rattle.std.proofs.lemmas.Option.{slice_get-get_or, slice_get_within}
 use Rattle.guest_memory.specs.declared.fault.MemoryFault.{MemoryFault}
 use Rattle.guest_memory.specs.declared.fault.MemoryFault.TheVariants.{NoRegions, BadSize, BadBase, NotApart, NoMemory}
 use Rattle.guest_memory.specs.declared.fault.RegionFault.{RegionFault}
 use Rattle.guest_memory.specs.declared.spec.RegionSpec.{RegionSpec}
-use Rattle.guest_memory.specs.Limits.{IsSize, IsBase}
-use Rattle.guest_memory.specs.Memory.{zeroed}
 use Rattle.guest_memory.specs.Regions.{Region, AreApart, AreRegions, memory_of}
-use Rattle.guest_memory.specs.Faults.{IsGoodRegion, GoodBelow, AreGood, IsFaultOf, HasFaultAt, IsRefusedAt, IsRefused, size_of, spec_of, zeroed_region, zeroed_regions}
-use Rattle.guest_memory.proofs.InRegions.{some_region, one_apart, more_apart, first_base, ends_last, zeroed_region as zeroed_region_is}
+use Rattle.guest_memory.specs.Faults.{IsGoodRegion, GoodBelow, AreGood, IsFaultOf, HasFaultAt, IsRefusedAt, IsRefused, size_of, spec_of, zeroed_region}
+use Rattle.guest_memory.proofs.InRegions.{some_region, one_apart, more_apart, first_base, ends_last}
 
 -- a fault of the region at this place
 abbrev pair : ℕ → MemoryFault → RegionFault

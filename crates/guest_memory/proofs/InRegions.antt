@@ -554,19 +554,15 @@ pub place_in : (xs rs : List Region) (i a n : ℕ) (x : Region) → xs ≡ rs �
 place_in xs rs i a n x same within isin =
     subst (λ (ys : List Region). (i < length ys) × IsIn (get_or ys i x) a n) same (within, isin)
 
--- the place that a search answered
-pub searched : (xs rs : List Region) (a i : ℕ) (o : Option ℕ) → xs ≡ rs → o ≡ position (touches a) xs
-    → o ≡ Some i → position (touches a) rs ≡ Some i
-searched xs rs a i o same found is = ap (position (touches a)) (sym same) ∙ sym found ∙ is
+-- the address lies in that region, or is its end
+pub touches_found : (rs : List Region) (a i : ℕ) (o : Option ℕ) (x : Region) → o ≡ position (touches a) rs → o ≡ Some i → x ≡ get_or rs i x
+    → touches a x ≡ true
+touches_found rs a i o x found some is = (found_region rs a i x (sym found ∙ some) is).1
 
 -- the test of a range, where no region is found
-pub none_inside : (xs rs : List Region) (a n : ℕ) (o : Option ℕ) (m : Memory) → memory_of rs ≡ m → AreApart rs
-    → xs ≡ rs → o ≡ position (touches a) xs → o ≡ None → IsTrue false ↔ Inside m a n
-none_inside xs rs a n o m view h same found is = (
-  λ never. cc,
-  λ inside. absurd
-      (found_none rs a n m view h (ap (position (touches a)) (sym same) ∙ sym found ∙ is) inside),
-)
+pub none_inside : (rs : List Region) (a n : ℕ) (o : Option ℕ) → AreApart rs → o ≡ position (touches a) rs → o ≡ None
+    → IsTrue false ↔ Inside (memory_of rs) a n
+none_inside rs a n o h found none = (λ never. cc, λ inside. absurd (found_none rs a n (memory_of rs) refl h (sym found ∙ none) inside))
 
 -- the last of some regions ends where the memory does
 pub ends_last : (rs : List Region) (i : ℕ) (d : Region) → AreApart rs → suc i ≡ length rs
@@ -612,6 +608,11 @@ pub found_room : (rs : List Region) (a i room : ℕ) (x : Region) (m : Memory) �
 found_room rs a i room x m same h found is rest n =
     let test = found_holds rs a n i room x m same h found is rest in
     (λ within. test.0 (grind (arith, nat_tests)), λ inside. grind (arith, nat_tests, test.1 inside))
+
+-- what a search answered: there is so much room in the region x that it found
+pub room_found : (rs : List Region) (a i room : ℕ) (o : Option ℕ) (x : Region) → AreApart rs → o ≡ position (touches a) rs → o ≡ Some i
+    → x ≡ get_or rs i x → a + room ≡ end_of x → (n : ℕ) → (n ≤ room) ↔ Inside (memory_of rs) a n
+room_found rs a i room o x h found some is rest = found_room rs a i room x (memory_of rs) refl h (sym found ∙ some) is rest
 
 -- the bytes from an address on that has so much room are the rest of its region
 pub rest_is : (m : Memory) (a room : ℕ) (bytes : List ℕ) → ((n : ℕ) → (n ≤ room) ↔ Inside m a n) → length bytes ≡ room

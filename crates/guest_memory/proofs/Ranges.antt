@@ -3,7 +3,9 @@ use Rattle.std.proofs.Common.{◌≡◌, ◌↔◌, ◌⊎◌, inl, inr, ℕ, �
 use Rattle.std.specs.Prelude.{IsTrue, nat_le, ◌&&◌}
 use Rattle.std.proofs.lemmas.Bool.Decides.{nat_tests}
 use Rattle.std.proofs.lemmas.List.{places, same_lists}
-use Rattle.guest_memory.specs.Memory.{Gap, Memory, Inside, MissesAll, is_inside, misses_all, SameRange, part_of, put_at, up_to_gap, put}
+use Rattle.byteorder.specs.Endian.{little_number}
+use Rattle.byteorder.specs.Numbers.{little_from-take}
+use Rattle.guest_memory.specs.Memory.{Gap, Memory, Inside, MissesAll, is_inside, misses_all, SameRange, num, part_of, put_at, up_to_gap, put}
 use Rattle.guest_memory.proofs.Gaps.{misses-none, misses_part, misses_all-true, true-misses_all, up_to_gap-all, up_to_gap-nil}
 
 -- a list keeps its length, whatever is written where
@@ -94,3 +96,20 @@ inside_same old new a n s h =
 -- the addresses stay where they stay in two steps
 pub same_trans : (a b c : Memory) → SameRange a b → SameRange b c → SameRange a c
 same_trans a b c p q = record { base = q.base ∙ p.base; size = q.size ∙ p.size; gaps = q.gaps ∙ p.gaps }
+
+-- a number at a place of a part that was lent is the number at its address
+pub num_in_part : (m : Memory) (a n j k rest v : ℕ) (bytes : List ℕ) → bytes ≡ part_of m a n → Inside m a n → j + k ≤ n → k ≤ rest
+    → v ≡ little_number k (take rest (drop j bytes)) → v ≡ num m (a + j) k
+num_in_part m a n j k rest v bytes lent inside within room read =
+    let xs = take rest (drop j (part_of m a n)) in
+    let same : take k xs ≡ part_of m (a + j) k =
+    same_lists _ _ (simp (length-take, length-drop) (omega (arith, inside.above))) (λ i d h. grind (arith, places, inside.above)) in
+    read ∙ ap (λ (bs : List ℕ). little_number k (take rest (drop j bs))) lent ∙ sym (little_from-take 0 k k xs (omega arith)) ∙ ap (little_number k) same
+
+-- and the one at its first byte
+pub num_first : (m : Memory) (a n k v : ℕ) (bytes : List ℕ) → bytes ≡ part_of m a n → Inside m a n → k ≤ n
+    → v ≡ little_number k bytes → v ≡ num m a k
+num_first m a n k v bytes lent inside within read =
+    let same : take k (part_of m a n) ≡ part_of m a k =
+    same_lists _ _ (simp (length-take, length-drop) (omega (arith, inside.above))) (λ i d h. grind (arith, places, inside.above)) in
+    read ∙ ap (little_number k) lent ∙ sym (little_from-take 0 k k (part_of m a n) (omega arith)) ∙ ap (little_number k) same

@@ -7,7 +7,7 @@ ghost use Rattle.chain.specs.declared.fault.Fault.TheVariants.{Nested};
 ghost use Rattle.indirect.specs.Descriptors.{split_descriptor};
 ghost use Rattle.indirect.specs.Tables.{SplitTableResolves, SplitTableFails, PackedTableResolves, PackedTableFails};
 
-use crate::descriptor::{Descriptor, read_packed_buffer};
+use crate::descriptor::{Descriptor, PackedDescriptor};
 use crate::table::{DESCRIPTOR_LEN, entries_of};
 use chain::{Chain, Fault};
 use guest_memory::GuestMemory;
@@ -87,7 +87,8 @@ pub fn append_packed<A: Allocator>(
         Err(fault) => return Err(fault),
     };
     for index in 0..entries {
-        let buffer = read_packed_buffer(mem, addr + u64::from(index * DESCRIPTOR_LEN));
+        let at = addr + u64::from(index * DESCRIPTOR_LEN);
+        let buffer = PackedDescriptor::read(mem, at).buffer;
         let segment = buffer.segment;
         match chain.push(mem, segment.addr, segment.len, buffer.writable) {
             Ok(()) => {}

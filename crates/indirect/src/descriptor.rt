@@ -1,9 +1,10 @@
 //! One descriptor, read from guest memory in the layout of its queue.
 
-ghost use Rattle.std.specs.Prelude.{◌≡◌};
-ghost use Rattle.guest_memory.specs.Memory.{Inside};
+ghost use Rattle.std.specs.Prelude.{◌≡◌, ◌+◌};
+ghost use Rattle.guest_memory.specs.Memory.{Inside, num};
 ghost use Rattle.indirect.specs.Descriptors.{packed_buffer};
 
+use byteorder::{ByteOrder, LittleEndian};
 use chain::{Buffer, Segment};
 use guest_memory::GuestMemory;
 use std::alloc::Allocator;
@@ -25,20 +26,65 @@ pub struct Descriptor {
     pub next: Option<u16>,
 }
 
-/// The buffer of the descriptor in the packed layout whose 16 bytes stand at `addr` (2.8.13).
-#[tactic(auto, using(guest_memory::proofs::Ranges::inside_part))]
-#[inline(always)]
-pub fn read_packed_buffer<A: Allocator>(mem: &GuestMemory<A>, addr: u64) -> Buffer
-    requires { Inside mem.now addr 16 }
-    ensures { result ≡ packed_buffer mem.now addr }
-{
-    let _ = mem.slice(addr, 16);
-    Buffer {
-        segment: Segment {
-            addr: mem.read_u64(addr),
-            len: mem.read_u32(addr + 8),
-        },
-        writable: mem.read_u16(addr + 14) & WRITE != 0,
+/// A descriptor in the packed layout: its buffer, which is a table where its flags say so, its buffer id and its flags.
+#[derive(Clone, Copy, Debug, PartialEq, Eq)]
+pub struct PackedDescriptor {
+    pub buffer: Buffer,
+    pub id: u16,
+    pub flags: u16,
+}
+
+/// The fields of a descriptor, in the order of both layouts. The last two are flags and next of a split one, id and flags
+/// of a packed one.
+#[derive(Clone, Copy)]
+struct Fields {
+    segment: Segment,
+    third: u16,
+    last: u16,
+}
+
+impl Fields {
+    /// The fields that stand in the 16 bytes at `addr`, by one look at memory.
+    #[inline(always)]
+    fn read<A: Allocator>(mem: &GuestMemory<A>, addr: u64) -> Fields
+        requires { Inside mem.now addr 16 }
+        ensures addr { result.segment.addr ≡ num mem.now addr 8 }
+        ensures len { result.segment.len ≡ num mem.now (addr + 8) 4 }
+        ensures third { result.third ≡ num mem.now (addr + 12) 2 }
+        ensures last { result.last ≡ num mem.now (addr + 14) 2 }
+    {
+        let bytes = mem.slice(addr, 16);
+        Fields {
+            segment: Segment {
+                addr: LittleEndian::read_u64(bytes),
+                len: LittleEndian::read_u32(&bytes[8..]),
+            },
+            third: LittleEndian::read_u16(&bytes[12..]),
+            last: LittleEndian::read_u16(&bytes[14..]),
+        }
+    }
+}
+
+impl PackedDescriptor {
+    ghost use Rattle.guest_memory.specs.Memory.{num};
+
+    /// The descriptor in the packed layout whose 16 bytes stand at `addr` (2.8.13).
+    #[inline(always)]
+    pub fn read<A: Allocator>(mem: &GuestMemory<A>, addr: u64) -> PackedDescriptor
+        requires { Inside mem.now addr 16 }
+        ensures buffer { result.buffer ≡ packed_buffer mem.now addr }
+        ensures id { result.id ≡ num mem.now (addr + 12) 2 }
+        ensures flags { result.flags ≡ num mem.now (addr + 14) 2 }
+    {
+        let fields = Fields::read(mem, addr);
+        PackedDescriptor {
+            buffer: Buffer {
+                segment: fields.segment,
+                writable: fields.last & WRITE != 0,
+            },
+            id: fields.third,
+            flags: fields.last,
+        }
     }
 }
 
@@ -46,26 +92,21 @@ impl Descriptor {
     ghost use Rattle.indirect.specs.Descriptors.{split_descriptor};
 
     /// The descriptor in the split layout whose 16 bytes stand at `addr` (2.7.5).
-    #[tactic(auto, using(guest_memory::proofs::Ranges::inside_part))]
     #[inline(always)]
     pub fn read_split<A: Allocator>(mem: &GuestMemory<A>, addr: u64) -> Descriptor
         requires { Inside mem.now addr 16 }
         ensures { result ≡ split_descriptor mem.now addr }
     {
-        // That the descriptor is a part of memory tells that its fields' addresses fit 64 bits.
-        let _ = mem.slice(addr, 16);
-        let flags = mem.read_u16(addr + 12);
+        let fields = Fields::read(mem, addr);
+        let flags = fields.third;
         Descriptor {
             buffer: Buffer {
-                segment: Segment {
-                    addr: mem.read_u64(addr),
-                    len: mem.read_u32(addr + 8),
-                },
+                segment: fields.segment,
                 writable: flags & WRITE != 0,
             },
             indirect: flags & INDIRECT != 0,
             next: if flags & NEXT != 0 {
-                Some(mem.read_u16(addr + 14))
+                Some(fields.last)
             } else {
                 None
             },

@@ -11,5 +11,5 @@ mod laws;
 mod table;
 
 pub use append::{append_packed, append_split};
-pub use descriptor::{Descriptor, INDIRECT, NEXT, WRITE, read_packed_buffer};
+pub use descriptor::{Descriptor, INDIRECT, NEXT, PackedDescriptor, WRITE};
 pub use laws::{front_is_longest, one_outcome_of_list, one_outcome_of_table, one_outcome_of_walk};

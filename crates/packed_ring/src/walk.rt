@@ -7,7 +7,7 @@ ghost use Rattle.packed_ring.specs.Ring.{ring_descriptor};
 
 use chain::{Chain, Fault};
 use guest_memory::GuestMemory;
-use indirect::{Descriptor, INDIRECT, NEXT, append_packed, read_packed_buffer};
+use indirect::{Descriptor, INDIRECT, NEXT, PackedDescriptor, append_packed};
 use std::alloc::Allocator;
 
 /// Where a descriptor ring lies, and whether its descriptors may refer to tables of their own.
@@ -73,11 +73,11 @@ fn read_descriptor<A: Allocator>(mem: &GuestMemory<A>, table: Table, index: u16)
     // So no address in the ring passes 2^64.
     prove!(mem.holds(table.addr, 16 * u64::from(table.size)));
     let addr = table.addr + 16 * u64::from(index);
-    let flags = mem.read_u16(addr + 14);
+    let descriptor = PackedDescriptor::read(mem, addr);
     Descriptor {
-        buffer: read_packed_buffer(mem, addr),
-        indirect: flags & INDIRECT != 0,
-        next: if flags & NEXT != 0 {
+        buffer: descriptor.buffer,
+        indirect: descriptor.flags & INDIRECT != 0,
+        next: if descriptor.flags & NEXT != 0 {
             Some((index + 1) % table.size)
         } else {
             None

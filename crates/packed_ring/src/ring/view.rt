@@ -8,7 +8,7 @@ ghost use Rattle.indirect.specs.Descriptors.{packed_buffer};
 use crate::ring::PackedRing;
 use chain::Buffer;
 use guest_memory::GuestMemory;
-use indirect::read_packed_buffer;
+use indirect::PackedDescriptor;
 use std::alloc::Allocator;
 
 impl PackedRing {
@@ -80,12 +80,8 @@ impl PackedRing {
         }
         let offset = 16 * u64::from(position);
         prove!(mem.holds(self.desc, 16 * u64::from(self.size)));
-        let addr = self.desc + offset;
-        Some((
-            read_packed_buffer(mem, addr),
-            mem.read_u16(addr + 12),
-            mem.read_u16(addr + 14),
-        ))
+        let descriptor = PackedDescriptor::read(mem, self.desc + offset);
+        Some((descriptor.buffer, descriptor.id, descriptor.flags))
     }
 
     /// The same of the descriptor at a place's position.

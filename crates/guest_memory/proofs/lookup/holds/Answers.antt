@@ -1,13 +1,12 @@
 use Rattle.std.proofs.Common.{List, refl, sym, ◌∙◌}
 use Rattle.guest_memory.specs.Regions.{Region, memory_of}
-use Rattle.guest_memory.proofs.InRegions.{searched, found_region, found_holds, none_inside, one_holds, one_misses}
+use Rattle.guest_memory.proofs.InRegions.{found_holds, none_inside, one_holds, one_misses, touches_found}
 use Rattle.guest_memory.proofs.lookup.holds.Goals as goal
 
 pub room_behind-requires-in-Some : goal.room_behind-requires-in-Some
 room_behind-requires-in-Some g c =
-    let rs : List Region = c.args.regions.now in
-    let found = searched rs rs c.args.addr c.in-Some.place c.place_of.result refl c.place_of.ensures c.in-Some.is in
-    (found_region rs c.args.addr c.in-Some.place c.index-regions-place.result found c.index-regions-place.is).1
+    touches_found c.args.regions.now c.args.addr c.in-Some.place c.place_of.result c.index-regions-place.result c.place_of.ensures c.in-Some.is
+    c.index-regions-place.is
 
 pub returns-then-touches-clause-inside : goal.returns-then-touches-clause-inside
 returns-then-touches-clause-inside g c =
@@ -24,11 +23,8 @@ returns-else-touches-clause-inside g c =
 pub returns-in-Some-clause-inside : goal.returns-in-Some-clause-inside
 returns-in-Some-clause-inside g c =
     let rs : List Region = c.args.regions.now in
-    let found = searched rs rs c.args.addr c.in-Some.place c.place_of.result refl c.place_of.ensures c.in-Some.is in
     found_holds rs c.args.addr c.args.n c.in-Some.place c.room_behind-in-Some.result c.index-regions-place.result (memory_of rs) refl c.requires
-    found c.index-regions-place.is c.room_behind-in-Some.ensures.value
+    (sym c.place_of.ensures ∙ c.in-Some.is) c.index-regions-place.is c.room_behind-in-Some.ensures.value
 
 pub returns-in-None-clause-inside : goal.returns-in-None-clause-inside
-returns-in-None-clause-inside g c =
-    let rs : List Region = c.args.regions.now in
-    none_inside rs rs c.args.addr c.args.n c.place_of.result (memory_of rs) refl c.requires refl c.place_of.ensures c.in-None.is
+returns-in-None-clause-inside g c = none_inside c.args.regions.now c.args.addr c.args.n c.place_of.result c.requires c.place_of.ensures c.in-None.is

@@ -8,8 +8,8 @@ returns-in-Err-push-clause-fault g c =
     let m = c.args.mem.now in
     let a = c.args.addr in
     let i = c.loop-index.index in
-    let b = c.read_packed_buffer-buffer.result in
-    let e = packed_entry_is m a c.from.result i b c.read_packed_buffer-buffer.ensures (omega arith) in
+    let b = c.read.result.buffer in
+    let e = packed_entry_is m a c.from.result i b c.read.ensures.buffer (omega arith) in
     record {
       no_table = λ h. absurd (h c.in-Ok.ensures.ok);
       walked = λ h. rw (← c.in-Ok.ensures.value, c.in-Err-push.ensures.err) (record {
@@ -26,6 +26,6 @@ loop-index-preserved g c =
     let m = c.args.mem.now in
     let a = c.args.addr in
     let i = c.loop-index.index in
-    let b = c.read_packed_buffer-buffer.result in
-    let e = packed_entry_is m a c.from.result i b c.read_packed_buffer-buffer.ensures (omega arith) in
+    let b = c.read.result.buffer in
+    let e = packed_entry_is m a c.from.result i b c.read.ensures.buffer (omega arith) in
     record { gathered = gathered_step m a c.args.chain.now c.loop-index.chain c.push.new.self i b e c.in-Ok-push.ensures.ok c.in-Ok-push.ensures.pushed c.loop-index.invariant.gathered; keeps = λ g. c.in-Ok-push.ensures.keeps (c.loop-index.invariant.keeps g) }
