@@ -18,7 +18,7 @@ mod view;
 pub use crate::board::pieces::Taken;
 use crate::bytes::Bytes;
 use crate::event::{Event, EventKind};
-use crate::pause::Turn;
+use crate::pause::{Turn, Work};
 use crate::reply::{Record, Reply, RunStop};
 use crate::slot::Slot;
 use chain::Budget;
@@ -163,7 +163,7 @@ impl<I: Image, A: Allocator + Copy> Board<I, A> {
             turn,
             block_irq,
             console_irq,
-        } = self.begin(slot, what, Budget::UNLIMITED, out);
+        } = self.turn(slot, Work::Begin(what), Budget::UNLIMITED, out);
         match turn {
             Turn::Answered(reply) => Handled {
                 reply,
