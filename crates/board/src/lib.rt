@@ -37,7 +37,7 @@ pub use event::{Event, EventKind};
 pub use fault::BoardFault;
 pub use guest_memory::{GuestMemory, MemoryFault, RegionSpec, Regions};
 pub use hosted::{
-    HostedBoard, HostedTaken, a_flight_outlasts_own_events, a_hosted_guest_alone_has_one_run,
+    HostedBoard, a_flight_outlasts_own_events, a_hosted_guest_alone_has_one_run,
     an_honest_host_serves, each_hosted_guest_is_alone, one_hosted_outcome,
     what_waits_changes_nothing,
 };
@@ -49,7 +49,7 @@ pub use laws::{
 };
 pub use mmio_window::{DeviceKind, Stage};
 pub use pause::{Pause, Service, Turn, Work};
-pub use reply::{Record, Reply, RunStop};
+pub use reply::{Handled, Record, Reply, RunStop};
 pub use saved::{RestoreFault, RestoreRefusal, SaveRefusal};
 pub use sector_cache::{CacheFault, Image, ImageError, ImageFault, MemoryImage, Refused};
 pub use snapshot::{ShortBuffer, SnapshotFault};
