@@ -14,6 +14,8 @@ use Rattle.board.specs.declared.event.EventKind.TheVariants.{Write}
 use Rattle.board.specs.declared.pause.Pause.{Pause}
 use Rattle.board.specs.declared.pause.Service.{Service}
 use Rattle.board.specs.declared.pause.Service.TheVariants.{Transmit}
+use Rattle.board.specs.declared.pause.Work.{Work}
+use Rattle.board.specs.declared.pause.Work.TheVariants.{Begin, Resume}
 use Rattle.board.specs.declared.pause.Turn.{Turn}
 use Rattle.board.specs.declared.pause.Turn.TheVariants.{Answered, More}
 use Rattle.board.specs.declared.reply.Reply.{Reply}
@@ -129,3 +131,8 @@ BeginsWithin limit what budget old new waiting left turn =
 abbrev pub GoesOnWithin : {A : Type 0} → ℕ → Pause → Budget → SlotState → SlotState → List ℕ → List ℕ → Turn A → Type 0
 GoesOnWithin limit pause budget old new waiting left turn =
     PieceWithin limit pause Next budget old new waiting left turn
+
+-- And so how a turn is, by what its slot is to do.
+abbrev pub DoesWithin : {A : Type 0} → ℕ → Work A → Budget → SlotState → SlotState → List ℕ → List ℕ → Turn A → Type 0
+DoesWithin limit (Begin what) budget old new waiting left turn = BeginsWithin limit what.now budget old new waiting left turn
+DoesWithin limit (Resume pause) budget old new waiting left turn = GoesOnWithin limit pause budget old new waiting left turn

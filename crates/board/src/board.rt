@@ -18,8 +18,8 @@ mod view;
 pub use crate::board::pieces::Taken;
 use crate::bytes::Bytes;
 use crate::event::{Event, EventKind};
-use crate::pause::Turn;
-use crate::reply::{Record, Reply, RunStop};
+use crate::pause::{Turn, Work};
+use crate::reply::{Handled, Record, Reply, RunStop};
 use crate::slot::Slot;
 use chain::Budget;
 use console_device::Outlet;
@@ -46,16 +46,8 @@ impl<I: Image, A: Allocator> Model for Board<I, A> {
     ghost invariant = { λ b. AreSound (I.disk b.cache).sector_count (extents_of b.slots.items) };
 }
 
-// What an event came to, beside what was put out.
-#[derive(Drop)]
-struct Handled<A: Allocator = Global> {
-    reply: Reply<A>,
-    block_irq: u8,
-    console_irq: u8,
-}
-
 impl<I: Image, A: Allocator + Copy> Board<I, A> {
-    /// Handles one event to its end. What the slot's console puts out is appended to `out`.
+    /// Handles one event to its end, as `handle` does. What the slot's console puts out is appended to `out`.
     #[tactic(auto, using(crate::proofs::Runs::answered))]
     pub fn step<O: Outlet>(&mut self, event: &Event<A>, out: &mut O) -> Reply<A>
         ensures step { Tells (I.disk self.old.image) →
@@ -130,8 +122,9 @@ impl<I: Image, A: Allocator + Copy> Board<I, A> {
         Ok(())
     }
 
-    // Handles one event of a slot.
-    fn handle<O: Outlet>(&mut self, slot: u8, what: &EventKind<A>, out: &mut O) -> Handled<A>
+    /// Handles one event of a slot to its end, and tells both interrupt words after it. What its console puts out is
+    /// appended to `out`.
+    pub fn handle<O: Outlet>(&mut self, slot: u8, what: &EventKind<A>, out: &mut O) -> Handled<A>
         ensures handles { Tells (I.disk self.old.image) →
             Handles (world_of I.disk self.old) (record { slot = slot; what = what.now })
             result.reply result.block_irq result.console_irq
@@ -163,7 +156,7 @@ impl<I: Image, A: Allocator + Copy> Board<I, A> {
             turn,
             block_irq,
             console_irq,
-        } = self.begin(slot, what, Budget::UNLIMITED, out);
+        } = self.turn(slot, Work::Begin(what), Budget::UNLIMITED, out);
         match turn {
             Turn::Answered(reply) => Handled {
                 reply,

@@ -8,14 +8,13 @@ ghost use Rattle.board.specs.declared.pause.Pause.{Pause};
 ghost use Rattle.board.specs.declared.pause.Turn.{Turn};
 ghost use Rattle.board.specs.declared.reply.Reply.{Reply};
 ghost use Rattle.board.specs.Image.{Tells, bytes_of};
-ghost use Rattle.board.specs.Pausing.{Begins, GoesOn, HasLimit, TakesTurn, met_in};
+ghost use Rattle.board.specs.Pausing.{Begins, Does, HasLimit, MayLackMemoryIn, TakesTurn, met_in};
 ghost use Rattle.board.specs.Slot.{BoardSlot, interrupt_words, state_of};
-ghost use Rattle.board.specs.World.{KeepsOthers, MayLackMemory, StaysInExtents, disturbed_of, extents_of, noted, world_of};
-ghost use Rattle.board.specs.Within.{BeginsWithin, GoesOnWithin};
+ghost use Rattle.board.specs.World.{KeepsOthers, StaysInExtents, disturbed_of, extents_of, noted, world_of};
+ghost use Rattle.board.specs.Within.{DoesWithin};
 
 use crate::board::Board;
-use crate::event::EventKind;
-use crate::pause::{Pause, Turn};
+use crate::pause::{Turn, Work};
 use crate::reply::Reply;
 use crate::slot::Slot;
 use chain::Budget;
@@ -64,20 +63,21 @@ impl<A: Allocator> Taken<A> {
 }
 
 impl<I: Image, A: Allocator + Copy> Board<I, A> {
-    /// Handles one event of a slot, whose service may pause where the budget is spent.
-    pub fn begin<O: Outlet>(
+    /// A slot takes a turn, in which its service may pause where the budget is spent: an event begins, or a service that
+    /// paused goes on. What its console puts out is appended to `out`.
+    pub fn turn<O: Outlet>(
         &mut self,
         slot: u8,
-        what: &EventKind<A>,
+        work: Work<'_, A>,
         budget: Budget,
         out: &mut O,
     ) -> Taken<A>
         ensures takes { Tells (I.disk self.old.image) → slot < length self.old.slots →
-            TakesTurn (Begins what.now budget) (world_of I.disk self.old) slot result.turn
+            TakesTurn (Does work.entry budget) (world_of I.disk self.old) slot result.turn
             result.block_irq result.console_irq (O.bytes out.old) (O.bytes out.new) (world_of I.disk self.new) }
         ensures within { (limit : ℕ) → O.limit out.old ≡ Some limit → (found after : BoardSlot) →
             slice_get self.old.slots slot ≡ Some found → slice_get self.new.slots slot ≡ Some after →
-            BeginsWithin limit what.now budget (state_of (bytes_of (I.disk self.old.image)) found)
+            DoesWithin limit work.entry budget (state_of (bytes_of (I.disk self.old.image)) found)
             (state_of (bytes_of (I.disk self.new.image)) after)
             (O.bytes out.old) (O.bytes out.new) result.turn }
         ensures limit { O.limit out.new ≡ O.limit out.old }
@@ -96,16 +96,16 @@ impl<I: Image, A: Allocator + Copy> Board<I, A> {
         ensures others { KeepsOthers slot self.old.slots self.new.slots }
         ensures no_memory { result.turn ≡ Turn.Answered Reply.NoMemory →
             IsSomeAnd (slice_get self.old.slots slot)
-            (λ found. (image : List ℕ) → MayLackMemory (state_of image found) what.now) }
+            (λ found. (image : List ℕ) → MayLackMemoryIn work.entry (state_of image found)) }
     {
         let Some(slot) = self.slots.get_mut(slot as usize) else {
             return Taken::missing();
         };
-        let turn = slot.begin(self.alloc, what, budget, &mut self.cache, out);
+        let turn = slot.turn(self.alloc, work, budget, &mut self.cache, out);
         Taken::after(turn, slot)
     }
 
-    /// Types bytes to the slot's console: `begin` for that input, for who has the bytes in a slice. No memory is
+    /// Types bytes to the slot's console: `turn` for that input, for who has the bytes in a slice. No memory is
     /// taken.
     pub fn begin_input(&mut self, slot: u8, bytes: &[u8], budget: Budget) -> Taken<A>
         ensures takes { Tells (I.disk self.old.image) → slot < length self.old.slots →
@@ -126,43 +126,6 @@ impl<I: Image, A: Allocator + Copy> Board<I, A> {
             return Taken::missing();
         };
         let turn = slot.input(bytes, budget);
-        Taken::after(turn, slot)
-    }
-
-    /// Goes on with a service of a slot that paused.
-    pub fn go_on<O: Outlet>(
-        &mut self,
-        slot: u8,
-        pause: Pause,
-        budget: Budget,
-        out: &mut O,
-    ) -> Taken<A>
-        ensures takes { Tells (I.disk self.old.image) → slot < length self.old.slots →
-            TakesTurn (GoesOn pause budget) (world_of I.disk self.old) slot result.turn
-            result.block_irq result.console_irq (O.bytes out.old) (O.bytes out.new) (world_of I.disk self.new) }
-        ensures within { (limit : ℕ) → O.limit out.old ≡ Some limit → (found after : BoardSlot) →
-            slice_get self.old.slots slot ≡ Some found → slice_get self.new.slots slot ≡ Some after →
-            GoesOnWithin limit pause budget (state_of (bytes_of (I.disk self.old.image)) found)
-            (state_of (bytes_of (I.disk self.new.image)) after)
-            (O.bytes out.old) (O.bytes out.new) result.turn }
-        ensures limit { O.limit out.new ≡ O.limit out.old }
-        ensures block_word { result.block_irq ≤ 3 }
-        ensures console_word { result.console_irq ≤ 3 }
-        ensures stays { StaysInExtents I.disk self.old self.new }
-        ensures touches { TouchesSlot I.moment I.may_leave I.left_since slot self.old self.new }
-        ensures noted { disturbed_of self.new.slots ≡ noted slot
-            (met_in result.turn (I.disk self.old.image).failures (I.disk self.new.image).failures)
-            (disturbed_of self.old.slots) }
-        ensures limited { (next : Pause) → result.turn ≡ Turn.More next → HasLimit budget }
-        ensures bad_slot { (result.turn ≡ Turn.Answered Reply.BadSlot) ↔ (length self.old.slots ≤ slot) }
-        ensures missing { length self.old.slots ≤ slot → (self.new ≡ self.old) × (O.bytes out.new ≡ O.bytes out.old)
-            × (result.block_irq ≡ 0) × (result.console_irq ≡ 0) }
-        ensures others { KeepsOthers slot self.old.slots self.new.slots }
-    {
-        let Some(slot) = self.slots.get_mut(slot as usize) else {
-            return Taken::missing();
-        };
-        let turn = slot.go_on(pause, budget, &mut self.cache, out);
         Taken::after(turn, slot)
     }
 }
