@@ -78,10 +78,12 @@ pub record DigitsBefore (xs : List ℕ) (n : ℕ) : Type 0 where
 pub none_before : (xs : List ℕ) → DigitsBefore xs 0
 none_before xs = record { within = omega arith; digits = All-nil IsDigit }
 
-pub block_more : (xs : List ℕ) (n : ℕ) (all : Bool) → DigitsBefore xs n → n + 16 ≤ length xs → all ≡ true → (IsTrue all ↔ All IsDigit (take (n + 16 - n) (drop n xs))) → DigitsBefore xs (n + 16)
-block_more xs n all before room held test =
-    let same : n + 16 - n ≡ 16 = omega arith in
-    record { within = room; digits = digits_more xs n 16 before.digits (subst (λ (k : ℕ). All IsDigit (take k (drop n xs))) same (test.0 held)) }
+pub block_more : (xs : List ℕ) (n size : ℕ) (all : Bool) → DigitsBefore xs n → n + size ≤ length xs → all ≡ true
+    → (IsTrue all ↔ All IsDigit (take (n + size - n) (drop n xs))) → DigitsBefore xs (n + size)
+block_more xs n size all before room held test =
+    let same : n + size - n ≡ size = omega arith in
+    let block = subst (λ (k : ℕ). All IsDigit (take k (drop n xs))) same (test.0 held) in
+    record { within = room; digits = digits_more xs n size before.digits block }
 
 pub one_more : (xs : List ℕ) (n : ℕ) (here : Bool) → DigitsBefore xs n → n < length xs → here ≡ true → (IsTrue here ↔ IsDigit (get_or xs n 0)) → DigitsBefore xs (n + 1)
 one_more xs n here before lt held test = record { within = omega arith; digits = All-more IsDigit xs n 0 lt before.digits (test.0 held) }

@@ -3,4 +3,5 @@ pub mod Numbers
 pub mod ByteFields
 pub mod PairSteps
 pub mod Judging
+mod EightDigits
 mod Table

@@ -1,8 +1,9 @@
--- What the table of digits' values has at each byte.
-use Rattle.std.proofs.Common.{◌≡◌, ℕ, ◌<◌, Bool, true, false, ◌||◌, eqb, leb, get_or, refl, arith}
+-- What the tables of digits' values and of bytes' digits have at each byte.
+use Rattle.std.proofs.Common.{◌≡◌, ℕ, ◌+◌, ◌*◌, ◌/◌, ◌%◌, ◌<◌, Bool, true, false, ◌||◌, eqb, leb, get_or, refl, arith}
 use Rattle.std.proofs.lemmas.Bool.{agree_below_at, eqb-true, leb-true}
 use Rattle.hexadecimal.specs.Spelling.{digit}
 use Rattle.hexadecimal.specs.declared.digit.TheConstants.{VALUES}
+use Rattle.hexadecimal.specs.declared.fixed_digits.TheConstants.{PAIRS}
 
 abbrev is_own : ℕ → Bool
 unfolding digit
@@ -32,3 +33,20 @@ listed c below lt =
 pub found : (d : ℕ) → d < 16 → get_or VALUES (digit d) 0 ≡ d
 unfolding digit
 found d lt = eqb-true _ _ (agree_below_at is_found yes 16 d refl lt)
+
+abbrev has_first : ℕ → Bool
+unfolding digit
+has_first b = eqb (get_or PAIRS (2 * b) 0) (digit (b / 16))
+
+abbrev has_second : ℕ → Bool
+unfolding digit
+has_second b = eqb (get_or PAIRS (2 * b + 1) 0) (digit (b % 16))
+
+-- each byte has its two digits in the table
+pub first_listed : (b : ℕ) → b < 256 → get_or PAIRS (2 * b) 0 ≡ digit (b / 16)
+unfolding digit
+first_listed b lt = eqb-true _ _ (agree_below_at has_first yes 256 b refl lt)
+
+pub second_listed : (b : ℕ) → b < 256 → get_or PAIRS (2 * b + 1) 0 ≡ digit (b % 16)
+unfolding digit
+second_listed b lt = eqb-true _ _ (agree_below_at has_second yes 256 b refl lt)

@@ -5,8 +5,10 @@ ghost use Rattle.hexadecimal.specs.Fields.{ArePairs, IsBytesField, IsDigit, Spel
 
 use crate::pairs::read_pairs;
 
-/// How many bytes are judged at once.
-const BLOCK: usize = 16;
+/// How many bytes are judged at once in a long field, and in a short one.
+const LONG_BLOCK: usize = 64;
+
+const SHORT_BLOCK: usize = 16;
 
 /// How many digits stand at the front of a text.
 pub fn digits_len(text: &[u8]) -> usize
@@ -15,8 +17,11 @@ pub fn digits_len(text: &[u8]) -> usize
     ensures all { result < length text.now → ¬ IsDigit (slice_index_or text.now result 0) }
 {
     let mut n = 0;
-    while text.len() - n >= BLOCK && are_digits(&text[n..n + BLOCK]) {
-        n += BLOCK;
+    while text.len() - n >= LONG_BLOCK && are_digits(&text[n..n + LONG_BLOCK]) {
+        n += LONG_BLOCK;
+    }
+    while text.len() - n >= SHORT_BLOCK && are_digits(&text[n..n + SHORT_BLOCK]) {
+        n += SHORT_BLOCK;
     }
     while n < text.len() && is_digit(text[n]) {
         n += 1;

@@ -6,8 +6,8 @@ ghost use Rattle.hex.specs.Hex.{encode_lower};
 ghost use Rattle.hexadecimal.specs.Spelling.{digit};
 ghost use Rattle.hexadecimal.specs.Fields.{IsDigit};
 
-/// Up to so many bytes go by `hex`. It takes one after another, and a long field would take it three times as long.
-const FEW: usize = 32;
+/// Up to so many bytes go by `hex`, one after another. More are taken eight at a time.
+const FEW: usize = 7;
 
 /// Writes bytes by two digits each.
 pub fn spell(bytes: &[u8], digits: &mut [u8])
@@ -52,7 +52,8 @@ fn computed(d: u8) -> u8
     requires { d < 16 }
     ensures { result ≡ digit d }
 {
-    if d < 10 { b'0' + d } else { b'a' + (d - 10) }
+    let before = if d < 10 { b'0' } else { b'a' - 10 };
+    before + d
 }
 
 // The same of many bytes.

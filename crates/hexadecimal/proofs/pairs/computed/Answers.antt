@@ -1,9 +1,11 @@
-use Rattle.std.proofs.Common.{sym, arith}
+use Rattle.std.proofs.Common.{arith}
 use Rattle.hexadecimal.proofs.Digits.{digit_low, digit_high}
 use Rattle.hexadecimal.proofs.pairs.computed.Goals as goal
+use Rattle.hexadecimal.proofs.pairs.computed.Goals.{then-d-lt10, else-d-lt10}
 
-pub returns-then-d-lt10 : goal.returns-then-d-lt10
-returns-then-d-lt10 c = sym (digit_low c.args.d (omega arith))
-
-pub returns-else-d-lt10 : goal.returns-else-d-lt10
-returns-else-d-lt10 c = let d = digit_high c.args.d (omega arith) (omega arith) in omega (arith, d)
+pub returns : goal.returns
+returns c =
+    elim c.if-d-lt10.branch [
+      | then-d-lt10 w ↦ let d = digit_low c.args.d (omega arith) in omega (arith, d)
+      | else-d-lt10 w ↦ let d = digit_high c.args.d (omega arith) (omega arith) in omega (arith, d)
+    ]
