@@ -1,6 +1,5 @@
 pub mod Answering
 pub mod Asking
-pub mod Courses
 pub mod Durable
 pub mod Endings
 pub mod Exact
@@ -8,9 +7,9 @@ pub mod Extents
 pub mod Failing
 pub mod Guests
 pub mod Judging
+pub mod Keeping
 pub mod OneLook
 pub mod OneService
-pub mod Pieces
 pub mod Requests
 pub mod SomeAnswer
 pub mod Telling

@@ -39,7 +39,7 @@ use Rattle.block_device.specs.Hosting.{AsksAt, AsksIn, CompletesIn, HostsTo, Sam
 use Rattle.block_device.specs.Operation.{operation_of}
 use Rattle.block_device.specs.Outcome.{Completes, Ends, Fails, Outcome, completed}
 use Rattle.block_device.specs.Request.{request_of, payload_of}
-use Rattle.block_device.specs.Serving.{site_of}
+use Rattle.block_device.specs.Hosting.{site_of}
 
 -- ---- one answer to a chain that asks for nothing
 

@@ -1,17 +1,14 @@
 -- What a stop may leave, through one call of the cache after another, one request and one chain.
 use Rattle.std.proofs.Common.{◌≡◌, ℕ, suc, ◌+◌, ◌*◌, ◌<◌, ◌≤◌, Option, None, Some, List, [], ◌∷◌, ◌++◌, length, map, get_or, refl, sym, ap, subst, ◌∙◌, arith}
 use Rattle.std.specs.List.{range_with_len}
-use Rattle.std.specs.Prelude.{Bool, Contains, IfSome, true, false}
+use Rattle.std.specs.Prelude.{Bool, Contains, IfSome, false}
 use Rattle.std.proofs.lemmas.List.{get_or-map, length-map}
 use Rattle.std.proofs.lemmas.List.Elements.{All-contains, All-from_recursion, Contains-append_left, Contains-append_right, Contains-get_or}
 use Rattle.std.proofs.lemmas.List.FromFn.{get_or-range_with_len, length-range_with_len}
 use Rattle.guest_memory.specs.Memory.{Memory}
-use Rattle.chain.specs.declared.budget.Budget.{Budget}
 use Rattle.chain.specs.declared.segment.Buffer.{Buffer}
-use Rattle.chain.specs.Budget.{IsSpent, less_chain}
 use Rattle.chain.specs.Bytes.{readable_of, writable_of}
-use Rattle.chain.specs.Service.{Device, Does, Entry, Served, ServesAll, Site, after}
-use Rattle.chain.proofs.Budgets.{IsInPiece, piece_goes_on}
+use Rattle.chain.specs.Service.{Device, Does, Served, ServesAll, Site, after}
 use Rattle.sector_cache.specs.Disk.{Disk, LeavesTold}
 use Rattle.sector_cache.specs.Sector.{sector_of}
 use Rattle.sector_cache.specs.Stop.{BeginsAt, DiffersInSectors, Only, Touches, TouchesBy, TouchesSectors}
@@ -28,7 +25,6 @@ use Rattle.block_device.specs.Durable.{IsCommitted}
 use Rattle.block_device.specs.Extent.{extent_disk}
 use Rattle.block_device.specs.Progress.{IsServable}
 use Rattle.block_device.specs.Request.{payload_of}
-use Rattle.block_device.specs.Serving.{site_at}
 use Rattle.block_device.specs.Touching.{GivesOver, device_over, on_image, sectors_of_chain, sectors_of_chains, seen_chain, seen_site, written_sectors}
 use Rattle.block_device.specs.Zeroes.{all_sectors, segments_in}
 use Rattle.block_device.proofs.Durable.{committed_clear}
@@ -227,7 +223,8 @@ module _ {I : Type 0} (disk : I → Disk) (moment : I → ℕ) (may_leave : I �
   abbrev sectors_in : Site Queue I → List (Served I) → List ℕ
   sectors_in site chains = sectors_of_chains disk moment may_leave left_since device site chains
 
-  does_over : (m answered : Memory) (buffers : List Buffer) (image image' : I) (len : ℕ) (any : Bool)
+  -- one chain
+  pub does_over : (m answered : Memory) (buffers : List Buffer) (image image' : I) (len : ℕ) (any : Bool)
       → Does (block_device device) m answered buffers (extent_disk device.extent (disk image)) (extent_disk device.extent (disk image')) len any
       → TouchesSectors moment may_leave left_since (sectors_of_chain device (readable_of m buffers) (length (writable_of buffers))) image image'
       → Does over m answered buffers image image' len any
@@ -239,21 +236,6 @@ module _ {I : Type 0} (disk : I → Disk) (moment : I → ℕ) (may_leave : I �
     len_is = d.len_is;
     any_is = d.any_is;
   }
-
-  -- one more chain is taken, answered and given back
-  pub over_more : (budget left left' : Budget) (start : Site Queue I) (m answered m' : Memory) (queue taken queue' : Queue) (image image' : I) (buffers : List Buffer) (entry : Entry) (len : ℕ) (any : Bool)
-      → IsInPiece queue_kind over budget left start (site_at m queue image) → ¬ IsSpent left
-      → left' ≡ less_chain left buffers
-      → queue_kind.offers m queue ≡ true → queue_kind.Offers m queue buffers entry → taken ≡ queue
-      → Does (block_device device) m answered buffers (extent_disk device.extent (disk image)) (extent_disk device.extent (disk image')) len any
-      → TouchesSectors moment may_leave left_since (sectors_of_chain device (readable_of m buffers) (length (writable_of buffers))) image image'
-      → m' ≡ queue_kind.used answered taken entry len any → queue' ≡ queue_kind.past taken entry
-      → IsInPiece queue_kind over budget left' start (site_at m' queue' image')
-  over_more budget left left' start m answered m' queue taken queue' image image' buffers entry len any h
-      some spends offers offered same does touches used past =
-      piece_goes_on queue_kind over budget left left' start m answered m' queue queue' image image' buffers entry len any
-      h some spends refl offers offered (does_over m answered buffers image image' len any does touches)
-      (used ∙ ap (λ k. queue_kind.used answered k entry len any) same) (past ∙ ap (λ k. queue_kind.past k entry) same)
 
   -- chains one after another touch the sectors of their requests
   pub chains_touch : (start at : Site Queue I) (chains : List (Served I))

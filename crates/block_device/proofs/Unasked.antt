@@ -27,7 +27,7 @@ use Rattle.mmio_window.specs.declared.stage.Stage.{Stage}
 use Rattle.mmio_window.specs.Pieces.{fault_at, opened_at}
 use Rattle.block_device.specs.declared.hosting.Asked.{Asked}
 use Rattle.block_device.specs.Extent.{extent_disk}
-use Rattle.block_device.specs.Serving.{site_of}
+use Rattle.block_device.specs.Hosting.{site_of}
 use Rattle.block_device.specs.Hosting.{AsksAt, FlightOutlasts, HonestHostServes, StopsAt, at_disk}
 
 module _ {Ring State : Type 0} (kind : Kind Ring) (device : Device State) where

@@ -17,6 +17,7 @@ use Rattle.sector_cache.specs.Disk.{Disk}
 use Rattle.mmio_window.specs.declared.queue.Queue.{Queue}
 use Rattle.mmio_window.specs.declared.queue.Token.{Token}
 use Rattle.mmio_window.specs.declared.stage.Stage.{Stage}
+use Rattle.mmio_window.specs.Leaving.{LeavesQueue}
 use Rattle.mmio_window.specs.Pieces.{ServesTo, fault_at, opened_at}
 use Rattle.mmio_window.specs.Ready.{KeepsQueues}
 use Rattle.mmio_window.specs.Window.{WindowState, queue_at, with_ring}
@@ -38,9 +39,12 @@ use Rattle.block_device.specs.Device.{block_device}
 use Rattle.block_device.specs.Extent.{extent_disk}
 use Rattle.block_device.specs.Operation.{operation_of, runs_for}
 use Rattle.block_device.specs.Progress.{IsDone}
-use Rattle.block_device.specs.Serving.{LeavesQueue, site_of}
 
--- where a service stands over this disk
+-- where a service stands: the guest's memory, the queue, and the device's sectors of this disk
+abbrev pub site_of : BlockDevice → Memory → Queue → Disk → Site Queue Disk
+site_of device m queue disk = record { memory = m; ring = queue; state = extent_disk device.extent disk }
+
+-- where it stands over a disk of its own
 abbrev pub at_disk : Memory → Queue → Disk → Site Queue Disk
 at_disk m queue disk = record { memory = m; ring = queue; state = disk }
 

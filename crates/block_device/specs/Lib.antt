@@ -8,6 +8,6 @@ pub mod Operation
 pub mod Outcome
 pub mod Progress
 pub mod Request
-pub mod Serving
+pub mod Keeping
 pub mod Touching
 pub mod Zeroes

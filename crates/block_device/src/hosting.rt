@@ -10,20 +10,17 @@ ghost use Rattle.mmio_window.specs.Queue.{IsTaken, LiesIn, made_as};
 ghost use Rattle.mmio_window.specs.Soundness.{IsSound};
 ghost use Rattle.mmio_window.specs.Window.{queue_at};
 ghost use Rattle.block_device.specs.Extent.{sector_len};
-ghost use Rattle.block_device.specs.Hosting.{CompletesIn, Halts, HostsTo, IfAsks, IsGivenBack, IsInFlight, LeavesAt, at_disk};
+ghost use Rattle.block_device.specs.Hosting.{CompletesIn, Halts, HostsTo, IfAsks, IsGivenBack, IsInFlight, LeavesAt, at_disk, site_of};
 ghost use Rattle.block_device.specs.Operation.{LiesInside};
-ghost use Rattle.block_device.specs.Serving.{site_of};
 
 use crate::answer::{Begun, finish};
 use crate::device::{BlockDevice, REQUESTQ};
 use crate::operation::{Operation, Verdict};
-use crate::queue::Left;
 use crate::request::Request;
-use crate::serve::show;
 use crate::transfer::Done;
 use chain::{Budget, Chain, Fault, Progress, Runs, Virtqueue};
 use guest_memory::GuestMemory;
-use mmio_window::{Queue, Stage, Token, Window};
+use mmio_window::{Left, Queue, Stage, Token, Window, show};
 use negotiation::{Features, Flags};
 use std::alloc::Allocator;
 

@@ -7,12 +7,12 @@
 #![tactic(auto)]
 
 mod answer;
+mod cached;
 mod device;
 mod extent;
 mod hosting;
 mod laws;
 mod operation;
-mod queue;
 mod request;
 mod serve;
 mod transfer;

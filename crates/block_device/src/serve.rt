@@ -1,21 +1,20 @@
 //! A service of the device's queue, whole or in pieces, and what its window shows of it.
 
 ghost use Rattle.std.specs.Prelude.{◌≡◌, ◌<◌, ◌↔◌, Option, IsTrue};
-ghost use Rattle.guest_memory.specs.Memory.{Memory, SameRange};
+ghost use Rattle.guest_memory.specs.Memory.{SameRange};
 ghost use Rattle.mmio_window.specs.Pieces.{ServesTo};
 ghost use Rattle.mmio_window.specs.Serving.{IsNotified};
 ghost use Rattle.mmio_window.specs.Soundness.{IsSound};
 ghost use Rattle.mmio_window.specs.Window.{queue_at};
 ghost use Rattle.block_device.specs.Device.{block_device, exact_device};
 ghost use Rattle.block_device.specs.Extent.{IsWithin, StaysInExtent, TouchesExtent, extent_disk};
-ghost use Rattle.block_device.specs.Serving.{progress_of, shown};
 ghost use Rattle.block_device.specs.Touching.{device_over};
 
+use crate::cached::Cached;
 use crate::device::{BlockDevice, REQUESTQ};
-use crate::queue::Left;
 use chain::{Budget, Chain, Progress};
 use guest_memory::GuestMemory;
-use mmio_window::{Stage, Window};
+use mmio_window::{Stage, Window, serve_queue, show};
 use sector_cache::{Image, SectorCache};
 use std::alloc::Allocator;
 
@@ -106,32 +105,16 @@ impl BlockDevice {
         let Some(queue) = window.queue(REQUESTQ) else {
             return NOTHING;
         };
-        let service = self.serve_queue(mem, queue, cache, stage, budget, room);
+        let mut device = Cached {
+            device: *self,
+            failed: false,
+        };
+        let Ok(left) = serve_queue(&mut device, cache, mem, queue, stage, budget, room) else {
+            unreachable!();
+        };
         Piece {
-            progress: show(window, service.left, room),
-            failed: service.failed,
+            progress: show(window, left, room),
+            failed: device.failed,
         }
     }
-}
-
-/// What the window shows of a queue that is left so: nothing of one that stands open; else a used buffer where the
-/// driver wants to be told of one, and after a fault that a reset is needed. Pauses and faults are counted in `room`.
-pub(crate) fn show(window: &mut Window, left: Left, room: &mut Chain) -> Progress
-    ensures progress { result ≡ progress_of left }
-    ensures after { window.new ≡ shown left window.old }
-    ensures room { room.new ≡ room.old }
-    ensures sound { (m : Memory) → IsSound m window.old → IsSound m window.new }
-{
-    let Left::Closed { fault, wanted } = left else {
-        room.count_pause();
-        return Progress::More;
-    };
-    if wanted {
-        window.used_interrupt();
-    }
-    if fault.is_some() {
-        window.needs_reset();
-        room.count_fault();
-    }
-    Progress::Done
 }

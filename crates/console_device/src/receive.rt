@@ -49,8 +49,4 @@ impl<A: Allocator> Device<Pending<A>> for Receive {
             wrote: count > 0,
         })
     }
-
-    ghost keeps_all = { λ here pending. tt };
-
-    ghost keeps_on = { λ here there last pending later after one other. tt };
 }

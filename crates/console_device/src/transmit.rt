@@ -53,10 +53,6 @@ impl<O: Outlet> Device<O> for Transmit {
         put_out(mem, chain, out)?;
         Ok(Used::UNWRITTEN)
     }
-
-    ghost keeps_all = { λ here out. tt };
-
-    ghost keeps_on = { λ here there last out later after one other. tt };
 }
 
 /// Puts out the readable bytes of a chain. Room for all of them is made before the first goes out.

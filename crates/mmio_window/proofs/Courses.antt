@@ -1,5 +1,5 @@
 -- A service in its course, of any device: the chains so far, and what stays along them.
-use Rattle.std.proofs.Common.{◌≡◌, ℕ, Bool, true, false, Option, Some, None, List, length, refl, ap, ◌∙◌}
+use Rattle.std.proofs.Common.{◌≡◌, ℕ, Bool, true, false, Some, None, List, refl, ap, ◌∙◌}
 use Rattle.std.specs.Prelude.{◌&&◌}
 use Rattle.guest_memory.specs.Memory.{Memory, SameRange}
 use Rattle.guest_memory.proofs.Ranges.{same_trans}
@@ -11,7 +11,6 @@ use Rattle.chain.specs.Buffers.{Good}
 use Rattle.chain.specs.Service.{Entry, Device, Does}
 use Rattle.chain.proofs.Budgets.{IsInPiece, piece_begins, piece_goes_on, piece_pauses, piece_runs_into, piece_runs_out}
 use Rattle.chain.proofs.Servicing.{both}
-use Rattle.mmio_window.specs.declared.service.Refused.{Refused}
 use Rattle.mmio_window.specs.declared.service.Stop.TheVariants.{Pause, End}
 use Rattle.mmio_window.specs.declared.queue.Queue.{Queue}
 use Rattle.mmio_window.specs.declared.queue.Token.{Token}

@@ -9,7 +9,7 @@ use Rattle.chain.specs.declared.budget.Progress.{Progress}
 use Rattle.chain.specs.declared.budget.Progress.TheVariants.{Done, More}
 use Rattle.chain.specs.Service.{Device, Ending, Faulted, Refused, Spent}
 use Rattle.negotiation.specs.Features.{with_feature_word}
-use Rattle.negotiation.specs.Negotiation.{NegotiationState, fresh, settable_of, with_features_written, with_status_written}
+use Rattle.negotiation.specs.Negotiation.{NegotiationState, fresh, with_status_written}
 use Rattle.negotiation.specs.Sets.{has}
 use Rattle.negotiation.specs.Status.{features_ok}
 use Rattle.mmio_window.specs.declared.device_kind.QueueIndex.{QueueIndex}

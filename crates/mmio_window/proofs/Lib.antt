@@ -10,5 +10,7 @@ pub mod PiecesExact
 pub mod Stages
 pub mod Courses
 pub mod Leaving
+pub mod Seeing
+pub mod Keeping
 pub mod Saving
 pub mod Devices

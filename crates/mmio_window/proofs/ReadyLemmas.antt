@@ -17,7 +17,7 @@ use Rattle.mmio_window.specs.declared.register.Register.TheVariants.{DriverFeatu
 use Rattle.mmio_window.specs.DeviceKind.{queue_of}
 use Rattle.mmio_window.specs.QueueRegisters.{queue_written, ring_of, set_up}
 use Rattle.mmio_window.specs.Reading.{configuration_offset}
-use Rattle.mmio_window.specs.Ready.{GenerationStays, KeepsQueues, ReadyQueueOutlasts, ReadyQueueStays, stops_queues}
+use Rattle.mmio_window.specs.Ready.{GenerationStays, ReadyQueueOutlasts, ReadyQueueStays, stops_queues}
 use Rattle.mmio_window.specs.Registers.{register_at}
 use Rattle.mmio_window.specs.Window.{WindowState, registers_in, reset, with_registers_in}
 use Rattle.mmio_window.specs.Writing.{register_written, written}

@@ -1,18 +1,13 @@
 -- What is restored is as it was saved, and sound.
-use Rattle.std.proofs.Common.{◌≡◌, ◌∙◌, ℕ, Bool, true, false, cond, Option, Some, None, refl, sym, ap, subst, arith}
-use Rattle.std.proofs.lemmas.Grind.{common_steps}
+use Rattle.std.proofs.Common.{◌≡◌, ◌∙◌, ℕ, Bool, true, false, cond, Option, Some, None, refl, sym, ap, subst}
 use Rattle.std.proofs.lemmas.Bool.{eqb-true}
-use Rattle.std.specs.Prelude.{◌&&◌, IfSome, not}
 use Rattle.std.specs.Option.{option_and_then, option_map}
-use Rattle.guest_memory.specs.Memory.{Memory, SameRange}
-use Rattle.negotiation.specs.Negotiation.{NegotiationState, is_acceptable, negotiated_of, standing}
+use Rattle.guest_memory.specs.Memory.{Memory}
+use Rattle.negotiation.specs.Negotiation.{NegotiationState, negotiated_of, standing}
 use Rattle.negotiation.specs.Sets.{has, Has}
 use Rattle.negotiation.specs.Status.{features_ok}
-use Rattle.split_ring.specs.Reached as split
 use Rattle.split_ring.specs.Ring.{SplitRingState}
-use Rattle.packed_ring.specs.Reached as packed
 use Rattle.packed_ring.specs.Ring.{PackedRingState}
-use Rattle.mmio_window.specs.declared.device_kind.DeviceKind.{DeviceKind}
 use Rattle.mmio_window.specs.declared.queue.Queue.{Queue}
 use Rattle.mmio_window.specs.declared.queue.Queue.TheVariants.{Split, Packed}
 use Rattle.mmio_window.specs.declared.queue_registers.QueueRegisters.{QueueRegisters}
@@ -21,8 +16,8 @@ use Rattle.mmio_window.specs.declared.saved.SavedQueue.{SavedQueue}
 use Rattle.mmio_window.specs.declared.saved.SavedWindow.{SavedWindow}
 use Rattle.mmio_window.specs.Queue.{made_as}
 use Rattle.mmio_window.specs.QueueRegisters.{ring_of}
-use Rattle.mmio_window.specs.Saved.{queue_at_reached, queue_restored, reached_of, registers_with, ring_reached, saved_queue, saved_window, served_to, window_restored, window_with}
-use Rattle.mmio_window.specs.Soundness.{HasItsRing, IsRingOf, IsSound}
+use Rattle.mmio_window.specs.Saved.{queue_at_reached, queue_restored, registers_with, ring_reached, saved_queue, saved_window, served_to, window_restored}
+use Rattle.mmio_window.specs.Soundness.{HasItsRing, IsRingOf}
 use Rattle.mmio_window.specs.Window.{WindowState}
 use Rattle.mmio_window.proofs.Rings.{LiesIn-same, is_made}
 

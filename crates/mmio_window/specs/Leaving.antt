@@ -1,6 +1,6 @@
 -- How a piece of a service leaves its queue, for any device: closed, open in a pause, or open at a chain that the device
 -- leaves on offer.
-use Rattle.std.specs.Prelude.{◌≡◌, Option, None, List}
+use Rattle.std.specs.Prelude.{◌≡◌, None, List, [], ◌∷◌}
 use Rattle.guest_memory.specs.Memory.{Memory}
 use Rattle.chain.specs.declared.budget.Budget.{Budget}
 use Rattle.chain.specs.declared.budget.Progress.{Progress}
@@ -60,3 +60,20 @@ shown (Closed fault wanted) w = after_service (ending_of fault) wanted w
 abbrev pub progress_of : Left → Progress
 progress_of Open = More
 progress_of (Closed fault wanted) = Done
+
+-- ---- what chains keep
+
+-- a device and its backend between two chains
+pub record Moment (D B : Type 0) : Type 0 where
+  pub device : D
+  pub backend : B
+
+-- Each of some chains, one after another, keeps this.
+abbrev pub KeepsAlong : {D B : Type 0} → (D → B → D → B → Type 0) → D → B → List (Moment D B) → D → B → Type 0
+KeepsAlong Keeps d b [] d' b' = (d' ≡ d) × (b' ≡ b)
+KeepsAlong Keeps d b (m ∷ later) d' b' = Keeps d b m.device m.backend × KeepsAlong Keeps m.device m.backend later d' b'
+
+-- the same of a piece, whose chains are as many as they are
+pub record IsKept {D B : Type 0} (Keeps : D → B → D → B → Type 0) (d : D) (b : B) (d' : D) (b' : B) : Type 0 where
+  pub moments : List (Moment D B)
+  pub along : KeepsAlong Keeps d b moments d' b'

@@ -51,7 +51,7 @@ pub trait Device<B> {
     // what must hold before a chain, and holds after it
     ghost IsReady: { Self → B → Type 0 };
 
-    // what each chain keeps beside that
+    // what one chain keeps
     ghost Keeps: { Self → B → Self → B → Type 0 };
 
     /// Whether it takes a chain.
@@ -76,9 +76,4 @@ pub trait Device<B> {
         ensures keeps { Keeps self.old backend.old self.new backend.new }
         ensures ready { IsReady self.new backend.new }
         ensures range { SameRange mem.old mem.new };
-
-    // No chain keeps all, and what two chains keep one after another both keep.
-    ghost keeps_all: { (s : Self) (b : B) → Keeps s b s b };
-
-    ghost keeps_on: { (s t u : Self) (a b c : B) → Keeps s a t b → Keeps t b u c → Keeps s a u c };
 }

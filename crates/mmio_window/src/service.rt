@@ -3,7 +3,7 @@
 
 ghost use Rattle.std.specs.Prelude.{◌≡◌, IfOk, IfErr};
 ghost use Rattle.guest_memory.specs.Memory.{Memory, SameRange};
-ghost use Rattle.mmio_window.specs.Leaving.{IsLeftAt, LeavesQueue, RefusesAt, Stops, progress_of, shown, site_at};
+ghost use Rattle.mmio_window.specs.Leaving.{IsKept, IsLeftAt, LeavesQueue, RefusesAt, Stops, progress_of, shown, site_at};
 ghost use Rattle.mmio_window.specs.Queue.{LiesIn, made_as};
 ghost use Rattle.mmio_window.specs.Soundness.{IsSound};
 
@@ -65,7 +65,7 @@ pub fn serve_queue<B, D: Device<B>, M: Allocator>(
         (D.Refuses (D.setup device.old backend.old)) stage budget (site_at mem.old queue.old (D.state device.old backend.old))
         (site_at mem.new queue.new (D.state device.new backend.new)) chain.new) }
     ensures setup { D.setup device.new backend.new ≡ D.setup device.old backend.old }
-    ensures keeps { D.Keeps device.old backend.old device.new backend.new }
+    ensures keeps { IsKept D.Keeps device.old backend.old device.new backend.new }
     ensures ready { D.IsReady device.new backend.new }
     ensures range { SameRange mem.old mem.new }
     ensures lies { LiesIn mem.new queue.new }
@@ -103,7 +103,7 @@ fn serve_chains<B, D: Device<B>, M: Allocator>(
         (D.Refuses (D.setup device.old backend.old)) budget (site_at mem.old queue.old (D.state device.old backend.old))
         (site_at mem.new queue.new (D.state device.new backend.new)) chain.new) }
     ensures setup { D.setup device.new backend.new ≡ D.setup device.old backend.old }
-    ensures keeps { D.Keeps device.old backend.old device.new backend.new }
+    ensures keeps { IsKept D.Keeps device.old backend.old device.new backend.new }
     ensures ready { D.IsReady device.new backend.new }
     ensures range { SameRange mem.old mem.new }
     ensures lies { LiesIn mem.new queue.new }

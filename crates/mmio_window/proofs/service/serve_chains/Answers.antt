@@ -2,6 +2,7 @@ use Rattle.std.proofs.Common.{refl, sym, ◌∙◌}
 use Rattle.chain.proofs.Budgets.{some_left}
 use Rattle.mmio_window.specs.Queue.{entry_of}
 use Rattle.mmio_window.proofs.Courses.{in_course_begins, in_course_goes_on, left_at, stops_by_fault, stops_paused, stops_spent, stops_unwanted}
+use Rattle.mmio_window.proofs.Keeping.{kept_more, kept_none}
 use Rattle.mmio_window.proofs.service.serve_chains.Goals as goal
 
 pub loop-left-init : goal.loop-left-init
@@ -9,7 +10,7 @@ loop-left-init g c = (
   in_course_begins (g.D.Device.device (g.D.Device.setup c.args.device.now c.args.backend.now)) c.args.budget c.args.mem.now c.args.queue.now
       (g.D.Device.state c.args.device.now c.args.backend.now) c.requires.queue,
   refl,
-  g.met.D.Device.keeps_all c.args.device.now c.args.backend.now,
+  kept_none g.D.Device.Keeps c.args.device.now c.args.backend.now,
   c.requires.ready,
 )
 
@@ -27,7 +28,7 @@ loop-left-preserved g c =
           (rw same at c.in-Ok.ensures.does) c.give.ensures.used c.give.ensures.past
           c.serve.ensures.range c.give.ensures.range c.give.ensures.lies c.give.ensures.made,
       c.serve.ensures.setup ∙ same,
-      g.met.D.Device.keeps_on c.args.device.now c.loop-left.device c.serve.new.self c.args.backend.now c.loop-left.backend c.serve.new.backend
+      kept_more g.D.Device.Keeps c.args.device.now c.loop-left.device c.serve.new.self c.args.backend.now c.loop-left.backend c.serve.new.backend
           c.loop-left.invariant.2 c.serve.ensures.keeps,
       c.serve.ensures.ready,
     )
@@ -74,3 +75,8 @@ returns-clause-stops g c =
     stops_unwanted (g.D.Device.device (g.D.Device.setup c.args.device.now c.args.backend.now)) c.args.budget c.loop-left.left c.args.mem.now c.loop-left.mem c.args.queue.now c.loop-left.queue
     (g.D.Device.state c.args.device.now c.args.backend.now) (g.D.Device.state c.loop-left.device c.loop-left.backend)
     c.loop-left.invariant.0 (rw (← same) (sym c.takes.ensures ∙ c.loop-left-test.false))
+
+pub returns-in-Err-serve-clause-keeps : goal.returns-in-Err-serve-clause-keeps
+returns-in-Err-serve-clause-keeps g c =
+    kept_more g.D.Device.Keeps c.args.device.now c.loop-left.device c.serve.new.self c.args.backend.now c.loop-left.backend c.serve.new.backend
+    c.loop-left.invariant.2 c.serve.ensures.keeps

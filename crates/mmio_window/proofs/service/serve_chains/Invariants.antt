@@ -1,4 +1,5 @@
 use Rattle.std.specs.Prelude.{◌≡◌}
+use Rattle.mmio_window.specs.Leaving.{IsKept}
 use Rattle.mmio_window.specs.Queue.{left_of}
 use Rattle.mmio_window.proofs.Courses.{IsInCourse}
 use Rattle.mmio_window.proofs.service.serve_chains.Given as goal
@@ -8,7 +9,7 @@ invariant-loop-left g l =
     IsInCourse (g.D.Device.device (g.D.Device.setup l.fn.device l.fn.backend)) l.fn.budget l.left l.fn.mem l.mem l.fn.queue l.queue
     (g.D.Device.state l.fn.device l.fn.backend) (g.D.Device.state l.device l.backend)
     × (g.D.Device.setup l.device l.backend ≡ g.D.Device.setup l.fn.device l.fn.backend)
-    × g.D.Device.Keeps l.fn.device l.fn.backend l.device l.backend × g.D.Device.IsReady l.device l.backend
+    × IsKept g.D.Device.Keeps l.fn.device l.fn.backend l.device l.backend × g.D.Device.IsReady l.device l.backend
 
 abbrev pub decreases-loop-left : goal.decreases-loop-left
 decreases-loop-left g l = left_of l.queue

@@ -1,5 +1,5 @@
-use Rattle.std.proofs.Common.{sym}
 use Rattle.chain.proofs.Budgets.{piece_closes}
+use Rattle.mmio_window.proofs.Keeping.{kept_none}
 use Rattle.mmio_window.proofs.Stages.{ends_at, faults_at}
 use Rattle.mmio_window.specs.Leaving.{site_at}
 use Rattle.mmio_window.specs.Queue.{queue_kind}
@@ -13,7 +13,7 @@ returns-in-Err-clause-leaves g c =
     c.in-Err.ensures.fault c.close.ensures.closed c.close.ensures.shut c.close.ensures.wants
 
 pub returns-in-Err-clause-keeps : goal.returns-in-Err-clause-keeps
-returns-in-Err-clause-keeps g c = g.met.D.Device.keeps_all c.args.device.now c.args.backend.now
+returns-in-Err-clause-keeps g c = kept_none g.D.Device.Keeps c.args.device.now c.args.backend.now
 
 pub returns-in-End-clause-leaves : goal.returns-in-End-clause-leaves
 returns-in-End-clause-leaves g c =

@@ -11,7 +11,7 @@ use Rattle.chain.specs.declared.budget.Progress.TheVariants.{More, Done}
 use Rattle.mmio_window.proofs.Soundness.{serving_keeps_sound}
 use Rattle.mmio_window.specs.Window.{queue_at}
 use Rattle.block_device.specs.Asking.{unasked_device}
-use Rattle.block_device.proofs.Pieces.{serves_to}
+use Rattle.mmio_window.proofs.Leaving.{serves_to}
 use Rattle.block_device.proofs.device.BlockDevice.host_piece.Goals as goal
 
 pub tell-operation-requires-clause-good : goal.tell-operation-requires-clause-good
@@ -57,7 +57,7 @@ returns-in-Asks-clause-sound g c =
 
 pub returns-in-More-clause-served : goal.returns-in-More-clause-served
 returns-in-More-clause-served g c disk =
-    serves_to (unasked_device c.args.self.now) c.args.stage c.args.budget (queue_at 0 c.args.window.now)
+    serves_to (unasked_device c.args.self.now) c.args.stage c.args.budget 0 (queue_at 0 c.args.window.now)
     c.in-Some.queue.now c.host_queue.new.queue c.in-Plain.left More
     c.args.mem.now c.host_queue.new.mem c.args.window.now c.show.new.window
     (extent_disk c.args.self.now.extent disk) (extent_disk c.args.self.now.extent disk)
@@ -71,7 +71,7 @@ returns-in-More-clause-sound g c =
 
 pub returns-in-Done-clause-served : goal.returns-in-Done-clause-served
 returns-in-Done-clause-served g c disk =
-    serves_to (unasked_device c.args.self.now) c.args.stage c.args.budget (queue_at 0 c.args.window.now)
+    serves_to (unasked_device c.args.self.now) c.args.stage c.args.budget 0 (queue_at 0 c.args.window.now)
     c.in-Some.queue.now c.host_queue.new.queue c.in-Plain.left Done
     c.args.mem.now c.host_queue.new.mem c.args.window.now c.show.new.window
     (extent_disk c.args.self.now.extent disk) (extent_disk c.args.self.now.extent disk)

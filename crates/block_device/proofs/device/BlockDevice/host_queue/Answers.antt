@@ -4,7 +4,7 @@ use Rattle.mmio_window.specs.Queue.{queue_kind}
 use Rattle.mmio_window.specs.Serving.{ending_of}
 use Rattle.block_device.specs.Asking.{unasked_device}
 use Rattle.block_device.specs.Extent.{extent_disk}
-use Rattle.block_device.specs.Serving.{site_of}
+use Rattle.block_device.specs.Hosting.{site_of}
 use Rattle.block_device.proofs.Unasked.{asks_at}
 use Rattle.block_device.proofs.device.BlockDevice.host_queue.Goals as goal
 

@@ -1,4 +1,4 @@
-use Rattle.std.proofs.Common.{◌≡◌, sym}
+use Rattle.std.proofs.Common.{sym}
 use Rattle.mmio_window.proofs.Saving.{HasItsRing-restored}
 use Rattle.mmio_window.proofs.window.Window.restored.Goals as goal
 

@@ -1,8 +1,6 @@
-use Rattle.std.proofs.Common.{◌≡◌, Some, arith}
+use Rattle.std.proofs.Common.{arith}
 use Rattle.std.proofs.lemmas.Grind.{common_steps}
-use Rattle.guest_memory.specs.Memory.{Memory}
 use Rattle.mmio_window.specs.contracts.window.Window.{the_view}
-use Rattle.mmio_window.specs.Saved.{saved_window}
 use Rattle.mmio_window.proofs.Saving.{window-back}
 use Rattle.mmio_window.proofs.window.Window.saved.Goals as goal
 
