@@ -44,7 +44,7 @@ returns-clause-takes g c tells below =
     let kept = outside_kept c.in-Some.slot.now.extent old.told new.told telling c.turn-turn.ensures.stays.image.outside.told in
     rw (← c.self.view_is, c.after.ensures.turn)
     (takes _ c.self.inside.slots.items old new c.args.slot c.in-Some.slot.now c.turn-turn.new.self c.turn-turn.result _ _ _ _
-    c.self.invariant.apart (there g c) c.turn-turn.ensures.stays.extent c.turn-turn.ensures.noted kept.outside (c.turn-turn.ensures.serves telling) c.after.ensures.words)
+    c.self.invariant.apart (there g c) c.turn-turn.ensures.stays.extent c.turn-turn.ensures.noted kept.outside (c.turn-turn.ensures.serves telling) c.after.ensures.shown)
 
 pub returns-clause-stays : goal.returns-clause-stays
 returns-clause-stays g c =
