@@ -4,7 +4,8 @@ use Rattle.std.proofs.lemmas.Option.{slice_get_read}
 use Rattle.board.specs.Image.{bytes_of, health_of}
 use Rattle.board.specs.World.{disturbed_of, extents_of}
 use Rattle.board.proofs.Access.{disturbed_kept, unmet_turn}
-use Rattle.board.proofs.Seats.{extents_of-set, others_kept, takes}
+use Rattle.board.proofs.Lists.{others_kept}
+use Rattle.board.proofs.Seats.{extents_of-set, takes}
 use Rattle.board.proofs.board.Board.begin_input.Goals as goal
 
 -- the slot of that number

@@ -7,8 +7,8 @@ use Rattle.board.specs.Image.{Tells}
 use Rattle.board.specs.Pausing.{MayLackMemoryIn}
 use Rattle.board.specs.World.{disturbed_of}
 use Rattle.board.proofs.Outside.{outside_kept}
-use Rattle.board.proofs.Seats.{extents_of-set, noted_none, noted_set, others_kept, set_same, slot_within, stays_in_extents, stays_same, takes}
-use Rattle.board.proofs.Alone.{get_set}
+use Rattle.board.proofs.Lists.{get_set, others_kept}
+use Rattle.board.proofs.Seats.{extents_of-set, noted_none, noted_set, set_same, slot_within, stays_in_extents, stays_same, takes}
 use Rattle.board.proofs.Touching.{touches_missing, touches_slot}
 use Rattle.board.proofs.board.Board.turn.Goals as goal
 
