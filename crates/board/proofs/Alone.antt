@@ -1,5 +1,5 @@
 -- Every guest whose own events met no refusal sees what it would see alone.
-use Rattle.std.proofs.Common.{◌≡◌, ◌≢◌, ◌⊎◌, inl, inr, ℕ, zero, suc, true, false, List, [], ◌∷◌, Option, Some, None, eqb, refl, sym, ◌∙◌, ap, subst, arith}
+use Rattle.std.proofs.Common.{◌≡◌, ◌≢◌, ◌⊎◌, inl, inr, ℕ, true, false, List, [], ◌∷◌, Option, Some, None, eqb, refl, sym, ◌∙◌, ap, subst, arith}
 use Rattle.std.specs.Prelude.{slice_set, MatchOption}
 use Rattle.std.specs.List.{slice_get}
 use Rattle.std.proofs.lemmas.Bool.Decides.{eqb_tells}
@@ -15,6 +15,7 @@ use Rattle.board.specs.Slot.{SlotState}
 use Rattle.board.specs.Task.{Task, Nothing, ServeBlock, ServeReceive, ServeTransmit, PutOut}
 use Rattle.board.specs.World.{World, IsCutShort, IsRefused, MayGive, SlotStep, MissingStep, Step}
 use Rattle.board.specs.Line.{Move, IsLine, IsUndisturbed, IsQuiet, RunsAlone, IsAlone, SeesTheSame, own_events, own_records, events_of, records_of}
+pub use Rattle.board.proofs.Lists.{get_set, get_set_other}
 use Rattle.board.proofs.OneRun.{OneRun, next_of, one_run}
 
 -- a task that was cut short shows it
@@ -41,19 +42,6 @@ refused_shows state (Complete verdict) old new outcome refused answered stood = 
 pub served : {A : Type 0} (state : SlotState) (what : EventKind A) (old new : Health) (outcome : Outcome A) → MayGive state what old new outcome → outcome.reply ≢ NoMemory → new.failures ≡ old.failures → Gives state what old new outcome
 served state what old new outcome (inl alike) answered stood = alike.alike
 served state what old new outcome (inr refused) answered stood = absurd (refused_shows state what old new outcome refused answered stood)
-
--- one element of a list is replaced: it is there, and the others are as they were
-pub get_set : {X : Type 0} (xs : List X) (h : ℕ) (old new : X) → slice_get xs h ≡ Some old → slice_get (slice_set xs h new) h ≡ Some new
-get_set [] h old new here = absurd (cc)
-get_set (x ∷ xs) zero old new here = refl
-get_set (x ∷ xs) (suc h) old new here = get_set xs h old new here
-
-pub get_set_other : {X : Type 0} (xs : List X) (h g : ℕ) (new : X) → h ≢ g → slice_get (slice_set xs h new) g ≡ slice_get xs g
-get_set_other [] h g new apart = refl
-get_set_other (x ∷ xs) zero zero new apart = absurd (apart refl)
-get_set_other (x ∷ xs) zero (suc g) new apart = refl
-get_set_other (x ∷ xs) (suc h) zero new apart = refl
-get_set_other (x ∷ xs) (suc h) (suc g) new apart = get_set_other xs h g new (λ same. apart (ap suc same))
 
 -- a step's record is of the event's slot
 recorded_slot_at : {A : Type 0} (old : World) (event : Event A) (written : Record A) (new : World) (o : Option SlotState) → MatchOption o (MissingStep old event.slot written new) (λ s. SlotStep old event.slot s event.what written new) → written.slot ≡ event.slot

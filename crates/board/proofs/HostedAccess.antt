@@ -19,7 +19,7 @@ use Rattle.board.specs.Slot.{BoardSlot}
 use Rattle.board.specs.Within.{TakesWithin}
 use Rattle.board.specs.World.{MayGive}
 use Rattle.board.proofs.Flights.{sound_beside}
-use Rattle.board.proofs.HostedSeats.{calls_missing, calls_there}
+use Rattle.board.proofs.HostedSeats.{calls_missing, calls_quietly, calls_there}
 use Rattle.board.proofs.Hosts.{beside_at}
 use Rattle.board.proofs.Waiting.{next_own}
 
@@ -149,8 +149,4 @@ unchanged slots h state new false here kept = set_same slots h state new here ke
 pub typed : (A : Type 0) (slots : List HostedState) (h : ℕ) (state new : HostedState) (bytes : List ℕ) (reply : Reply A) → slice_get slots h ≡ Some state
     → ((out : List ℕ) → TakesHosted state (Input bytes) new reply out out)
     → TakesQuietly {A = A} slots h (Input bytes) reply (slice_set slots h new)
-typed A slots h state new bytes reply here takes = record {
-  block = block_irq new.slot;
-  console = console_irq new.slot;
-  takes = λ limit waiting. calls_there slots h state (Input bytes) limit new reply waiting waiting here (takes waiting) (λ n is. tt);
-}
+typed A slots h state new bytes reply here takes = calls_quietly slots h state (Input bytes) new reply here takes (λ n out. tt)

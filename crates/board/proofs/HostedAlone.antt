@@ -5,7 +5,7 @@ use Rattle.std.specs.List.{slice_get}
 use Rattle.std.proofs.lemmas.Bool.Decides.{eqb_tells}
 use Rattle.board.specs.Hosting.{HostedState}
 use Rattle.board.specs.HostedLine.{Calls, CallsNone, CallsSlot, HostedMove, IsHostedLine, RunsHostedAlone}
-use Rattle.board.proofs.Alone.{get_set, get_set_other}
+use Rattle.board.proofs.Lists.{get_set, get_set_other}
 
 -- a call for another slot leaves this one as it is
 other_at : {A : Type 0} (g : ℕ) (old : List HostedState) (move : HostedMove A) (o : Option HostedState) → move.slot ≢ g

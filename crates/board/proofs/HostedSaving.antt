@@ -19,9 +19,9 @@ use Rattle.board.specs.Restoring.{hosted_restore_reply, refusal_of, restore_repl
 use Rattle.board.specs.Saved.{IsAs, IsCauseOf, IsLike, IsRestored}
 use Rattle.board.specs.Slot.{BoardSlot, SlotState}
 use Rattle.board.specs.World.{MayGive}
-use Rattle.board.proofs.Alone.{get_set}
+use Rattle.board.proofs.Lists.{get_set}
 use Rattle.board.proofs.Flights.{own_count}
-use Rattle.board.proofs.HostedSeats.{calls_missing, calls_there}
+use Rattle.board.proofs.HostedSeats.{calls_missing, calls_quietly}
 use Rattle.board.proofs.Hosts.{own_after}
 use Rattle.board.proofs.Restoring.{restore_given}
 
@@ -58,12 +58,8 @@ restored_takes slot new (Some flight) buffers runs bytes r told out rests is own
 pub restored_quietly : (A : Type 0) (slots : List HostedState) (h : ℕ) (state new : HostedState) (bytes : List ℕ) (reply : Reply A) → slice_get slots h ≡ Some state
     → ((out : List ℕ) → TakesHosted state (Restore bytes) new reply out out)
     → TakesQuietly {A = A} slots h (Restore bytes) reply (slice_set slots h new)
-restored_quietly A slots h state new bytes reply here takes = record {
-  block = block_irq new.slot;
-  console = console_irq new.slot;
-  takes = λ limit waiting.
-      calls_there slots h state (Restore bytes) limit new reply waiting waiting here (takes waiting) (λ n is. tt);
-}
+restored_quietly A slots h state new bytes reply here takes =
+    calls_quietly slots h state (Restore bytes) new reply here takes (λ n out. tt)
 
 pub restored_nowhere : (A : Type 0) (slots : List HostedState) (h : ℕ) (bytes : List ℕ) → length slots ≤ h → TakesQuietly {A = A} slots h (Restore bytes) BadSlot slots
 restored_nowhere A slots h bytes past = record {

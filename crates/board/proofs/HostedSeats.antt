@@ -8,10 +8,10 @@ use Rattle.board.specs.declared.event.EventKind.{EventKind}
 use Rattle.board.specs.declared.reply.Reply.{Reply}
 use Rattle.board.specs.declared.reply.Reply.TheVariants.{BadSlot}
 use Rattle.board.specs.Hosting.{HostedState, TakesHosted}
-use Rattle.board.specs.HostedLine.{CallsNone, CallsSlot, DecidesBy, HostedCall, TakesCall, Told}
+use Rattle.board.specs.HostedLine.{CallsNone, CallsSlot, DecidesBy, HostedCall, TakesCall, TakesQuietly, Told}
 use Rattle.board.specs.Machine.{block_irq, console_irq}
 use Rattle.board.specs.Within.{TakesWithin}
-use Rattle.board.proofs.Alone.{get_set_other}
+pub use Rattle.board.proofs.Lists.{others_kept as others_stay}
 
 decides : {A : Type 0} (limit : Option ℕ) (old : HostedState) (event : EventKind A) (new : HostedState) (reply : Reply A) (waiting output left : List ℕ) → left ≡ waiting ++ output
     → ((n : ℕ) → limit ≡ Some n → TakesWithin n old.slot event new.slot waiting left reply) → DecidesBy limit old event new waiting (waiting ++ output) reply
@@ -49,9 +49,17 @@ calls_missing {A} slots h event limit waiting none =
       appended = sym (append-nil waiting);
     }
 
--- every other slot is kept
-pub others_stay : (slots : List HostedState) (h : ℕ) (new : HostedState) (other : ℕ) → (other ≡ h → ⊥) → slice_get (slice_set slots h new) other ≡ slice_get slots other
-others_stay slots h new other differ = get_set_other slots h other new (λ same. differ (sym same))
+-- one that puts nothing out is taken the same, whatever waits
+pub calls_quietly : {A : Type 0} (slots : List HostedState) (h : ℕ) (state : HostedState) (event : EventKind A) (new : HostedState) (reply : Reply A) → slice_get slots h ≡ Some state
+    → ((out : List ℕ) → TakesHosted state event new reply out out)
+    → ((n : ℕ) (out : List ℕ) → TakesWithin n state.slot event new.slot out out reply)
+    → TakesQuietly slots h event reply (slice_set slots h new)
+calls_quietly slots h state event new reply here takes within = record {
+  block = block_irq new.slot;
+  console = console_irq new.slot;
+  takes = λ limit waiting.
+      calls_there slots h state event limit new reply waiting waiting here (takes waiting) (λ n is. within n waiting);
+}
 
 -- where a slice has no such item, its list has none
 pub none_there : {X : Type 0} (slots seen : List X) (i : ℕ) (found : Option (Bor X)) → slots ≡ seen → IsItemAt slots i found → IfNone found (slice_get seen i ≡ None)

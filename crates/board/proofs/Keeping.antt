@@ -46,7 +46,7 @@ use Rattle.board.specs.Outcome.{Outcome as Came, replies}
 use Rattle.board.specs.Slot.{SlotState, KeepsBesideDisk, KeepsBesideTransmit}
 use Rattle.board.specs.Task.{Nothing, PutOut, task_of, emergency_write, device_of}
 use Rattle.board.specs.World.{World, IsFailedService, IsRefusedTransmit, IsCutShort, IsRefused, MayGive, SlotStep, MissingStep, Step, KeepsBoard}
-use Rattle.board.proofs.Alone.{get_set}
+use Rattle.board.proofs.Lists.{get_set}
 
 -- ---- the memory keeps its range
 
@@ -299,13 +299,20 @@ slot_step : {A : Type 0} (old : World) (e : Event A) (written : Record A) (new :
 slot_step old e written new state here step =
     subst (λ (o : Option SlotState). MatchOption o (MissingStep old e.slot written new) (λ s. SlotStep old e.slot s e.what written new)) here step
 
-pub failed_event_keeps : {A : Type 0} (old new : World) (e : Event A) (written : Record A) (before after : SlotState) → Step old e written new → old.health.failures < new.health.failures → slice_get old.slots e.slot ≡ Some before → slice_get new.slots e.slot ≡ Some after → KeepsBesideDisk before after
-failed_event_keeps {A} old new e written before after step rose here there =
-    let taken : SlotStep old e.slot before e.what written new = slot_step old e written new before here step in
+-- leaves it as it is then
+left_as : {A : Type 0} (old new : World) (e : Event A) (written : Record A) (before after : SlotState)
+    → (taken : SlotStep old e.slot before e.what written new) → slice_get old.slots e.slot ≡ Some before → slice_get new.slots e.slot ≡ Some after
+    → taken.outcome.state ≡ after
+left_as old new e written before after taken here there =
     let came : slice_get new.slots e.slot ≡ Some taken.outcome.state =
     ap (λ (slots : List SlotState). slice_get slots e.slot) taken.slots ∙ get_set old.slots e.slot before taken.outcome.state here in
     let both : Some taken.outcome.state ≡ Some after = sym came ∙ there in
-    let same : taken.outcome.state ≡ after = cc both in
+    cc both
+
+pub failed_event_keeps : {A : Type 0} (old new : World) (e : Event A) (written : Record A) (before after : SlotState) → Step old e written new → old.health.failures < new.health.failures → slice_get old.slots e.slot ≡ Some before → slice_get new.slots e.slot ≡ Some after → KeepsBesideDisk before after
+failed_event_keeps {A} old new e written before after step rose here there =
+    let taken : SlotStep old e.slot before e.what written new = slot_step old e written new before here step in
+    let same = left_as old new e written before after taken here there in
     subst (λ (s : SlotState). KeepsBesideDisk before s) same (given_beside before e.what old.health new.health taken.outcome rose taken.given)
 
 -- each request counts one failure at most
@@ -458,9 +465,6 @@ pub lacking_event_keeps : {A : Type 0} (old new : World) (e : Event A) (written 
     → KeepsBesideTransmit before after × (new.health ≡ old.health)
 lacking_event_keeps {A} old new e written before after step lacks here there =
     let taken : SlotStep old e.slot before e.what written new = slot_step old e written new before here step in
-    let came : slice_get new.slots e.slot ≡ Some taken.outcome.state =
-    ap (λ (slots : List SlotState). slice_get slots e.slot) taken.slots ∙ get_set old.slots e.slot before taken.outcome.state here in
-    let both : Some taken.outcome.state ≡ Some after = sym came ∙ there in
-    let same : taken.outcome.state ≡ after = cc both in
+    let same = left_as old new e written before after taken here there in
     let kept = given_lacks before e.what old.health new.health taken.outcome (sym (ap (λ w. w.reply) taken.recorded) ∙ lacks) taken.given in
     (subst (λ (s : SlotState). KeepsBesideTransmit before s) same kept.slot, kept.image)

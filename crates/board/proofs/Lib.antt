@@ -4,6 +4,7 @@ pub mod Restoring
 pub mod OneRun
 pub mod Blocks
 pub mod Outside
+pub mod Lists
 pub mod Seats
 pub mod Alone
 pub mod Failures

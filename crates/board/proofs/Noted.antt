@@ -9,7 +9,7 @@ use Rattle.board.specs.declared.reply.Reply.TheVariants as reply
 use Rattle.board.specs.Slot.{SlotState}
 use Rattle.board.specs.World.{World, SlotStep, MissingStep, lacks_memory, met_refusal, noted}
 use Rattle.board.specs.Line.{Move, IsLine, IsUndisturbed, IsNoted}
-use Rattle.board.proofs.Alone.{get_set_other}
+use Rattle.board.proofs.Lists.{get_set_other}
 use Rattle.board.proofs.Failures.{given_failures}
 
 -- a reply that doesn't say so didn't want memory

@@ -1,5 +1,5 @@
 -- A restore as an event: it has one outcome, and a slot that takes up a snapshot gives it.
-use Rattle.std.proofs.Common.{◌≡◌, ◌∙◌, inl, inr, ℕ, List, Result, Ok, Err, refl, sym, ap, subst}
+use Rattle.std.proofs.Common.{◌≡◌, ◌∙◌, inl, inr, ℕ, List, [], Result, Ok, Err, refl, sym, ap, subst}
 use Rattle.std.specs.Prelude.{IfErr, IsOkAnd, OnErr, OnOk}
 use Rattle.sector_cache.specs.Sector.{extent_of}
 use Rattle.snapshot.specs.declared.fault.SnapshotFault.{SnapshotFault}
@@ -45,17 +45,7 @@ no_cause old bytes new BadConsole is cause = not_both old is.saved is.pending ne
 
 -- what a guest can see of a slot whose disk has these bytes
 abbrev state_in : List ℕ → BoardSlot → SlotState
-state_in extent slot = record {
-  memory = slot.memory;
-  extent = extent;
-  read_only = slot.read_only;
-  identity = slot.identity;
-  block = slot.block;
-  console = slot.console;
-  pending = slot.pending;
-  cols = slot.cols;
-  rows = slot.rows;
-}
+state_in extent slot = record (state_of [] slot) { extent = extent }
 
 state_once : (state : SlotState) (bytes : List ℕ) (one other : SlotState) → IsTakenUp state bytes one → IsTakenUp state bytes other → one ≡ other
 state_once state bytes one other a b =

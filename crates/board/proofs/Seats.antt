@@ -26,19 +26,12 @@ use Rattle.board.specs.Image.{Health, bytes_of, health_of}
 use Rattle.board.specs.Pausing.{ServesTurn, TakesTurn, met_in}
 use Rattle.board.specs.Slot.{SlotState, BoardSlot, StaysInSlot, interrupt_words, state_of}
 use Rattle.board.specs.World.{BoardState, World, SlotStep, MissingStep, StaysInExtents, Step, Serves, Handles, disturbed_of, extents_of, met_refusal, noted, seen}
+pub use Rattle.board.proofs.Lists.{others_kept}
 use Rattle.board.proofs.Outside.{outside_kept, outside_more, extent_apart}
 
 -- a slot that is put back as it was changes nothing
 pub set_same : (slots : List BoardSlot) (h : ℕ) (slot new : BoardSlot) → slice_get slots h ≡ Some slot → new ≡ slot → slice_set slots h new ≡ slots
 set_same slots h slot new here same = rw (same, ← get_or_from_slice_get slots h slot slot here) (set-get_or slots h slot)
-
--- a slot that is put in its place leaves every other
-pub others_kept : (slots : List BoardSlot) (h : ℕ) (new : BoardSlot) (other : ℕ) → other ≢ h → slice_get (slice_set slots h new) other ≡ slice_get slots other
-others_kept [] h new other differ = refl
-others_kept (s ∷ slots) zero new zero differ = absurd (differ refl)
-others_kept (s ∷ slots) zero new (suc other) differ = refl
-others_kept (s ∷ slots) (suc h) new zero differ = refl
-others_kept (s ∷ slots) (suc h) new (suc other) differ = others_kept slots h new other (λ same. differ (ap suc same))
 
 -- where a slot keeps its extent, all do
 pub extents_of-set : (slots : List BoardSlot) (h : ℕ) (slot new : BoardSlot) → slice_get slots h ≡ Some slot → new.extent ≡ slot.extent → extents_of (slice_set slots h new) ≡ extents_of slots

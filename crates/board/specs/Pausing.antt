@@ -87,6 +87,10 @@ IsPiece Transmit stage budget progress old before after new output = IsTransmitP
 abbrev pub HasLimit : Budget → Type 0
 HasLimit budget = (budget.chains ≢ None) ⊎ (budget.bytes ≢ None)
 
+-- only within a budget that has a limit is this turn a pause
+abbrev pub PausesByLimit : {A : Type 0} → Budget → Turn A → Type 0
+PausesByLimit budget turn = (next : Pause) → turn ≡ More next → HasLimit budget
+
 -- ---- its answer
 
 -- what an event is answered at the end of its service

@@ -15,6 +15,7 @@ ghost use Rattle.board.specs.Fault.{AreGoodHosted, RefusesHosted};
 ghost use Rattle.board.specs.Hosting.{hosted_opened, operation_in};
 ghost use Rattle.board.specs.HostedLine.{KeepsOtherGuests, TakesCall};
 ghost use Rattle.board.specs.Lent.{AreBytesOf, hosted_over, made_over};
+ghost use Rattle.board.specs.Slot.{AreInterruptWords};
 ghost use Rattle.std.specs.Vec.{vec_items};
 
 mod access;
@@ -103,8 +104,7 @@ impl<A: Allocator + Copy> HostedBoard<A> {
             result.block_irq result.console_irq (O.bytes out.old) (O.bytes out.new) self.new }
         ensures others { KeepsOtherGuests slot self.old self.new }
         ensures limit { O.limit out.new ≡ O.limit out.old }
-        ensures block_word { result.block_irq ≤ 3 }
-        ensures console_word { result.console_irq ≤ 3 }
+        ensures words { AreInterruptWords result.block_irq result.console_irq }
     {
         let Some(found) = self.slots.get_mut(slot as usize) else {
             return Handled::missing();
@@ -121,8 +121,7 @@ impl<A: Allocator> HostedBoard<A> {
             TakesCall self.old slot (EventKind.Complete verdict) limit result.reply
             result.block_irq result.console_irq waiting waiting self.new }
         ensures others { KeepsOtherGuests slot self.old self.new }
-        ensures block_word { result.block_irq ≤ 3 }
-        ensures console_word { result.console_irq ≤ 3 }
+        ensures words { AreInterruptWords result.block_irq result.console_irq }
     {
         let Some(found) = self.slots.get_mut(slot as usize) else {
             return Handled::missing();

@@ -12,8 +12,8 @@ ghost use Rattle.block_device.specs.Extent.{IsWithin, TouchesExtent};
 ghost use Rattle.board.specs.Image.{Tells, bytes_of, health_of};
 ghost use Rattle.board.specs.Lending.{LendsBytes};
 ghost use Rattle.board.specs.Lent.{AreBytesOf, made_over, opened_over};
-ghost use Rattle.board.specs.Pausing.{Begins, Does, HasLimit, MayLackMemoryIn, ServesTurn, lacks_memory_in, met_in};
-ghost use Rattle.board.specs.Slot.{IsUnnoted, StaysInSlot, interrupt_words, opened, state_of};
+ghost use Rattle.board.specs.Pausing.{Begins, Does, PausesByLimit, MayLackMemoryIn, ServesTurn, lacks_memory_in, met_in};
+ghost use Rattle.board.specs.Slot.{AreInterruptWords, IsUnnoted, StaysInSlot, interrupt_words, opened, state_of};
 ghost use Rattle.board.specs.World.{MayLackMemory};
 ghost use Rattle.board.specs.Within.{BeginsWithin, DoesWithin};
 ghost use Rattle.board.specs.declared.pause.Pause.{Pause};
@@ -152,7 +152,7 @@ impl<A: Allocator + Copy> Slot<A> {
         ensures touches { TouchesExtent I.moment I.may_leave I.left_since self.old.extent cache.old cache.new }
 
         // a slot that is there is never said to be missing, and what is refused changes nothing
-        ensures limited { (next : Pause) → result ≡ Turn.More next → HasLimit budget }
+        ensures limited { PausesByLimit budget result }
         ensures there { result ≢ Turn.Answered Reply.BadSlot }
         ensures bad_range { result ≡ Turn.Answered Reply.BadRange → self.new ≡ self.old }
         ensures bad_range_image { result ≡ Turn.Answered Reply.BadRange → cache.new ≡ cache.old }
@@ -208,7 +208,7 @@ impl<A: Allocator + Copy> Slot<A> {
         ensures limit { O.limit out.new ≡ O.limit out.old }
         ensures unnoted { IsUnnoted self.old self.new (I.disk cache.old) (I.disk cache.new) result.failed }
         ensures touches { TouchesExtent I.moment I.may_leave I.left_since self.old.extent cache.old cache.new }
-        ensures limited { (next : Pause) → result.turn ≡ Turn.More next → HasLimit budget }
+        ensures limited { PausesByLimit budget result.turn }
         ensures there { result.turn ≢ Turn.Answered Reply.BadSlot }
         ensures bad_range { result.turn ≡ Turn.Answered Reply.BadRange → self.new ≡ self.old }
         ensures bad_range_image { result.turn ≡ Turn.Answered Reply.BadRange → cache.new ≡ cache.old }
@@ -287,8 +287,7 @@ impl<A: Allocator> Slot<A> {
     /// InterruptStatus of the block window and of the console window.
     pub(crate) fn interrupts(&self) -> (u8, u8)
         ensures value { result ≡ interrupt_words self.now }
-        ensures block_word { result.0 ≤ 3 }
-        ensures console_word { result.1 ≤ 3 }
+        ensures words { AreInterruptWords result.0 result.1 }
     {
         (self.block.interrupts(), self.console.interrupts())
     }

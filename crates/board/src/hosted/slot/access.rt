@@ -1,6 +1,6 @@
 //! What an embedder reaches of a slot between its events.
 
-ghost use Rattle.std.specs.Prelude.{◌≡◌, ◌≤◌, ℕ, List, length};
+ghost use Rattle.std.specs.Prelude.{◌≡◌, ℕ, List, length};
 ghost use Rattle.std.specs.Bool.{OnTrue, OnFalse};
 ghost use Rattle.std.specs.Borrow.{sem, u8, Array, Lends};
 ghost use Rattle.guest_memory.specs.Memory.{Inside, IsRest, is_inside, put};
@@ -9,6 +9,7 @@ ghost use Rattle.board.specs.declared.reply.Reply.{Reply};
 ghost use Rattle.board.specs.Hosting.{TakesHosted, device_at, hosted_slot};
 ghost use Rattle.board.specs.HostedLine.{with_bytes, with_memory};
 ghost use Rattle.board.specs.Machine.{block_irq, console_irq};
+ghost use Rattle.board.specs.Slot.{AreInterruptWords};
 ghost use Rattle.board.specs.Task.{device_of};
 ghost use Rattle.board.specs.contracts.hosted.slot.HostedSlot.{the_row};
 
@@ -26,8 +27,7 @@ impl<A: Allocator> HostedSlot<A> {
         ensures reply { result.reply ≡ reply }
         ensures block { result.block_irq ≡ block_irq self.now.slot }
         ensures console { result.console_irq ≡ console_irq self.now.slot }
-        ensures block_word { result.block_irq ≤ 3 }
-        ensures console_word { result.console_irq ≤ 3 }
+        ensures words { AreInterruptWords result.block_irq result.console_irq }
     {
         let (block_irq, console_irq) = self.interrupts();
         Handled {

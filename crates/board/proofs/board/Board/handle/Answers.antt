@@ -23,13 +23,10 @@ returns-clause-handles g c tells = either (cases_lt c.args.slot (length c.args.s
     either (inr past) =
         let kept = c.turn-turn.ensures.missing past in
         let bad : c.in-Answered.reply ≡ BadSlot = cc (c.in-Answered.is, c.turn-turn.ensures.bad_slot.1 past) in
-        rw (kept.0, kept.1, kept.2, kept.3, bad)
+        rw (kept.same, kept.silent, kept.block, kept.console, bad)
         (handles_missing c.args.self.now.slots (g.I.Image.disk c.args.self.now.image) (record { slot = c.args.slot; what = c.args.what.now }) (g.O.Outlet.bytes c.args.out.now)
         (slice_get_past c.args.self.now.slots c.args.slot past))
 
 pub returns-clause-within : goal.returns-clause-within
 returns-clause-within g c limit limited found after here now =
     ended_within limit c.args.what.now _ _ _ _ _ c.in-Answered.reply (rw c.in-Answered.is at (c.turn-turn.ensures.within limit limited found after here now))
-
-pub returns-clause-missing : goal.returns-clause-missing
-returns-clause-missing g c past = let kept = c.turn-turn.ensures.missing past in (kept.1, kept.2, kept.3)

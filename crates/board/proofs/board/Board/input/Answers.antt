@@ -8,7 +8,8 @@ use Rattle.board.specs.Slot.{state_of}
 use Rattle.board.proofs.Whole.{whole}
 use Rattle.board.specs.World.{disturbed_of, extents_of}
 use Rattle.board.proofs.Access.{disturbed_kept, quiet_answers}
-use Rattle.board.proofs.Seats.{extents_of-set, others_kept}
+use Rattle.board.proofs.Lists.{others_kept}
+use Rattle.board.proofs.Seats.{extents_of-set}
 use Rattle.board.proofs.board.Board.input.Goals as goal
 
 pub invariant_of-self-2 : goal.invariant_of-self-2

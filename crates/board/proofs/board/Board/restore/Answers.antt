@@ -4,7 +4,8 @@ use Rattle.std.proofs.lemmas.Option.{slice_get_read}
 use Rattle.board.specs.Image.{Tells}
 use Rattle.board.specs.World.{disturbed_of, extents_of}
 use Rattle.board.proofs.Access.{disturbed_kept, restore_answers}
-use Rattle.board.proofs.Seats.{extents_of-set, others_kept}
+use Rattle.board.proofs.Lists.{others_kept}
+use Rattle.board.proofs.Seats.{extents_of-set}
 use Rattle.board.proofs.board.Board.restore.Goals as goal
 
 -- the slot of that number

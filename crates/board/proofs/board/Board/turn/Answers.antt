@@ -7,8 +7,8 @@ use Rattle.board.specs.Image.{Tells}
 use Rattle.board.specs.Pausing.{MayLackMemoryIn}
 use Rattle.board.specs.World.{disturbed_of}
 use Rattle.board.proofs.Outside.{outside_kept}
-use Rattle.board.proofs.Seats.{extents_of-set, noted_none, noted_set, others_kept, set_same, slot_within, stays_in_extents, stays_same, takes}
-use Rattle.board.proofs.Alone.{get_set}
+use Rattle.board.proofs.Lists.{get_set, others_kept}
+use Rattle.board.proofs.Seats.{extents_of-set, noted_none, noted_set, set_same, slot_within, stays_in_extents, stays_same, takes}
 use Rattle.board.proofs.Touching.{touches_missing, touches_slot}
 use Rattle.board.proofs.board.Board.turn.Goals as goal
 
@@ -44,7 +44,7 @@ returns-clause-takes g c tells below =
     let kept = outside_kept c.in-Some.slot.now.extent old.told new.told telling c.turn-turn.ensures.stays.image.outside.told in
     rw (← c.self.view_is, c.after.ensures.turn)
     (takes _ c.self.inside.slots.items old new c.args.slot c.in-Some.slot.now c.turn-turn.new.self c.turn-turn.result _ _ _ _
-    c.self.invariant.apart (there g c) c.turn-turn.ensures.stays.extent c.turn-turn.ensures.noted kept.outside (c.turn-turn.ensures.serves telling) c.after.ensures.words)
+    c.self.invariant.apart (there g c) c.turn-turn.ensures.stays.extent c.turn-turn.ensures.noted kept.outside (c.turn-turn.ensures.serves telling) c.after.ensures.shown)
 
 pub returns-clause-stays : goal.returns-clause-stays
 returns-clause-stays g c =

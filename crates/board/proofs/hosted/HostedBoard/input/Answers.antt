@@ -3,7 +3,7 @@ use Rattle.std.specs.List.{slice_get}
 use Rattle.std.proofs.lemmas.Option.{slice_get_read}
 use Rattle.board.specs.declared.reply.Reply.TheVariants.{Took}
 use Rattle.board.proofs.HostedAccess.{typed}
-use Rattle.board.proofs.HostedSeats.{others_stay}
+use Rattle.board.proofs.Lists.{others_kept}
 use Rattle.board.proofs.hosted.HostedBoard.input.Goals as goal
 
 -- the slot of that number
@@ -17,4 +17,4 @@ returns-clause-takes g c =
 
 pub returns-clause-others : goal.returns-clause-others
 returns-clause-others g c other differ =
-    others_stay c.self.inside.slots.items c.args.slot c.input.new.self other differ ∙ ap (λ slots. slice_get slots other) c.self.view_is
+    others_kept c.self.inside.slots.items c.args.slot c.input.new.self other differ ∙ ap (λ slots. slice_get slots other) c.self.view_is

@@ -3,7 +3,7 @@ use Rattle.std.specs.List.{slice_get}
 use Rattle.std.proofs.lemmas.Option.{slice_get_past, slice_get_read}
 use Rattle.board.specs.Restoring.{hosted_restore_reply}
 use Rattle.board.proofs.HostedSaving.{restored_nowhere, restored_quietly, taken_there}
-use Rattle.board.proofs.HostedSeats.{others_stay}
+use Rattle.board.proofs.Lists.{others_kept}
 use Rattle.board.proofs.hosted.HostedBoard.restore.Goals as goal
 
 pub returns-in_default-clause-takes : goal.returns-in_default-clause-takes
@@ -44,4 +44,4 @@ returns-clause-taken g c saved old new is here then like rests =
 
 pub returns-clause-others : goal.returns-clause-others
 returns-clause-others g c other differ =
-    others_stay c.self.inside.slots.items c.args.slot c.restore.new.self other differ ∙ ap (λ slots. slice_get slots other) c.self.view_is
+    others_kept c.self.inside.slots.items c.args.slot c.restore.new.self other differ ∙ ap (λ slots. slice_get slots other) c.self.view_is

@@ -1,7 +1,8 @@
 use Rattle.std.proofs.Common.{◌≡◌, ◌≤◌, Some, length, refl, ◌∙◌, ap, arith}
 use Rattle.std.specs.List.{slice_get}
 use Rattle.std.proofs.lemmas.Option.{slice_get_past, slice_get_read}
-use Rattle.board.proofs.HostedSeats.{calls_missing, calls_there, others_stay}
+use Rattle.board.proofs.HostedSeats.{calls_missing, calls_there}
+use Rattle.board.proofs.Lists.{others_kept}
 use Rattle.board.proofs.hosted.HostedBoard.step.Goals as goal
 
 pub returns-in_default-clause-takes : goal.returns-in_default-clause-takes
@@ -21,4 +22,4 @@ returns-clause-takes g c =
 
 pub returns-clause-others : goal.returns-clause-others
 returns-clause-others g c other differ =
-    others_stay c.self.inside.slots.items c.args.slot c.step-reply.new.self other differ ∙ ap (λ slots. slice_get slots other) c.self.view_is
+    others_kept c.self.inside.slots.items c.args.slot c.step-reply.new.self other differ ∙ ap (λ slots. slice_get slots other) c.self.view_is

@@ -3,7 +3,7 @@ use Rattle.std.specs.List.{slice_get}
 use Rattle.std.proofs.lemmas.Option.{slice_get_past, slice_get_read}
 use Rattle.guest_memory.proofs.Ranges.{is_inside-tells}
 use Rattle.board.proofs.HostedAccess.{bytes_stand, not_written, unchanged, was_written}
-use Rattle.board.proofs.HostedSeats.{others_stay}
+use Rattle.board.proofs.Lists.{others_kept}
 use Rattle.board.proofs.hosted.HostedBoard.write_memory.Goals as goal
 
 pub returns-in_default-clause-takes : goal.returns-in_default-clause-takes
@@ -41,4 +41,4 @@ returns-clause-kept g c =
 
 pub returns-clause-others : goal.returns-clause-others
 returns-clause-others g c other differ =
-    others_stay c.self.inside.slots.items c.args.slot c.put_bytes.new.self other differ ∙ ap (λ slots. slice_get slots other) c.self.view_is
+    others_kept c.self.inside.slots.items c.args.slot c.put_bytes.new.self other differ ∙ ap (λ slots. slice_get slots other) c.self.view_is
