@@ -4,8 +4,7 @@ use Rattle.std.specs.Prelude.{◌↔◌, Ok, Err, MatchOption, IfSome, IsOk, IsS
 use Rattle.std.specs.Bool.{OnTrue, OnFalse}
 use Rattle.std.specs.List.{slice_get}
 use Rattle.std.specs.Option.{option_map}
-use Rattle.std.proofs.lemmas.List.{set-get_or}
-use Rattle.std.proofs.lemmas.Option.{get_or_from_slice_get, slice_get-map}
+use Rattle.std.proofs.lemmas.Option.{slice_get-map}
 use Rattle.guest_memory.specs.Memory.{Inside, is_inside, put}
 use Rattle.guest_memory.proofs.Ranges.{is_inside-tells}
 use Rattle.chain.specs.declared.budget.Budget.{Budget}
@@ -29,11 +28,8 @@ use Rattle.board.proofs.Seats.{extents_of-set, noted_none, others_kept}
 use Rattle.session.specs.declared.response.Response.TheVariants.{Answered}
 use Rattle.session.specs.Pacing.{Handle, PacedState, Responds, paced_world}
 use Rattle.session.specs.Restoring.{restore_response, told_of}
+use Rattle.session.proofs.Places.{not_true, stays}
 use Rattle.session.proofs.Turns.{begun}
-
--- what stands in a place stays where it is put there again
-pub stays : {X : Type 0} (xs : List X) (h : ℕ) (x : X) → slice_get xs h ≡ Some x → slice_set xs h x ≡ xs
-stays xs h x here = rw (← get_or_from_slice_get xs h x x here) (set-get_or xs h x)
 
 found_at : (slots : List BoardSlot) (h : ℕ) → h < length slots → (found : BoardSlot) × (slice_get slots h ≡ Some found)
 found_at [] h fits = absurd (omega (arith, fits))
@@ -89,10 +85,6 @@ refused_turn A old h addr bytes budget state here outside = record {
   };
   appended = refl;
 }
-
-not_true : (b : Bool) → (b ≡ true → ⊥) → b ≡ false
-not_true true never = absurd (never refl)
-not_true false never = refl
 
 module _ (A : Type 0) {I : Type 0} (disk : I → Disk) (old : PacedState I) (board : BoardState I) (h addr : ℕ) (bytes : List ℕ) where
   -- the event of the write

@@ -6,7 +6,7 @@ use Rattle.std.proofs.lemmas.Bool.Decides.{nat_tests}
 use Rattle.std.proofs.lemmas.List.{take_min, drop_min}
 use Rattle.session.specs.Course.{IsTaken}
 use Rattle.session.specs.Session.{KeepsOtherOutputs, SessionState, Waiting, none_waiting, output_of}
-use Rattle.session.proofs.Steps.{limits_set, others_output, set_there}
+use Rattle.session.proofs.Waiting.{limits_set, others_output, set_there}
 
 pub output_kept : (g slot : ℕ) (old new : SessionState) → KeepsOtherOutputs slot old.outputs new.outputs → (slot == g) ≡ false → output_of g new ≡ output_of g old
 output_kept g slot old new kept test =

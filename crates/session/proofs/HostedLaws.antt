@@ -22,7 +22,7 @@ use Rattle.board.proofs.Waiting.{busy_stays, idle_stays, outlasts, untied}
 use Rattle.session.specs.Hosted.{HostedSessionState, IsHostedCall, IsKept, flight_at, with_hosted_bytes}
 use Rattle.session.specs.Session.{Waiting, none_waiting, waiting_at}
 use Rattle.session.proofs.HostedSteps.{quiet}
-use Rattle.session.proofs.Steps.{rebuilt}
+use Rattle.session.proofs.Waiting.{rebuilt}
 
 -- what a call for a slot that is there comes to
 pub record Came {A : Type 0} (h : ℕ) (state : HostedState) (event : EventKind A) (reply : Reply A) (old new : HostedSessionState) : Type 0 where

@@ -22,7 +22,8 @@ use Rattle.session.specs.Answering.{Suits}
 use Rattle.session.specs.Hosted.{HostedSessionState, IsHostedCall}
 use Rattle.session.specs.HostedAnswering.{SuitsCompletion, SuitsHosted, hosted_typed}
 use Rattle.session.specs.Session.{Waiting, none_waiting, waiting_at}
-use Rattle.session.proofs.Steps.{given_suits, limits_set, others_output, set_there}
+use Rattle.session.proofs.Suiting.{given_suits}
+use Rattle.session.proofs.Waiting.{limits_set, others_output, set_there}
 
 -- what is answered of bytes that were typed, and so many taken
 abbrev pub typed_or : Option ℕ → Result ℕ Refusal

@@ -20,7 +20,8 @@ use Rattle.session.specs.declared.response.Response.TheVariants.{Answered}
 use Rattle.session.specs.Pacing.{Handle}
 use Rattle.session.specs.Pausing.{IsCall}
 use Rattle.session.specs.Session.{IsStep, SessionState, disk_of, with_memory, with_slot_bytes}
-use Rattle.session.proofs.Steps.{idle_step_call, was_written}
+use Rattle.session.proofs.Calls.{idle_step_call}
+use Rattle.session.proofs.Ranges.{was_written}
 
 -- nothing is noted of it
 unmet : (A : Type 0) (noted : Bool) (failures : ℕ) → noted ≡ (noted || met_refusal {A = A} Done failures failures)

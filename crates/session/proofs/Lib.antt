@@ -3,7 +3,14 @@ pub mod PacedAlone
 pub mod Turns
 pub mod Access
 pub mod Noted
+pub mod Places
+pub mod Suiting
+pub mod Waiting
+pub mod Unchanged
 pub mod Steps
+pub mod Ranges
+pub mod Calls
+pub mod Quiet
 pub mod Restoring
 pub mod Courses
 pub mod PacedCourses

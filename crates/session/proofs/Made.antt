@@ -14,7 +14,7 @@ use Rattle.board.specs.Pausing.{HasLimit}
 use Rattle.board.specs.Slot.{SlotState, opened, state_of}
 use Rattle.session.specs.declared.guest.GuestSpec.{GuestSpec}
 use Rattle.session.specs.Alone.{SeeAlike, at_front, new_session_alone, own_askings, part_of_image}
-use Rattle.session.specs.Course.{Deed, IsCourse, NeverPauses}
+use Rattle.session.specs.Course.{SessionStep, IsCourse, NeverPauses}
 use Rattle.session.specs.Refusing.{AreOutlets}
 use Rattle.session.specs.Session.{SessionState, Waiting, none_waiting, new_session, slots_of, world_of}
 use Rattle.session.proofs.Alone.{see_alike}
@@ -48,22 +48,22 @@ idle_in n g few =
     found.1 ∙ ap (λ (p : Option Pause). Some p) (sym (get_or_from_slice_get paused g found.0 None found.1) ∙ get_or-replicate n g None None few)
 
 -- so it sees what it would see alone
-pub made_alone : {A : Type 0} (g : ℕ) (guests : List GuestSpec) (guest : GuestSpec) (image : List ℕ) (budget budget' : Budget) (deeds more : List (Deed A)) (new last : SessionState) → slice_get guests g ≡ Some guest →
-    IsCourse (new_session guests image budget) deeds new → IsCourse (new_session_alone guest image budget') more last → NeverPauses g deeds → NeverPauses 0 more → own_askings 0 more ≡ own_askings g deeds → SeeAlike g deeds new 0 more last
-made_alone g guests guest image budget budget' deeds more new last here x y never never' askings =
+pub made_alone : {A : Type 0} (g : ℕ) (guests : List GuestSpec) (guest : GuestSpec) (image : List ℕ) (budget budget' : Budget) (steps more : List (SessionStep A)) (new last : SessionState) → slice_get guests g ≡ Some guest →
+    IsCourse (new_session guests image budget) steps new → IsCourse (new_session_alone guest image budget') more last → NeverPauses g steps → NeverPauses 0 more → own_askings 0 more ≡ own_askings g steps → SeeAlike g steps new 0 more last
+made_alone g guests guest image budget budget' steps more new last here x y never never' askings =
     let waits = waits_at guests g guest here in
-    see_alike g 0 (new_session guests image budget) new (new_session_alone guest image budget') last deeds more (state_of image (opened guest.slot)) x y never never'
+    see_alike g 0 (new_session guests image budget) new (new_session_alone guest image budget') last steps more (state_of image (opened guest.slot)) x y never never'
     (idle_in (length guests) g (slice_get_within guests g guest here)) (idle_in 1 0 (omega arith))
     (there_in guests g guest image budget here) (ap (λ (s : SlotState). Some s) (same_state guest image))
     (sym (ap (λ (o : Option Waiting). (unwrap_or o (none_waiting 0)).bytes) waits))
     (sym (ap (λ (o : Option Waiting). (unwrap_or o (none_waiting 0)).limit) waits)) askings
 
 -- and without a budget none of its services pauses
-pub made_alone_unlimited : {A : Type 0} (g : ℕ) (guests : List GuestSpec) (guest : GuestSpec) (image : List ℕ) (budget budget' : Budget) (deeds more : List (Deed A)) (new last : SessionState) → slice_get guests g ≡ Some guest →
-    IsCourse (new_session guests image budget) deeds new → IsCourse (new_session_alone guest image budget') more last → (HasLimit budget → ⊥) → (HasLimit budget' → ⊥) → own_askings 0 more ≡ own_askings g deeds → SeeAlike g deeds new 0 more last
-made_alone_unlimited g guests guest image budget budget' deeds more new last here x y unlimited unlimited' askings =
-    made_alone g guests guest image budget budget' deeds more new last here x y
-    (never_pauses g (new_session guests image budget) new deeds x unlimited (idle_in (length guests) g (slice_get_within guests g guest here)))
+pub made_alone_unlimited : {A : Type 0} (g : ℕ) (guests : List GuestSpec) (guest : GuestSpec) (image : List ℕ) (budget budget' : Budget) (steps more : List (SessionStep A)) (new last : SessionState) → slice_get guests g ≡ Some guest →
+    IsCourse (new_session guests image budget) steps new → IsCourse (new_session_alone guest image budget') more last → (HasLimit budget → ⊥) → (HasLimit budget' → ⊥) → own_askings 0 more ≡ own_askings g steps → SeeAlike g steps new 0 more last
+made_alone_unlimited g guests guest image budget budget' steps more new last here x y unlimited unlimited' askings =
+    made_alone g guests guest image budget budget' steps more new last here x y
+    (never_pauses g (new_session guests image budget) new steps x unlimited (idle_in (length guests) g (slice_get_within guests g guest here)))
     (never_pauses 0 (new_session_alone guest image budget') last more y unlimited' (idle_in 1 0 (omega arith))) askings
 
 -- ---- and there is such a session

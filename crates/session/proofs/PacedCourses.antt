@@ -20,7 +20,7 @@ use Rattle.session.specs.Pacing.{Call, Handle, GoOn, Move, PacedWorld, slot_in}
 use Rattle.session.specs.Pacing as pacing
 use Rattle.board.proofs.Alone.{get_set}
 use Rattle.session.proofs.PacedAlone.{alone, others_at}
-use Rattle.session.specs.Course.{Deed, Called, Took, HadRoom, IsCalled, IsCourse, IsTaken, NeverPauses, RunsAlone, ended_by, events_begun, output_taken, paced_world_of, put_out, replies_ended}
+use Rattle.session.specs.Course.{SessionStep, Called, Took, HadRoom, IsCalled, IsCourse, IsTaken, NeverPauses, RunsAlone, ended_by, events_begun, output_taken, paced_world_of, put_out, replies_ended}
 use Rattle.session.specs.Pausing.{ComesTo, IsCall, IsTurn}
 use Rattle.session.specs.Session.{KeepsOtherOutputs, SessionState, limit_of, output_of, world_of}
 use Rattle.session.proofs.Courses.{output_kept, same_slot, taken_first, taken_output}
@@ -89,40 +89,40 @@ move_of old call response after h =
     let s = step_of old call response after h in
     record { call = call; response = response; output = s.output; block_irq = s.block; console_irq = s.console; after = paced_world_of after }
 
-abbrev moves_of : {A : Type 0} (old : SessionState) (deeds : List (Deed A)) (new : SessionState) → IsCourse old deeds new → List (Move A)
+abbrev moves_of : {A : Type 0} (old : SessionState) (steps : List (SessionStep A)) (new : SessionState) → IsCourse old steps new → List (Move A)
 moves_of old [] new course = []
-moves_of old (Called call response after ∷ deeds) new course = move_of old call response after (by_pause old call response after course.0) ∷ moves_of after deeds new course.1
-moves_of old (Took slot room bytes after ∷ deeds) new course = moves_of after deeds new course.1
+moves_of old (Called call response after ∷ steps) new course = move_of old call response after (by_pause old call response after course.0) ∷ moves_of after steps new course.1
+moves_of old (Took slot room bytes after ∷ steps) new course = moves_of after steps new course.1
 
 -- nothing of what can be seen is other once output was taken
 taken_world : (old after : SessionState) (slot room : ℕ) (bytes : List ℕ) → IsTaken old slot room bytes after → paced_world_of after ≡ paced_world_of old
 taken_world old after slot room bytes h = rw (h.world, h.paused) refl
 
-line_of : {A : Type 0} (budget : Budget) (old : SessionState) (deeds : List (Deed A)) (new : SessionState) (course : IsCourse old deeds new) → old.budget ≡ budget
-    → IsLine budget (paced_world_of old) (moves_of old deeds new course) (paced_world_of new)
+line_of : {A : Type 0} (budget : Budget) (old : SessionState) (steps : List (SessionStep A)) (new : SessionState) (course : IsCourse old steps new) → old.budget ≡ budget
+    → IsLine budget (paced_world_of old) (moves_of old steps new course) (paced_world_of new)
 line_of budget old [] new course is = ap paced_world_of course
-line_of {A} budget old (Called call response after ∷ deeds) new course is =
+line_of {A} budget old (Called call response after ∷ steps) new course is =
     let s = step_of old call response after (by_pause old call response after course.0) in (
       subst (λ (b : Budget). pacing.ComesTo b call (slice_get old.paused (slot_in call)) (paced_world_of old) response s.output s.block s.console (paced_world_of after)) is s.comes,
-      line_of budget after deeds new course.1 (s.budget ∙ is),
+      line_of budget after steps new course.1 (s.budget ∙ is),
     )
-line_of budget old (Took slot room bytes after ∷ deeds) new course is =
-    subst (λ (w : PacedWorld). IsLine budget w (moves_of after deeds new course.1) (paced_world_of new)) (taken_world old after slot room bytes course.0)
-    (line_of budget after deeds new course.1 (course.0.budget ∙ is))
+line_of budget old (Took slot room bytes after ∷ steps) new course is =
+    subst (λ (w : PacedWorld). IsLine budget w (moves_of after steps new course.1) (paced_world_of new)) (taken_world old after slot room bytes course.0)
+    (line_of budget after steps new course.1 (course.0.budget ∙ is))
 
-quiet_of : {A : Type 0} (g : ℕ) (old : SessionState) (deeds : List (Deed A)) (new : SessionState) (course : IsCourse old deeds new) → HadRoom g deeds
-    → IsQuiet g (paced_world_of old) (moves_of old deeds new course)
+quiet_of : {A : Type 0} (g : ℕ) (old : SessionState) (steps : List (SessionStep A)) (new : SessionState) (course : IsCourse old steps new) → HadRoom g steps
+    → IsQuiet g (paced_world_of old) (moves_of old steps new course)
 quiet_of g old [] new course had = tt
-quiet_of g old (Called call response after ∷ deeds) new course had =
-    (record { memory = had.0; image = λ mine. refl }, quiet_of g after deeds new course.1 had.1)
-quiet_of g old (Took slot room bytes after ∷ deeds) new course had =
-    subst (λ (w : PacedWorld). IsQuiet g w (moves_of after deeds new course.1)) (taken_world old after slot room bytes course.0)
-    (quiet_of g after deeds new course.1 had)
+quiet_of g old (Called call response after ∷ steps) new course had =
+    (record { memory = had.0; image = λ mine. refl }, quiet_of g after steps new course.1 had.1)
+quiet_of g old (Took slot room bytes after ∷ steps) new course had =
+    subst (λ (w : PacedWorld). IsQuiet g w (moves_of after steps new course.1)) (taken_world old after slot room bytes course.0)
+    (quiet_of g after steps new course.1 had)
 
-events_are : {A : Type 0} (g : ℕ) (old : SessionState) (deeds : List (Deed A)) (new : SessionState) (course : IsCourse old deeds new) → own_events g (moves_of old deeds new course) ≡ events_begun g deeds
+events_are : {A : Type 0} (g : ℕ) (old : SessionState) (steps : List (SessionStep A)) (new : SessionState) (course : IsCourse old steps new) → own_events g (moves_of old steps new course) ≡ events_begun g steps
 events_are g old [] new course = refl
-events_are {A} g old (Called call response after ∷ deeds) new course = ap (λ (rest : List (EventKind A)). begun_by g call response rest) (events_are g after deeds new course.1)
-events_are g old (Took slot room bytes after ∷ deeds) new course = events_are g after deeds new course.1
+events_are {A} g old (Called call response after ∷ steps) new course = ap (λ (rest : List (EventKind A)). begun_by g call response rest) (events_are g after steps new course.1)
+events_are g old (Took slot room bytes after ∷ steps) new course = events_are g after steps new course.1
 
 -- ---- what guest g is answered
 
@@ -141,16 +141,16 @@ own_replies : {A : Type 0} (mine : Bool) (one other : List (Reply A)) (records m
 own_replies true one other records more h k = h
 own_replies false one other records more h k = k
 
-replies_are : {A : Type 0} (g : ℕ) (out : List ℕ) (old : SessionState) (deeds : List (Deed A)) (new : SessionState) (course : IsCourse old deeds new)
-    → replies_ended g deeds ≡ replies_in (own_records g out (moves_of old deeds new course))
+replies_are : {A : Type 0} (g : ℕ) (out : List ℕ) (old : SessionState) (steps : List (SessionStep A)) (new : SessionState) (course : IsCourse old steps new)
+    → replies_ended g steps ≡ replies_in (own_records g out (moves_of old steps new course))
 replies_are g out old [] new course = refl
-replies_are g out old (Called call response after ∷ deeds) new course =
+replies_are g out old (Called call response after ∷ steps) new course =
     let move = move_of old call response after (by_pause old call response after course.0) in
-    let moves = moves_of after deeds new course.1 in
-    own_replies (slot_in call == g) (ended_by response (replies_ended g deeds)) (replies_ended g deeds) (told_by g out move response (λ more. own_records g more moves)) (own_records g out moves)
-    (told_replies g out move response (replies_ended g deeds) (λ more. own_records g more moves) (λ more. replies_are g more after deeds new course.1))
-    (replies_are g out after deeds new course.1)
-replies_are g out old (Took slot room bytes after ∷ deeds) new course = replies_are g out after deeds new course.1
+    let moves = moves_of after steps new course.1 in
+    own_replies (slot_in call == g) (ended_by response (replies_ended g steps)) (replies_ended g steps) (told_by g out move response (λ more. own_records g more moves)) (own_records g out moves)
+    (told_replies g out move response (replies_ended g steps) (λ more. own_records g more moves) (λ more. replies_are g more after steps new course.1))
+    (replies_are g out after steps new course.1)
+replies_are g out old (Took slot room bytes after ∷ steps) new course = replies_are g out after steps new course.1
 
 -- ---- what guest g puts out
 
@@ -165,20 +165,20 @@ put_output true before after output rest taken new put kept is =
     sym (append_assoc before output rest) ∙ (ap (λ (bytes : List ℕ). bytes ++ rest) (sym (put refl)) ∙ is)
 put_output false before after output rest taken new put kept is = ap (λ (bytes : List ℕ). bytes ++ rest) (sym (kept refl)) ∙ is
 
-outputs_are : {A : Type 0} (g : ℕ) (old : SessionState) (deeds : List (Deed A)) (new : SessionState) (course : IsCourse old deeds new)
-    → output_of g old ++ output_in g (moves_of old deeds new course) ≡ output_taken g deeds ++ output_of g new
+outputs_are : {A : Type 0} (g : ℕ) (old : SessionState) (steps : List (SessionStep A)) (new : SessionState) (course : IsCourse old steps new)
+    → output_of g old ++ output_in g (moves_of old steps new course) ≡ output_taken g steps ++ output_of g new
 outputs_are g old [] new course = append-nil (output_of g old) ∙ ap (output_of g) (sym course)
-outputs_are g old (Called call response after ∷ deeds) new course =
+outputs_are g old (Called call response after ∷ steps) new course =
     let s = step_of old call response after (by_pause old call response after course.0) in
-    put_output (slot_in call == g) (output_of g old) (output_of g after) s.output (output_in g (moves_of after deeds new course.1)) (output_taken g deeds) (output_of g new)
+    put_output (slot_in call == g) (output_of g old) (output_of g after) s.output (output_in g (moves_of after steps new course.1)) (output_taken g steps) (output_of g new)
     (λ test. subst (λ (h : ℕ). output_of h after ≡ output_of h old ++ s.output) (same_slot (slot_in call) g test) s.behind)
     (λ test. output_kept g (slot_in call) old after s.outputs test)
-    (outputs_are g after deeds new course.1)
-outputs_are g old (Took slot room bytes after ∷ deeds) new course =
-    taken_output (slot == g) bytes (output_of g old) (output_of g after) (output_in g (moves_of after deeds new course.1)) (output_taken g deeds) (output_of g new)
+    (outputs_are g after steps new course.1)
+outputs_are g old (Took slot room bytes after ∷ steps) new course =
+    taken_output (slot == g) bytes (output_of g old) (output_of g after) (output_in g (moves_of after steps new course.1)) (output_taken g steps) (output_of g new)
     (λ test. subst (λ (h : ℕ). output_of h old ≡ bytes ++ output_of h after) (same_slot slot g test) (taken_first slot room old after bytes course.0))
     (λ test. output_kept g slot old after course.0.others test)
-    (outputs_are g after deeds new course.1)
+    (outputs_are g after steps new course.1)
 
 -- ---- the records of a line have all that was put out
 
@@ -256,19 +256,19 @@ put_out_is g budget out old (move ∷ moves) new line idle owed =
 
 -- ---- the law
 
-pub runs_alone : {A : Type 0} (g : ℕ) (old new : SessionState) (deeds : List (Deed A)) (state : SlotState) → IsCourse old deeds new → HadRoom g deeds
-    → IsIdle g (paced_world_of old) → IsIdle g (paced_world_of new) → slice_get (world_of old).slots g ≡ Some state → RunsAlone g state old deeds new
-runs_alone {A} g old new deeds state course had starts ends here =
-    let moves = moves_of old deeds new course in
-    let line = line_of old.budget old deeds new course refl in
-    let is = alone g old.budget (paced_world_of old) (paced_world_of new) moves state line (quiet_of g old deeds new course had) starts ends here in
+pub runs_alone : {A : Type 0} (g : ℕ) (old new : SessionState) (steps : List (SessionStep A)) (state : SlotState) → IsCourse old steps new → HadRoom g steps
+    → IsIdle g (paced_world_of old) → IsIdle g (paced_world_of new) → slice_get (world_of old).slots g ≡ Some state → RunsAlone g state old steps new
+runs_alone {A} g old new steps state course had starts ends here =
+    let moves = moves_of old steps new course in
+    let line = line_of old.budget old steps new course refl in
+    let is = alone g old.budget (paced_world_of old) (paced_world_of new) moves state line (quiet_of g old steps new course had) starts ends here in
     let joined : put_out (own_records g [] moves) ≡ output_in g moves = put_out_is g old.budget [] (paced_world_of old) moves (paced_world_of new) line ends (owed_none (slice_get old.paused g)) in
     record {
       records = own_records g [] moves;
       last = is.last;
-      own = rw (← events_are g old deeds new course) is.own;
-      replies = replies_are g [] old deeds new course;
-      output = rw joined (outputs_are g old deeds new course);
+      own = rw (← events_are g old steps new course) is.own;
+      replies = replies_are g [] old steps new course;
+      output = rw joined (outputs_are g old steps new course);
       state_after = is.state_after;
     }
 
@@ -301,33 +301,33 @@ called_idle false g call old response after test unlimited idle h =
     let s = step_of old call response after h in
     (others_at g old.budget call (slice_get old.paused (slot_in call)) (paced_world_of old) response s.output s.block s.console (paced_world_of after) (not_same (slot_in call) g test) s.comes).paused ∙ idle
 
-stays_idle : {A : Type 0} (g : ℕ) (old new : SessionState) (deeds : List (Deed A)) → IsCourse old deeds new → (HasLimit old.budget → ⊥) → IsIdle g (paced_world_of old) → IsIdle g (paced_world_of new)
+stays_idle : {A : Type 0} (g : ℕ) (old new : SessionState) (steps : List (SessionStep A)) → IsCourse old steps new → (HasLimit old.budget → ⊥) → IsIdle g (paced_world_of old) → IsIdle g (paced_world_of new)
 stays_idle g old new [] course unlimited idle = ap (λ (s : SessionState). slice_get s.paused g) course ∙ idle
-stays_idle g old new (Called call response after ∷ deeds) course unlimited idle =
+stays_idle g old new (Called call response after ∷ steps) course unlimited idle =
     let h = by_pause old call response after course.0 in
     let s = step_of old call response after h in
-    stays_idle g after new deeds course.1 (λ limit. unlimited (subst (λ (b : Budget). HasLimit b) s.budget limit))
+    stays_idle g after new steps course.1 (λ limit. unlimited (subst (λ (b : Budget). HasLimit b) s.budget limit))
     (called_idle (slot_in call == g) g call old response after refl unlimited idle h)
-stays_idle g old new (Took slot room bytes after ∷ deeds) course unlimited idle =
-    stays_idle g after new deeds course.1 (λ limit. unlimited (subst (λ (b : Budget). HasLimit b) course.0.budget limit))
+stays_idle g old new (Took slot room bytes after ∷ steps) course unlimited idle =
+    stays_idle g after new steps course.1 (λ limit. unlimited (subst (λ (b : Budget). HasLimit b) course.0.budget limit))
     (ap (λ (ps : List (Option Pause)). slice_get ps g) course.0.paused ∙ idle)
 
-pub never_pauses : {A : Type 0} (g : ℕ) (old new : SessionState) (deeds : List (Deed A)) → IsCourse old deeds new → (HasLimit old.budget → ⊥) → IsIdle g (paced_world_of old) → NeverPauses g deeds
+pub never_pauses : {A : Type 0} (g : ℕ) (old new : SessionState) (steps : List (SessionStep A)) → IsCourse old steps new → (HasLimit old.budget → ⊥) → IsIdle g (paced_world_of old) → NeverPauses g steps
 never_pauses g old new [] course unlimited idle = tt
-never_pauses g old new (Called call response after ∷ deeds) course unlimited idle =
+never_pauses g old new (Called call response after ∷ steps) course unlimited idle =
     let h = by_pause old call response after course.0 in
     let s = step_of old call response after h in (
       λ mine.
           own_goes_on call old response after unlimited
           (subst (λ (p : Option (Option Pause)). ComesTo call p old response after) (ap (λ (k : ℕ). slice_get old.paused k) mine ∙ idle) h),
-      never_pauses g after new deeds course.1 (λ limit. unlimited (subst (λ (b : Budget). HasLimit b) s.budget limit))
+      never_pauses g after new steps course.1 (λ limit. unlimited (subst (λ (b : Budget). HasLimit b) s.budget limit))
           (called_idle (slot_in call == g) g call old response after refl unlimited idle h),
     )
-never_pauses g old new (Took slot room bytes after ∷ deeds) course unlimited idle =
-    never_pauses g after new deeds course.1 (λ limit. unlimited (subst (λ (b : Budget). HasLimit b) course.0.budget limit))
+never_pauses g old new (Took slot room bytes after ∷ steps) course unlimited idle =
+    never_pauses g after new steps course.1 (λ limit. unlimited (subst (λ (b : Budget). HasLimit b) course.0.budget limit))
     (ap (λ (ps : List (Option Pause)). slice_get ps g) course.0.paused ∙ idle)
 
-pub runs_alone_unlimited : {A : Type 0} (g : ℕ) (old new : SessionState) (deeds : List (Deed A)) (state : SlotState) → IsCourse old deeds new → HadRoom g deeds → (HasLimit old.budget → ⊥)
-    → IsIdle g (paced_world_of old) → slice_get (world_of old).slots g ≡ Some state → RunsAlone g state old deeds new
-runs_alone_unlimited g old new deeds state course had unlimited starts here =
-    runs_alone g old new deeds state course had starts (stays_idle g old new deeds course unlimited starts) here
+pub runs_alone_unlimited : {A : Type 0} (g : ℕ) (old new : SessionState) (steps : List (SessionStep A)) (state : SlotState) → IsCourse old steps new → HadRoom g steps → (HasLimit old.budget → ⊥)
+    → IsIdle g (paced_world_of old) → slice_get (world_of old).slots g ≡ Some state → RunsAlone g state old steps new
+runs_alone_unlimited g old new steps state course had unlimited starts here =
+    runs_alone g old new steps state course had starts (stays_idle g old new steps course unlimited starts) here

@@ -12,7 +12,7 @@ use Rattle.board.specs.Lent.{AreBytesOf, made_over}
 use Rattle.session.specs.declared.fault.SessionFault.{SessionFault}
 use Rattle.session.specs.declared.fault.SessionFault.TheVariants.{BadLoan, BadImage, BadOutlet, SpentBudget, Board, NoMemory}
 use Rattle.session.specs.declared.guest.GuestSpec.{GuestSpec}
-use Rattle.session.specs.Hosted.{IsHostedBoardFault, IsHostedLentRefusedFor, IsHostedRefusedFor}
+use Rattle.session.specs.Hosted.{IsHostedBoardFault, IsHostedLentRefusedFor}
 use Rattle.session.specs.Refusing.{AreOutlets, IsJudged, IsLentRefusedFor, IsRefusedFor}
 use Rattle.session.specs.Session.{slots_of}
 use Rattle.session.proofs.Loans.{Run}
@@ -134,22 +134,6 @@ module _ (guests : List GuestSpec) (image : List ℕ) (cache : ℕ) (budget : Bu
 module _ (guests : List GuestSpec) (bytes : List (List ℕ)) (are : AreBytesOf (slots_of guests) bytes) where
   abbrev HostedLentRefused : SessionFault → Type 0
   HostedLentRefused = IsHostedLentRefusedFor guests bytes
-
-  pub hosted_lent_refused : (why : SessionFault) → IsHostedRefusedFor guests why → HostedLentRefused why
-  hosted_lent_refused BadLoan r = absurd r
-  hosted_lent_refused BadImage r = (are, r)
-  hosted_lent_refused BadOutlet r = (are, r)
-  hosted_lent_refused SpentBudget r = (are, r)
-  hosted_lent_refused (Board fault) r = (are, r)
-  hosted_lent_refused NoMemory r = (are, r)
-
-  pub outlet_first : (why : SessionFault) → ¬ AreOutlets guests → HostedLentRefused why → BadOutlet ≡ why
-  outlet_first BadLoan bad r = absurd (r are)
-  outlet_first BadImage bad r = absurd r.1
-  outlet_first BadOutlet bad r = refl
-  outlet_first SpentBudget bad r = absurd r.1
-  outlet_first (Board fault) bad r = absurd (bad r.1.outlets)
-  outlet_first NoMemory bad r = absurd (bad r.1)
 
   pub then_hosted_board : {T : Type 0} (r : Result T SessionFault) → AreOutlets guests
       → ((fault : BoardFault) → IsHostedBoardFault guests fault → IsErrAnd r (λ why. (why ≡ Board fault) ⊎ (why ≡ NoMemory)))

@@ -9,7 +9,7 @@ use Rattle.board.specs.Within.{Seat, IsNextWithin}
 use Rattle.session.specs.declared.guest.GuestSpec.{GuestSpec}
 use Rattle.session.specs.declared.response.Response.{Response}
 use Rattle.session.specs.declared.response.Response.TheVariants.{Answered, Idle}
-use Rattle.session.specs.Course.{Deed, Called, Took}
+use Rattle.session.specs.Course.{SessionStep, Called, Took}
 use Rattle.session.specs.Pacing.{Call, Handle, GoOn, slot_in}
 use Rattle.session.specs.Session.{SessionState, limit_of, new_session, output_of, world_of}
 
@@ -30,19 +30,19 @@ asking_of (Handle event) = Does event.what
 asking_of (GoOn slot) = Goes
 
 -- what was asked for guest g, in order, and what was answered
-abbrev pub own_askings : {A : Type 0} → ℕ → List (Deed A) → List (Asking A)
+abbrev pub own_askings : {A : Type 0} → ℕ → List (SessionStep A) → List (Asking A)
 own_askings g [] = []
-own_askings g (Called call response after ∷ deeds) =
-    if slot_in call == g then asking_of call ∷ own_askings g deeds else own_askings g deeds
-own_askings g (Took slot room bytes after ∷ deeds) =
-    if slot == g then Takes room ∷ own_askings g deeds else own_askings g deeds
+own_askings g (Called call response after ∷ steps) =
+    if slot_in call == g then asking_of call ∷ own_askings g steps else own_askings g steps
+own_askings g (Took slot room bytes after ∷ steps) =
+    if slot == g then Takes room ∷ own_askings g steps else own_askings g steps
 
-abbrev pub own_answers : {A : Type 0} → ℕ → List (Deed A) → List (Answer A)
+abbrev pub own_answers : {A : Type 0} → ℕ → List (SessionStep A) → List (Answer A)
 own_answers g [] = []
-own_answers g (Called call response after ∷ deeds) =
-    if slot_in call == g then Told response ∷ own_answers g deeds else own_answers g deeds
-own_answers g (Took slot room bytes after ∷ deeds) =
-    if slot == g then Gave bytes ∷ own_answers g deeds else own_answers g deeds
+own_answers g (Called call response after ∷ steps) =
+    if slot_in call == g then Told response ∷ own_answers g steps else own_answers g steps
+own_answers g (Took slot room bytes after ∷ steps) =
+    if slot == g then Gave bytes ∷ own_answers g steps else own_answers g steps
 
 -- ---- the one-slot machine with its outlet
 
@@ -66,11 +66,11 @@ IsSeatCourse limit old (asking ∷ askings) (answer ∷ answers) last =
 IsSeatCourse limit old askings answers last = ⊥
 
 -- Guest g, which was in this state, is answered, gives out its output and is left as it would alone.
-pub record IsSeatedAlone {A : Type 0} (g : ℕ) (state : SlotState) (old : SessionState) (deeds : List (Deed A))
+pub record IsSeatedAlone {A : Type 0} (g : ℕ) (state : SlotState) (old : SessionState) (steps : List (SessionStep A))
     (new : SessionState) : Type 0 where
   pub last : SlotState
   pub own :
-      IsSeatCourse (limit_of g old) (seat_of g state old) (own_askings g deeds) (own_answers g deeds)
+      IsSeatCourse (limit_of g old) (seat_of g state old) (own_askings g steps) (own_answers g steps)
       (seat_of g last new)
   pub state_after : slice_get (world_of new).slots g ≡ Some last
 
@@ -78,9 +78,9 @@ pub record IsSeatedAlone {A : Type 0} (g : ℕ) (state : SlotState) (old : Sessi
 
 -- Guest g of one session and guest h of another have seen the same: they were answered the same, the same bytes of
 -- their output were taken, the same wait, and both are in the same state.
-pub record SeeAlike {A : Type 0} (g : ℕ) (deeds : List (Deed A)) (new : SessionState) (h : ℕ) (more : List (Deed A))
+pub record SeeAlike {A : Type 0} (g : ℕ) (steps : List (SessionStep A)) (new : SessionState) (h : ℕ) (more : List (SessionStep A))
     (last : SessionState) : Type 0 where
-  pub answers : own_answers g deeds ≡ own_answers h more
+  pub answers : own_answers g steps ≡ own_answers h more
   pub waiting : output_of g new ≡ output_of h last
   pub state : slice_get (world_of new).slots g ≡ slice_get (world_of last).slots h
 

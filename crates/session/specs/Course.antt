@@ -22,9 +22,9 @@ IsCalled old (GoOn slot) response new = IsCall old (GoOn slot) response new
 
 -- Something that happened, and the session after it: a call was answered so, or these bytes of what a slot's console put
 -- out were taken, where there was room for so many.
-pub data Deed (A : Type 0) : Type 0 where
-  Called : Call A → Response A → SessionState → Deed A
-  Took : ℕ → ℕ → List ℕ → SessionState → Deed A
+pub data SessionStep (A : Type 0) : Type 0 where
+  Called : Call A → Response A → SessionState → SessionStep A
+  Took : ℕ → ℕ → List ℕ → SessionState → SessionStep A
 
 -- The first bytes of what a slot's console put out were taken, as many as found room, and nothing else changed.
 pub record IsTaken (old : SessionState) (slot room : ℕ) (bytes : List ℕ) (new : SessionState) : Type 0 where
@@ -37,10 +37,10 @@ pub record IsTaken (old : SessionState) (slot room : ℕ) (bytes : List ℕ) (ne
   pub budget : new.budget ≡ old.budget
 
 -- these things lead from one session to another
-abbrev pub IsCourse : {A : Type 0} → SessionState → List (Deed A) → SessionState → Type 0
+abbrev pub IsCourse : {A : Type 0} → SessionState → List (SessionStep A) → SessionState → Type 0
 IsCourse old [] new = new ≡ old
-IsCourse old (Called call response after ∷ deeds) new = IsCalled old call response after × IsCourse after deeds new
-IsCourse old (Took slot room bytes after ∷ deeds) new = IsTaken old slot room bytes after × IsCourse after deeds new
+IsCourse old (Called call response after ∷ steps) new = IsCalled old call response after × IsCourse after steps new
+IsCourse old (Took slot room bytes after ∷ steps) new = IsTaken old slot room bytes after × IsCourse after steps new
 
 -- what can be seen of the board and its pauses
 abbrev pub paced_world_of : SessionState → PacedWorld
@@ -49,10 +49,10 @@ paced_world_of session = record { world = world_of session; paused = session.pau
 -- ---- what one guest has of a course
 
 -- What guest g does, in order: an event counts where it begins.
-abbrev pub events_begun : {A : Type 0} → ℕ → List (Deed A) → List (EventKind A)
+abbrev pub events_begun : {A : Type 0} → ℕ → List (SessionStep A) → List (EventKind A)
 events_begun g [] = []
-events_begun g (Called call response after ∷ deeds) = begun_by g call response (events_begun g deeds)
-events_begun g (Took slot room bytes after ∷ deeds) = events_begun g deeds
+events_begun g (Called call response after ∷ steps) = begun_by g call response (events_begun g steps)
+events_begun g (Took slot room bytes after ∷ steps) = events_begun g steps
 
 -- What guest g is answered, in order: a reply stands where its event ends.
 abbrev pub ended_by : {A : Type 0} → Response A → List (Reply A) → List (Reply A)
@@ -61,18 +61,18 @@ ended_by More rest = rest
 ended_by Busy rest = rest
 ended_by Idle rest = rest
 
-abbrev pub replies_ended : {A : Type 0} → ℕ → List (Deed A) → List (Reply A)
+abbrev pub replies_ended : {A : Type 0} → ℕ → List (SessionStep A) → List (Reply A)
 replies_ended g [] = []
-replies_ended g (Called call response after ∷ deeds) =
-    if slot_in call == g then ended_by response (replies_ended g deeds) else replies_ended g deeds
-replies_ended g (Took slot room bytes after ∷ deeds) = replies_ended g deeds
+replies_ended g (Called call response after ∷ steps) =
+    if slot_in call == g then ended_by response (replies_ended g steps) else replies_ended g steps
+replies_ended g (Took slot room bytes after ∷ steps) = replies_ended g steps
 
 -- what was taken of guest g's output, one piece behind the other
-abbrev pub output_taken : {A : Type 0} → ℕ → List (Deed A) → List ℕ
+abbrev pub output_taken : {A : Type 0} → ℕ → List (SessionStep A) → List ℕ
 output_taken g [] = []
-output_taken g (Called call response after ∷ deeds) = output_taken g deeds
-output_taken g (Took slot room bytes after ∷ deeds) =
-    if slot == g then bytes ++ output_taken g deeds else output_taken g deeds
+output_taken g (Called call response after ∷ steps) = output_taken g steps
+output_taken g (Took slot room bytes after ∷ steps) =
+    if slot == g then bytes ++ output_taken g steps else output_taken g steps
 
 -- what these records put out, one behind the other
 abbrev pub put_out : {A : Type 0} → List (Record A) → List ℕ
@@ -80,25 +80,25 @@ put_out [] = []
 put_out (written ∷ records) = written.output ++ put_out records
 
 -- no call for guest g was answered that room was wanting
-abbrev pub HadRoom : {A : Type 0} → ℕ → List (Deed A) → Type 0
+abbrev pub HadRoom : {A : Type 0} → ℕ → List (SessionStep A) → Type 0
 HadRoom g [] = ⊤
-HadRoom g (Called call response after ∷ deeds) =
-    (slot_in call ≡ g → response ≢ Answered NoMemory) × HadRoom g deeds
-HadRoom g (Took slot room bytes after ∷ deeds) = HadRoom g deeds
+HadRoom g (Called call response after ∷ steps) =
+    (slot_in call ≡ g → response ≢ Answered NoMemory) × HadRoom g steps
+HadRoom g (Took slot room bytes after ∷ steps) = HadRoom g steps
 
 -- no service of guest g's was paused
-abbrev pub NeverPauses : {A : Type 0} → ℕ → List (Deed A) → Type 0
+abbrev pub NeverPauses : {A : Type 0} → ℕ → List (SessionStep A) → Type 0
 NeverPauses g [] = ⊤
-NeverPauses g (Called call response after ∷ deeds) = (slot_in call ≡ g → response ≢ More) × NeverPauses g deeds
-NeverPauses g (Took slot room bytes after ∷ deeds) = NeverPauses g deeds
+NeverPauses g (Called call response after ∷ steps) = (slot_in call ≡ g → response ≢ More) × NeverPauses g steps
+NeverPauses g (Took slot room bytes after ∷ steps) = NeverPauses g steps
 
 -- Guest g, which was in this state, is answered what it would be answered alone where nothing pauses, its console puts
 -- out what it would put out then, and its state afterwards is what it would be.
-pub record RunsAlone {A : Type 0} (g : ℕ) (state : SlotState) (old : SessionState) (deeds : List (Deed A))
+pub record RunsAlone {A : Type 0} (g : ℕ) (state : SlotState) (old : SessionState) (steps : List (SessionStep A))
     (new : SessionState) : Type 0 where
   pub records : List (Record A)
   pub last : SlotState
-  pub own : RunsOnItsOwn g state (events_begun g deeds) records last
-  pub replies : replies_ended g deeds ≡ map (λ written. written.reply) records
-  pub output : output_of g old ++ put_out records ≡ output_taken g deeds ++ output_of g new
+  pub own : RunsOnItsOwn g state (events_begun g steps) records last
+  pub replies : replies_ended g steps ≡ map (λ written. written.reply) records
+  pub output : output_of g old ++ put_out records ≡ output_taken g steps ++ output_of g new
   pub state_after : slice_get (world_of new).slots g ≡ Some last

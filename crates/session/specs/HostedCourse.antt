@@ -12,9 +12,9 @@ use Rattle.session.specs.Session.{KeepsOtherOutputs, waiting_at}
 
 -- Something that happened, and the session after it: a call for a slot was answered so, an event of its guest or a
 -- completion, or these bytes of what its console put out were taken, where there was room for so many.
-pub data HostedDeed (A : Type 0) : Type 0 where
-  Called : ℕ → EventKind A → Reply A → HostedSessionState → HostedDeed A
-  Took : ℕ → ℕ → List ℕ → HostedSessionState → HostedDeed A
+pub data HostedStep (A : Type 0) : Type 0 where
+  Called : ℕ → EventKind A → Reply A → HostedSessionState → HostedStep A
+  Took : ℕ → ℕ → List ℕ → HostedSessionState → HostedStep A
 
 -- The first bytes of what a slot's console put out were taken, as many as found room, and nothing else changed.
 pub record IsHostedTaken (old : HostedSessionState) (slot room : ℕ) (bytes : List ℕ) (new : HostedSessionState) : Type 0 where
@@ -25,12 +25,12 @@ pub record IsHostedTaken (old : HostedSessionState) (slot room : ℕ) (bytes : L
   pub slots : new.slots ≡ old.slots
 
 -- these things lead from one session to another
-abbrev pub IsHostedCourse : {A : Type 0} → HostedSessionState → List (HostedDeed A) → HostedSessionState → Type 0
+abbrev pub IsHostedCourse : {A : Type 0} → HostedSessionState → List (HostedStep A) → HostedSessionState → Type 0
 IsHostedCourse old [] new = new ≡ old
-IsHostedCourse old (Called slot event reply after ∷ deeds) new =
-    IsHostedCall old slot event reply after × IsHostedCourse after deeds new
-IsHostedCourse old (Took slot room bytes after ∷ deeds) new =
-    IsHostedTaken old slot room bytes after × IsHostedCourse after deeds new
+IsHostedCourse old (Called slot event reply after ∷ steps) new =
+    IsHostedCall old slot event reply after × IsHostedCourse after steps new
+IsHostedCourse old (Took slot room bytes after ∷ steps) new =
+    IsHostedTaken old slot room bytes after × IsHostedCourse after steps new
 
 -- ---- a guest alone with its outlet
 
@@ -75,29 +75,29 @@ IsHostedSeatCourse limit old askings answers last = ⊥
 -- ---- each guest of a session
 
 -- what was asked for guest g, in order, and what was answered
-abbrev pub own_askings : {A : Type 0} → ℕ → List (HostedDeed A) → List (HostedAsking A)
+abbrev pub own_askings : {A : Type 0} → ℕ → List (HostedStep A) → List (HostedAsking A)
 own_askings g [] = []
-own_askings g (Called slot event reply after ∷ deeds) =
-    if slot == g then Does event ∷ own_askings g deeds else own_askings g deeds
-own_askings g (Took slot room bytes after ∷ deeds) =
-    if slot == g then Takes room ∷ own_askings g deeds else own_askings g deeds
+own_askings g (Called slot event reply after ∷ steps) =
+    if slot == g then Does event ∷ own_askings g steps else own_askings g steps
+own_askings g (Took slot room bytes after ∷ steps) =
+    if slot == g then Takes room ∷ own_askings g steps else own_askings g steps
 
-abbrev pub own_hosted_answers : {A : Type 0} → ℕ → List (HostedDeed A) → List (HostedAnswer A)
+abbrev pub own_hosted_answers : {A : Type 0} → ℕ → List (HostedStep A) → List (HostedAnswer A)
 own_hosted_answers g [] = []
-own_hosted_answers g (Called slot event reply after ∷ deeds) =
-    if slot == g then Replied reply ∷ own_hosted_answers g deeds else own_hosted_answers g deeds
-own_hosted_answers g (Took slot room bytes after ∷ deeds) =
-    if slot == g then Gave bytes ∷ own_hosted_answers g deeds else own_hosted_answers g deeds
+own_hosted_answers g (Called slot event reply after ∷ steps) =
+    if slot == g then Replied reply ∷ own_hosted_answers g steps else own_hosted_answers g steps
+own_hosted_answers g (Took slot room bytes after ∷ steps) =
+    if slot == g then Gave bytes ∷ own_hosted_answers g steps else own_hosted_answers g steps
 
 -- guest g in a session: what it sees, and what waits of its output
 abbrev pub hosted_seat : ℕ → HostedState → HostedSessionState → HostedSeat
 hosted_seat g state session = record { state = state; waiting = (waiting_at g session.outputs).bytes }
 
 -- Guest g, which was in this state, is answered, gives out its output and is left as it would alone.
-pub record IsHostedAlone {A : Type 0} (g : ℕ) (state : HostedState) (old : HostedSessionState) (deeds : List (HostedDeed A))
+pub record IsHostedAlone {A : Type 0} (g : ℕ) (state : HostedState) (old : HostedSessionState) (steps : List (HostedStep A))
     (new : HostedSessionState) : Type 0 where
   pub last : HostedState
   pub own :
-      IsHostedSeatCourse (waiting_at g old.outputs).limit (hosted_seat g state old) (own_askings g deeds)
-      (own_hosted_answers g deeds) (hosted_seat g last new)
+      IsHostedSeatCourse (waiting_at g old.outputs).limit (hosted_seat g state old) (own_askings g steps)
+      (own_hosted_answers g steps) (hosted_seat g last new)
   pub state_after : slice_get new.slots g ≡ Some last

@@ -15,7 +15,7 @@ ghost use Rattle.session.specs.Pacing.{Handle};
 ghost use Rattle.session.specs.declared.response.Response.{Response};
 ghost use Rattle.session.specs.declared.guest.GuestSpec.{GuestSpec};
 ghost use Rattle.session.specs.Alone.{Answer, Asking, IsSeatCourse, IsSeatedAlone, SeeAlike, at_front, new_session_alone, own_askings, part_of_image};
-ghost use Rattle.session.specs.Course.{Deed, HadRoom, IsCourse, NeverPauses, RunsAlone, paced_world_of};
+ghost use Rattle.session.specs.Course.{SessionStep, HadRoom, IsCourse, NeverPauses, RunsAlone, paced_world_of};
 ghost use Rattle.session.specs.Pausing.{IsCall};
 ghost use Rattle.session.specs.Refusing.{AreOutlets};
 ghost use Rattle.session.specs.Session.{IsStep, SessionState, limit_of, new_session, output_of, slots_of, with_memory, with_slot_bytes, world_of};
@@ -27,17 +27,17 @@ use std::alloc::Allocator;
 /// for it. No premise says that nothing was refused.
 pub fn each_guest_is_alone<A: Allocator>()
     ensures alone { (g : ℕ) (guests : List GuestSpec) (guest : GuestSpec) (image : List ℕ)
-        (budget budget' : Budget) (deeds more : List (Deed A)) (new last : SessionState) → slice_get guests g ≡ Some guest →
-        IsCourse (new_session guests image budget) deeds new →
-        IsCourse (new_session_alone guest image budget') more last → NeverPauses g deeds → NeverPauses 0 more →
-        own_askings 0 more ≡ own_askings g deeds → SeeAlike g deeds new 0 more last }
+        (budget budget' : Budget) (steps more : List (SessionStep A)) (new last : SessionState) → slice_get guests g ≡ Some guest →
+        IsCourse (new_session guests image budget) steps new →
+        IsCourse (new_session_alone guest image budget') more last → NeverPauses g steps → NeverPauses 0 more →
+        own_askings 0 more ≡ own_askings g steps → SeeAlike g steps new 0 more last }
 
     // so without a budget every guest
     ensures without { (g : ℕ) (guests : List GuestSpec) (guest : GuestSpec) (image : List ℕ)
-        (budget budget' : Budget) (deeds more : List (Deed A)) (new last : SessionState) → slice_get guests g ≡ Some guest →
-        IsCourse (new_session guests image budget) deeds new →
+        (budget budget' : Budget) (steps more : List (SessionStep A)) (new last : SessionState) → slice_get guests g ≡ Some guest →
+        IsCourse (new_session guests image budget) steps new →
         IsCourse (new_session_alone guest image budget') more last → ¬ HasLimit budget → ¬ HasLimit budget' →
-        own_askings 0 more ≡ own_askings g deeds → SeeAlike g deeds new 0 more last }
+        own_askings 0 more ≡ own_askings g steps → SeeAlike g steps new 0 more last }
 
     // there is such a session: it is never refused, but for want of memory
     ensures there { (g cache : ℕ) (guests : List GuestSpec) (guest : GuestSpec) (image : List ℕ) →
@@ -47,20 +47,20 @@ pub fn each_guest_is_alone<A: Allocator>()
         IsAccepted (length (part_of_image guest image) / 512) (slots_of (at_front guest ∷ [])) cache }
 
     // and from whatever state on: a guest of one session and one of another, as the same slot with the same output
-    ensures alike { (g h : ℕ) (old new other last : SessionState) (deeds more : List (Deed A)) (state : SlotState) →
-        IsCourse old deeds new → IsCourse other more last → NeverPauses g deeds → NeverPauses h more →
+    ensures alike { (g h : ℕ) (old new other last : SessionState) (steps more : List (SessionStep A)) (state : SlotState) →
+        IsCourse old steps new → IsCourse other more last → NeverPauses g steps → NeverPauses h more →
         IsIdle g (paced_world_of old) → IsIdle h (paced_world_of other) →
         slice_get (world_of old).slots g ≡ Some state → slice_get (world_of other).slots h ≡ Some state →
         output_of h other ≡ output_of g old → limit_of h other ≡ limit_of g old →
-        own_askings h more ≡ own_askings g deeds → SeeAlike g deeds new h more last }
+        own_askings h more ≡ own_askings g steps → SeeAlike g steps new h more last }
 {}
 
 /// What a guest sees whose services never pause is what the one-slot machine with its outlet gives, which has one answer to
 /// each call.
 pub fn the_outlet_decides<A: Allocator>()
-    ensures runs { (g : ℕ) (old new : SessionState) (deeds : List (Deed A)) (state : SlotState) →
-        IsCourse old deeds new → NeverPauses g deeds → IsIdle g (paced_world_of old) →
-        slice_get (world_of old).slots g ≡ Some state → IsSeatedAlone g state old deeds new }
+    ensures runs { (g : ℕ) (old new : SessionState) (steps : List (SessionStep A)) (state : SlotState) →
+        IsCourse old steps new → NeverPauses g steps → IsIdle g (paced_world_of old) →
+        slice_get (world_of old).slots g ≡ Some state → IsSeatedAlone g state old steps new }
     ensures once { (limit : ℕ) (old one other : Seat) (askings : List (Asking A)) (answers answers' : List (Answer A)) →
         IsSeatCourse limit old askings answers one → IsSeatCourse limit old askings answers' other →
         (answers ≡ answers') × (one ≡ other) }
@@ -70,15 +70,15 @@ pub fn the_outlet_decides<A: Allocator>()
 /// puts out, taken in whatever pieces or waiting still, is what that machine puts out, whatever is called for others between
 /// the pieces of its services: an event counts where it begins, and its reply where it ends.
 pub fn a_guest_with_room_runs_alone<A: Allocator>()
-    ensures within { (g : ℕ) (old new : SessionState) (deeds : List (Deed A)) (state : SlotState) →
-        IsCourse old deeds new → HadRoom g deeds →
+    ensures within { (g : ℕ) (old new : SessionState) (steps : List (SessionStep A)) (state : SlotState) →
+        IsCourse old steps new → HadRoom g steps →
         IsIdle g (paced_world_of old) → IsIdle g (paced_world_of new) →
-        slice_get (world_of old).slots g ≡ Some state → RunsAlone g state old deeds new }
+        slice_get (world_of old).slots g ≡ Some state → RunsAlone g state old steps new }
 
     // so without a budget, where nothing is paused at the end
-    ensures without { (g : ℕ) (old new : SessionState) (deeds : List (Deed A)) (state : SlotState) →
-        IsCourse old deeds new → HadRoom g deeds → ¬ HasLimit old.budget → IsIdle g (paced_world_of old) →
-        slice_get (world_of old).slots g ≡ Some state → RunsAlone g state old deeds new }
+    ensures without { (g : ℕ) (old new : SessionState) (steps : List (SessionStep A)) (state : SlotState) →
+        IsCourse old steps new → HadRoom g steps → ¬ HasLimit old.budget → IsIdle g (paced_world_of old) →
+        slice_get (world_of old).slots g ≡ Some state → RunsAlone g state old steps new }
 {}
 
 /// Bytes that were put into a guest's memory in place, between two calls, are the event of their write: so what

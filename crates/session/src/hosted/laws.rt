@@ -7,7 +7,7 @@ ghost use Rattle.board.specs.declared.event.EventKind.{EventKind};
 ghost use Rattle.board.specs.Hosting.{HostedState, InFlight, IsOwn, must_wait};
 ghost use Rattle.board.specs.declared.reply.Reply.{Reply};
 ghost use Rattle.session.specs.Hosted.{HostedSessionState, IsHostedCall, IsKept, flight_at, with_hosted_bytes};
-ghost use Rattle.session.specs.HostedCourse.{HostedDeed, IsHostedAlone, IsHostedCourse};
+ghost use Rattle.session.specs.HostedCourse.{HostedStep, IsHostedAlone, IsHostedCourse};
 
 use std::alloc::Allocator;
 
@@ -15,8 +15,8 @@ use std::alloc::Allocator;
 /// their output between them: each guest is told what it would be told alone with its outlet, gives out what it would,
 /// and is left as it would be.
 pub fn each_hosted_guest_is_alone<A: Allocator>()
-    ensures { (g : ℕ) (old new : HostedSessionState) (deeds : List (HostedDeed A)) (state : HostedState) →
-        IsHostedCourse old deeds new → slice_get old.slots g ≡ Some state → IsHostedAlone g state old deeds new }
+    ensures { (g : ℕ) (old new : HostedSessionState) (steps : List (HostedStep A)) (state : HostedState) →
+        IsHostedCourse old steps new → slice_get old.slots g ≡ Some state → IsHostedAlone g state old steps new }
 {}
 
 /// What is in flight of a slot stays in flight, whatever its guest does: only the completion ends it.

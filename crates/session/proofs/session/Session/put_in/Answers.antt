@@ -3,7 +3,9 @@ use Rattle.std.proofs.Common.{[], refl, sym, ◌∙◌, ap}
 use Rattle.sector_cache.specs.MemoryImage.{disk_of as memory_disk_of}
 use Rattle.board.specs.declared.event.EventKind.TheVariants.{Input}
 use Rattle.session.specs.Pacing.{Handle}
-use Rattle.session.proofs.Steps.{as_many, handled_quietly, responded_paused, quiet_input, shown}
+use Rattle.session.proofs.Calls.{responded_paused}
+use Rattle.session.proofs.Quiet.{handled_quietly, quiet_input}
+use Rattle.session.proofs.Steps.{as_many, shown}
 use Rattle.session.proofs.session.Session.put_in.Goals as goal
 
 pub invariant_of-self : goal.invariant_of-self

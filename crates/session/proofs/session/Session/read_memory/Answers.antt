@@ -4,7 +4,8 @@ use Rattle.std.specs.Prelude.{nat_lt, if◌then◌else◌}
 use Rattle.board.specs.declared.event.EventKind.TheVariants.{MemRead}
 use Rattle.board.specs.declared.reply.Reply.TheVariants.{BadRange, BadSlot}
 use Rattle.session.specs.Session.{IsStep}
-use Rattle.session.proofs.Steps.{call_of_step, called_busy, not_read, refused_call, refused_whole, was_read}
+use Rattle.session.proofs.Calls.{call_of_step, called_busy, refused_call, refused_whole}
+use Rattle.session.proofs.Ranges.{not_read, was_read}
 use Rattle.session.proofs.session.Session.read_memory.Goals as goal
 
 pub returns-then-is_paused-clause-call : goal.returns-then-is_paused-clause-call

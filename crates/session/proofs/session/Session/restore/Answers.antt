@@ -4,7 +4,8 @@ use Rattle.sector_cache.specs.MemoryImage.{disk_of as memory_disk_of}
 use Rattle.board.specs.declared.event.EventKind.TheVariants.{Restore}
 use Rattle.session.specs.Restoring.{restore_response}
 use Rattle.session.proofs.Restoring.{bad_slot_keeps, busy_keeps, never_idle, never_more, told_missing}
-use Rattle.session.proofs.Steps.{as_many, handled_quietly, quiet_restore, shown}
+use Rattle.session.proofs.Quiet.{handled_quietly, quiet_restore}
+use Rattle.session.proofs.Steps.{as_many, shown}
 use Rattle.session.proofs.session.Session.restore.Goals as goal
 
 pub invariant_of-self : goal.invariant_of-self

@@ -5,7 +5,8 @@ use Rattle.std.proofs.lemmas.Option.{slice_get_read}
 use Rattle.std.proofs.lemmas.List.{length-set}
 use Rattle.sector_cache.specs.MemoryImage.{disk_of as memory_disk_of}
 use Rattle.session.specs.Pacing.{GoOn}
-use Rattle.session.proofs.Steps.{as_many, responded_paused, called_past, shown, went_on}
+use Rattle.session.proofs.Calls.{called_past, responded_paused}
+use Rattle.session.proofs.Steps.{as_many, shown, went_on}
 use Rattle.session.proofs.session.Session.serve_on.Goals as goal
 
 pub returns-in_default : goal.returns-in_default

@@ -5,7 +5,9 @@ use Rattle.std.proofs.lemmas.Option.{slice_get_read}
 use Rattle.std.proofs.lemmas.List.{length-set}
 use Rattle.sector_cache.specs.MemoryImage.{disk_of as memory_disk_of}
 use Rattle.session.specs.Pacing.{Handle}
-use Rattle.session.proofs.Steps.{as_many, responded_paused, called, called_past, missing, shown, suits_call, whole}
+use Rattle.session.proofs.Calls.{called_past, responded_paused}
+use Rattle.session.proofs.Steps.{as_many, called, shown, suits_call, whole}
+use Rattle.session.proofs.Unchanged.{missing}
 use Rattle.session.proofs.session.Session.step.Goals as goal
 
 pub returns-in_default-clause-call : goal.returns-in_default-clause-call

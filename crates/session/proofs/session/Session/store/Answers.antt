@@ -2,7 +2,8 @@
 use Rattle.std.proofs.Common.{length, refl, sym, ◌∙◌, ap}
 use Rattle.sector_cache.specs.MemoryImage.{disk_of as memory_disk_of}
 use Rattle.board.specs.declared.event.EventKind.TheVariants.{MemWrite}
-use Rattle.session.proofs.Steps.{as_many, handled_quietly, quiet_write, shown}
+use Rattle.session.proofs.Quiet.{handled_quietly, quiet_write}
+use Rattle.session.proofs.Steps.{as_many, shown}
 use Rattle.session.proofs.session.Session.store.Goals as goal
 
 pub invariant_of-self : goal.invariant_of-self
