@@ -158,23 +158,6 @@ not_ok : {E : Type 0} (outcome : Result (Unit {0}) E) (P : Type 0) → IsErr out
 not_ok (Ok _) P is = absurd (true≢false (sym is))
 not_ok (Err _) P is = tt
 
-on_ok : {E : Type 0} (outcome : Result (Unit {0}) E) (P : Type 0) → P → OnOk outcome P
-on_ok (Ok _) P p = p
-on_ok (Err _) P p = tt
-
--- 512 bytes that were written are the sector
-pub put_whole : {E : Type 0} (outcome : Result (Unit {0}) E) (sector done : ℕ) (from : List ℕ) (old new : Option (List ℕ)) → length from ≡ 512 → done ≡ 512 → PutsTo sector from done old new → PutsSector sector from outcome old new
-put_whole outcome sector done from None new long whole puts = puts
-put_whole outcome sector done from (Some old) None long whole puts = puts
-put_whole outcome sector done from (Some old) (Some new) long whole puts = λ inside.
-    let put : IsPutTo sector from done old new = puts inside in
-    record {
-      left = put.left;
-      long = put.long;
-      whole = on_ok outcome (put.left ≡ from) (sym (take_all done put.left (omega (arith, put.long, whole))) ∙ put.front ∙ take_all done from (omega (arith, long, whole)));
-      put = put.put;
-    }
-
 -- a write that failed left the sector torn
 pub put_torn : {E : Type 0} (outcome : Result (Unit {0}) E) (sector done : ℕ) (from : List ℕ) (old new : Option (List ℕ)) → IsErr outcome → PutsTo sector from done old new → PutsSector sector from outcome old new
 put_torn outcome sector done from None new is puts = puts
