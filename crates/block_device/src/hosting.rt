@@ -128,10 +128,7 @@ impl Device<()> for OnHost {
         _host: &mut (),
     ) -> Result<Used, Request> {
         match self.device.begin(mem, chain) {
-            Begun::Answered(answer) => Ok(Used {
-                len: answer.len,
-                wrote: answer.wrote,
-            }),
+            Begun::Answered(used) => Ok(used),
             Begun::Asks(request) => Err(request),
         }
     }
@@ -183,8 +180,8 @@ impl Flight {
     {
         let room = chain.writable_len() - 1;
         let done = Done::by(self.operation.kind, verdict, room);
-        let answer = finish(mem, chain, done);
-        queue.give(mem, self.token, answer.len, answer.wrote);
-        chain.count(answer.len);
+        let used = finish(mem, chain, done);
+        queue.give(mem, self.token, used.len, used.wrote);
+        chain.count(used.len);
     }
 }
