@@ -1,4 +1,5 @@
 pub mod Answering
+pub mod Anywhere
 pub mod Asking
 pub mod Durable
 pub mod Endings

@@ -51,7 +51,7 @@ never_fails Flush payload disk outcome none fails = absurd (cc)
 never_fails GetId payload disk outcome none fails = fails
 never_fails (WriteZeroes segments) payload disk outcome none fails = absurd (cc)
 
-completes_from : (identity : List ℕ) (request : Request) (payload : List ℕ) (disk : Disk) (outcome : Outcome) → asks_image request ≡ false → Ends identity request payload disk outcome → Completes identity request payload disk outcome
+pub completes_from : (identity : List ℕ) (request : Request) (payload : List ℕ) (disk : Disk) (outcome : Outcome) → asks_image request ≡ false → Ends identity request payload disk outcome → Completes identity request payload disk outcome
 completes_from identity request payload disk outcome none (inl h) = h
 completes_from identity request payload disk outcome none (inr fails) = absurd (never_fails request payload disk outcome none fails)
 
@@ -208,8 +208,8 @@ asks_once : (device : BlockDevice) (found : Option Queue) (f g : Flight) (old m 
 asks_once device found f g old m n before v w b c r s disk x y =
     let queue : y.queue ≡ x.queue = same_Some y.queue x.queue (y.ready ∙ sym x.ready) in
     let start : Site Queue Disk = record (site_of device old x.queue disk) { ring = opened_at First old x.queue } in
-    let there : AsksAt device First (site_of device old x.queue disk) (site_of device n y.last disk) c (record { token = g.token; request = y.request }) =
-    subst (λ (q : Queue). AsksAt device First (site_of device old q disk) (site_of device n y.last disk) c (record { token = g.token; request = y.request })) queue y.asks in
+    let there : AsksAt device First (site_of device old x.queue disk) (site_of device n y.last disk) c g.token y.request =
+    subst (λ (q : Queue). AsksAt device First (site_of device old q disk) (site_of device n y.last disk) c g.token y.request) queue y.asks in
     let one : StopsAt device start (site_of device m x.last disk) b f.token x.request = x.asks.stops in
     let other : StopsAt device start (site_of device n y.last disk) c g.token y.request = there.stops in
     let same : site_of device m x.last disk ≡ site_of device n y.last disk =
@@ -266,8 +266,8 @@ asks_or_ends : (device : BlockDevice) (found : Option Queue) (f : Flight) (old m
 asks_or_ends device None f old m n before v w b r disk x y = let none = x.ready in absurd (cc)
 asks_or_ends device (Some queue) f old m n before v w b r disk x y =
     let same : x.queue ≡ queue = same_Some x.queue queue x.ready in
-    let asks : AsksAt device First (site_of device old queue disk) (site_of device m x.last disk) b (record { token = f.token; request = x.request }) =
-    subst (λ (q : Queue). AsksAt device First (site_of device old q disk) (site_of device m x.last disk) b (record { token = f.token; request = x.request })) same x.asks in
+    let asks : AsksAt device First (site_of device old queue disk) (site_of device m x.last disk) b f.token x.request =
+    subst (λ (q : Queue). AsksAt device First (site_of device old q disk) (site_of device m x.last disk) b f.token x.request) same x.asks in
     let start : Site Queue Disk = open_site queue_kind (unasked_device device) (site_of device old queue disk) in
     let s = y.notified.service in
     runs_or_faults device start s.last (site_of device m x.last disk) (queue_kind.opening_fault old queue) y.ending asks.stops.course.chains asks.opens s.works asks.stops.course.serves

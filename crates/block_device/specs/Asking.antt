@@ -49,8 +49,8 @@ pub record IsAsked (device : BlockDevice) (m : Memory) (buffers : List Buffer) (
 
 -- What a chain comes to before the image is asked: it is served, whatever the disk is, or it asks.
 abbrev pub Begins : BlockDevice → Memory → Memory → List Buffer → Begun → Type 0
-Begins device old new buffers (Answered answer) =
-    ((disk : Disk) → Does (unasked_device device) old new buffers disk disk answer.len answer.wrote) × (answer.failed ≡ false)
+Begins device old new buffers (Answered used) =
+    (disk : Disk) → Does (unasked_device device) old new buffers disk disk used.len used.wrote
 Begins device old new buffers (Asks request) = IsAsked device old buffers request × (new ≡ old)
 
 -- the used len of a chain of so many writable places, of which these many first ones and the last one are written

@@ -8,8 +8,7 @@ use Rattle.chain.specs.declared.segment.Buffer.{Buffer}
 use Rattle.chain.specs.declared.segment.Segment.{Segment}
 use Rattle.chain.specs.Buffers.{Good}
 use Rattle.chain.specs.Bytes.{writable_of}
-use Rattle.chain.specs.Pieces.{Pauses, RunsWithin}
-use Rattle.chain.specs.Service.{Site, Course, Spent}
+use Rattle.chain.specs.Service.{Device, Site, Course, Spent}
 use Rattle.negotiation.specs.Features.{block_flush}
 use Rattle.negotiation.specs.Negotiation.{negotiated_of}
 use Rattle.negotiation.specs.Sets.{has}
@@ -17,21 +16,15 @@ use Rattle.sector_cache.specs.Disk.{Disk}
 use Rattle.mmio_window.specs.declared.queue.Queue.{Queue}
 use Rattle.mmio_window.specs.declared.queue.Token.{Token}
 use Rattle.mmio_window.specs.declared.stage.Stage.{Stage}
-use Rattle.mmio_window.specs.Leaving.{LeavesQueue}
 use Rattle.mmio_window.specs.Pieces.{ServesTo, fault_at, opened_at}
 use Rattle.mmio_window.specs.Ready.{KeepsQueues}
 use Rattle.mmio_window.specs.Window.{WindowState, queue_at, with_ring}
 use Rattle.mmio_window.specs.Queue.{IsTaken, entry_of, queue_kind}
-use Rattle.mmio_window.specs.Serving.{after_service, ending_of}
+use Rattle.mmio_window.specs.Serving.{after_service}
 use Rattle.block_device.specs.declared.device.BlockDevice.{BlockDevice}
-use Rattle.block_device.specs.declared.hosting.Asked.{Asked}
 use Rattle.block_device.specs.declared.hosting.Flight.{Flight}
-use Rattle.block_device.specs.declared.hosting.Halt.{Halt}
-use Rattle.block_device.specs.declared.hosting.Halt.TheVariants.{Asks, Pause, End}
 use Rattle.block_device.specs.declared.hosting.Hosted.{Hosted}
 use Rattle.block_device.specs.declared.hosting.Hosted.TheVariants as hosted
-use Rattle.block_device.specs.declared.hosting.Leaving.{Leaving}
-use Rattle.block_device.specs.declared.hosting.Leaving.TheVariants as leaving
 use Rattle.block_device.specs.declared.request.Request.{Request}
 use Rattle.block_device.specs.declared.operation.Verdict.{Verdict}
 use Rattle.block_device.specs.Asking.{IsAsked, IsCompleted, found_by, status_by, unasked_device}
@@ -48,6 +41,15 @@ site_of device m queue disk = record { memory = m; ring = queue; state = extent_
 abbrev pub at_disk : Memory → Queue → Disk → Site Queue Disk
 at_disk m queue disk = record { memory = m; ring = queue; state = disk }
 
+-- The device over a disk that the host has: it serves a chain that asks for nothing, whatever the disk is.
+abbrev pub hosted_device : BlockDevice → Device (Unit {0})
+hosted_device device = record {
+  takes = λ state. true;
+  Gives = λ state readable w given.
+      (disk : Disk) → (unasked_device device).Gives disk readable w (record { state = disk; written = given.written });
+  LacksMemory = λ state readable w. ⊥;
+}
+
 -- Chains were served that ask for nothing, and the one on offer asks for the disk by this request; it isn't touched.
 pub record StopsAt (device : BlockDevice) (start now : Site Queue Disk) (buffers : List Buffer) (token : Token) (request : Request) : Type 0 where
   pub course : Course queue_kind (unasked_device device) start now
@@ -56,23 +58,13 @@ pub record StopsAt (device : BlockDevice) (start now : Site Queue Disk) (buffers
   pub taken : IsTaken now.ring token
   pub asked : IsAsked device now.memory buffers request
 
--- how the chains of a piece end: at one that asks, with the budget spent, or with the service
-abbrev pub Halts : BlockDevice → Budget → Site Queue Disk → Site Queue Disk → List Buffer → Halt → Type 0
-Halts device budget start now buffers (Asks asked) = StopsAt device start now buffers asked.token asked.request
-Halts device budget start now buffers Pause = Pauses queue_kind (unasked_device device) budget start now
-Halts device budget start now buffers (End fault) = RunsWithin queue_kind (unasked_device device) budget start (ending_of fault) now
-
 -- ---- the whole piece, from its opening
 
 -- The piece comes to a chain that asks, behind an opening without a fault; the queue stands open.
-pub record AsksAt (device : BlockDevice) (stage : Stage) (old new : Site Queue Disk) (buffers : List Buffer) (asked : Asked) : Type 0 where
+pub record AsksAt (device : BlockDevice) (stage : Stage) (old new : Site Queue Disk) (buffers : List Buffer) (token : Token) (request : Request) : Type 0 where
   pub opens : fault_at stage old.memory old.ring ≡ None
-  pub stops : StopsAt device (record old { ring = opened_at stage old.memory old.ring }) new buffers asked.token asked.request
+  pub stops : StopsAt device (record old { ring = opened_at stage old.memory old.ring }) new buffers token request
   pub good : Good new.memory buffers
-
-abbrev pub LeavesAt : BlockDevice → Stage → Budget → Site Queue Disk → Site Queue Disk → List Buffer → Leaving → Type 0
-LeavesAt device stage budget old new buffers (leaving.Asks asked) = AsksAt device stage old new buffers asked
-LeavesAt device stage budget old new buffers (leaving.Plain left) = LeavesQueue (unasked_device device) stage budget old new left
 
 -- whether the driver can't flush (5.2.6.2): its writes are stable once they are completed
 abbrev pub wants_stable : WindowState → Bool
@@ -84,7 +76,7 @@ pub record AsksIn (device : BlockDevice) (stage : Stage) (found : Option Queue) 
   pub ready : Some queue ≡ found
   pub last : Queue
   pub request : Request
-  pub asks : AsksAt device stage (site_of device old queue disk) (site_of device new last disk) buffers (record { token = flight.token; request = request })
+  pub asks : AsksAt device stage (site_of device old queue disk) (site_of device new last disk) buffers flight.token request
   pub window : after ≡ with_ring 0 before last
   pub operation : flight.operation ≡ operation_of (wants_stable before) request
   pub runs_are : runs ≡ runs_for request new buffers

@@ -18,34 +18,23 @@ use crate::request::{ID_LEN, Request, RequestStatus};
 use crate::transfer::Done;
 use chain::Chain;
 use guest_memory::GuestMemory;
+use mmio_window::Used;
 use sector_cache::{Image, SectorCache};
 use std::alloc::Allocator;
 
-/// What the used entry of a chain says.
+/// What came of a chain.
 #[derive(Clone, Copy)]
 pub(crate) struct Answer {
-    /// How many of the first writable bytes were written without a gap.
-    pub len: u32,
-    /// Whether any byte was written.
-    pub wrote: bool,
+    pub used: Used,
     /// Whether an image call failed; the used entry doesn't say so.
     pub failed: bool,
-}
-
-impl Answer {
-    /// Of a chain without a writable byte: nothing is done.
-    const NOTHING: Answer = Answer {
-        len: 0,
-        wrote: false,
-        failed: false,
-    };
 }
 
 /// What a chain comes to before the image is asked.
 #[derive(Clone, Copy)]
 pub(crate) enum Begun {
     /// It is answered.
-    Answered(Answer),
+    Answered(Used),
     /// It asks the image for this.
     Asks(Request),
 }
@@ -75,7 +64,7 @@ impl BlockDevice {
         requires lies { IsWithin (I.disk cache.old).sector_count self.now.extent }
         ensures does { Does (block_device self.now) mem.old mem.new chain.now
             (extent_disk self.now.extent (I.disk cache.old))
-            (extent_disk self.now.extent (I.disk cache.new)) result.len result.wrote }
+            (extent_disk self.now.extent (I.disk cache.new)) result.used.len result.used.wrote }
         ensures calls { CallsWithin self.now.extent result.failed (I.disk cache.old) (I.disk cache.new) }
 
         // At each moment only the sectors of its request are touched.
@@ -87,10 +76,16 @@ impl BlockDevice {
         ensures range { SameRange mem.old mem.new }
     {
         match self.begin(mem, chain) {
-            Begun::Answered(answer) => answer,
+            Begun::Answered(used) => Answer {
+                used,
+                failed: false,
+            },
             Begun::Asks(request) => {
                 let done = self.perform(request, mem, chain, cache);
-                finish(mem, chain, done)
+                Answer {
+                    used: finish(mem, chain, done),
+                    failed: done.failed,
+                }
             }
         }
     }
@@ -103,7 +98,7 @@ impl BlockDevice {
     {
         let writable = chain.writable_len();
         if writable == 0 {
-            return Begun::Answered(Answer::NOTHING);
+            return Begun::Answered(Used::UNWRITTEN);
         }
         match self.request(mem, chain, writable - 1) {
             Request::Rejected(status) => {
@@ -162,22 +157,20 @@ impl BlockDevice {
 }
 
 /// Writes the status of a request that is done, behind all other writable bytes.
-pub(crate) fn finish<M: Allocator>(mem: &mut GuestMemory<M>, chain: &Chain, done: Done) -> Answer
+pub(crate) fn finish<M: Allocator>(mem: &mut GuestMemory<M>, chain: &Chain, done: Done) -> Used
     requires good { Good mem.old chain.now }
     requires room { done.len < length (writable_of chain.now) }
     ensures status { mem.new ≡ with_status mem.old chain.now done.status }
     ensures len { result.len ≡ used_by done.len (length (writable_of chain.now)) }
     ensures wrote { result.wrote ≡ true }
-    ensures failed { result.failed ≡ done.failed }
     ensures range { SameRange mem.old mem.new }
 {
     let writable = chain.writable_len();
     let room = writable - 1;
     chain.write_at(mem, room, &[done.status.code()]);
     let len = if done.len == room { writable } else { done.len };
-    Answer {
+    Used {
         len: len as u32,
         wrote: true,
-        failed: done.failed,
     }
 }

@@ -53,9 +53,6 @@ impl<I: Image, C: Allocator + Copy> Device<SectorCache<I, C>> for Cached {
     ) -> Result<Used, Infallible> {
         let answer = self.device.answer(mem, chain, cache);
         self.failed |= answer.failed;
-        Ok(Used {
-            len: answer.len,
-            wrote: answer.wrote,
-        })
+        Ok(answer.used)
     }
 }

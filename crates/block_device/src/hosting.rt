@@ -10,7 +10,7 @@ ghost use Rattle.mmio_window.specs.Queue.{IsTaken, LiesIn, made_as};
 ghost use Rattle.mmio_window.specs.Soundness.{IsSound};
 ghost use Rattle.mmio_window.specs.Window.{queue_at};
 ghost use Rattle.block_device.specs.Extent.{sector_len};
-ghost use Rattle.block_device.specs.Hosting.{CompletesIn, Halts, HostsTo, IfAsks, IsGivenBack, IsInFlight, LeavesAt, at_disk, site_of};
+ghost use Rattle.block_device.specs.Hosting.{CompletesIn, HostsTo, IfAsks, IsGivenBack, IsInFlight};
 ghost use Rattle.block_device.specs.Operation.{LiesInside};
 
 use crate::answer::{Begun, finish};
@@ -18,9 +18,9 @@ use crate::device::{BlockDevice, REQUESTQ};
 use crate::operation::{Operation, Verdict};
 use crate::request::Request;
 use crate::transfer::Done;
-use chain::{Budget, Chain, Fault, Progress, Runs, Virtqueue};
+use chain::{Budget, Chain, Progress, Runs, Virtqueue};
 use guest_memory::GuestMemory;
-use mmio_window::{Left, Queue, Stage, Token, Window, show};
+use mmio_window::{Device, Left, Queue, Stage, Token, Used, Window, serve_queue, show};
 use negotiation::{Features, Flags};
 use std::alloc::Allocator;
 
@@ -31,31 +31,10 @@ pub struct Flight {
     pub operation: Operation,
 }
 
-/// A chain that asks for the disk by this request.
+/// A device in a piece of its service. It leaves a chain that asks for the disk.
 #[derive(Drop)]
-pub(crate) struct Asked {
-    pub token: Token,
-    pub request: Request,
-}
-
-/// Why no more chains are served.
-#[derive(Drop)]
-pub(crate) enum Halt {
-    /// The chain on offer asks for the disk.
-    Asks(Asked),
-    /// The budget is spent, and a chain is on offer.
-    Pause,
-    /// The service ends, by this fault if there is one.
-    End(Option<Fault>),
-}
-
-/// How a piece leaves its queue.
-#[derive(Drop)]
-pub(crate) enum Leaving {
-    /// Open, at a chain that asks for the disk.
-    Asks(Asked),
-    /// As a piece does that asks for nothing.
-    Plain(Left),
+struct OnHost {
+    device: BlockDevice,
 }
 
 /// How a piece came out.
@@ -98,88 +77,59 @@ impl BlockDevice {
         let Some(queue) = window.queue(REQUESTQ) else {
             return Hosted::Done;
         };
-        match self.host_queue(mem, queue, stage, budget, room) {
-            Leaving::Asks(asked) => {
-                let operation = self.tell(mem, room, asked.request, stable, runs);
+        let mut device = OnHost { device: *self };
+        match serve_queue(&mut device, &mut (), mem, queue, stage, budget, room) {
+            Err(asked) => {
+                let operation = self.tell(mem, room, asked.why, stable, runs);
                 Hosted::Asks(Flight {
                     token: asked.token,
                     operation,
                 })
             }
-            Leaving::Plain(left) => match show(window, left, room) {
+            Ok(left) => match show(window, left, room) {
                 Progress::More => Hosted::More,
                 Progress::Done => Hosted::Done,
             },
         }
     }
+}
 
-    /// Serves a piece: its first one opens the queue, and its end closes it.
-    fn host_queue<M: Allocator>(
-        &self,
-        mem: &mut GuestMemory<M>,
-        queue: &mut Queue,
-        stage: Stage,
-        budget: Budget,
-        chain: &mut Chain,
-    ) -> Leaving
-        requires queue { LiesIn mem.old queue.old }
-        ensures leaves { (disk : Disk) → LeavesAt self.now stage budget (site_of self.now mem.old queue.old disk)
-            (site_of self.now mem.new queue.new disk) chain.new result }
-        ensures range { SameRange mem.old mem.new }
-        ensures queue { LiesIn mem.new queue.new }
-        ensures made { made_as queue.new ≡ made_as queue.old }
-    {
-        if let Err(fault) = stage.open(queue, mem) {
-            return Leaving::Plain(Left::Closed {
-                fault: Some(fault),
-                wanted: queue.close(mem),
-            });
-        }
-        match self.serve_unasked(mem, queue, budget, chain) {
-            Halt::Asks(asked) => Leaving::Asks(asked),
-            Halt::Pause => Leaving::Plain(Left::Open),
-            Halt::End(fault) => Leaving::Plain(Left::Closed {
-                fault,
-                wanted: queue.close(mem),
-            }),
-        }
+impl Device<()> for OnHost {
+    type Refusal = Request;
+
+    ghost use Rattle.block_device.specs.declared.device.BlockDevice.{BlockDevice};
+    ghost use Rattle.block_device.specs.Asking.{IsAsked};
+    ghost use Rattle.block_device.specs.Hosting.{hosted_device};
+
+    ghost State = { Unit {0} };
+
+    ghost state = { λ here host. tt };
+
+    ghost Setup = { BlockDevice };
+
+    ghost setup = { λ here host. here.device };
+
+    ghost device = { λ fixed. hosted_device fixed };
+
+    ghost Refuses = { λ fixed disk memory buffers request. IsAsked fixed memory buffers request };
+
+    ghost IsReady = { λ here host. Unit {0} };
+
+    ghost Keeps = { λ here host there later. Unit {0} };
+
+    fn takes(&self, _host: &()) -> bool {
+        true
     }
 
-    /// Serves chains until one asks for the disk, none is on offer, one has a fault, or the budget is spent.
-    fn serve_unasked<M: Allocator>(
-        &self,
+    fn serve<M: Allocator>(
+        &mut self,
         mem: &mut GuestMemory<M>,
-        queue: &mut Queue,
-        budget: Budget,
-        chain: &mut Chain,
-    ) -> Halt
-        requires queue { LiesIn mem.old queue.old }
-        ensures halts { (disk : Disk) → Halts self.now budget (at_disk mem.old queue.old disk)
-            (at_disk mem.new queue.new disk) chain.new result }
-        ensures good { Good mem.new chain.new }
-        ensures range { SameRange mem.old mem.new }
-        ensures queue { LiesIn mem.new queue.new }
-        ensures made { made_as queue.new ≡ made_as queue.old }
-    {
-        let mut left = budget;
-        loop {
-            match queue.take(mem, chain) {
-                Ok(Some(token)) => {
-                    if left.is_spent() {
-                        return Halt::Pause;
-                    }
-                    left.spend(chain);
-                    match self.begin(mem, chain) {
-                        Begun::Answered(answer) => {
-                            queue.give(mem, token, answer.len, answer.wrote);
-                            chain.count(answer.len);
-                        }
-                        Begun::Asks(request) => return Halt::Asks(Asked { token, request }),
-                    }
-                }
-                Ok(None) => return Halt::End(None),
-                Err(fault) => return Halt::End(Some(fault)),
-            }
+        chain: &Chain,
+        _host: &mut (),
+    ) -> Result<Used, Request> {
+        match self.device.begin(mem, chain) {
+            Begun::Answered(used) => Ok(used),
+            Begun::Asks(request) => Err(request),
         }
     }
 }
@@ -230,8 +180,8 @@ impl Flight {
     {
         let room = chain.writable_len() - 1;
         let done = Done::by(self.operation.kind, verdict, room);
-        let answer = finish(mem, chain, done);
-        queue.give(mem, self.token, answer.len, answer.wrote);
-        chain.count(answer.len);
+        let used = finish(mem, chain, done);
+        queue.give(mem, self.token, used.len, used.wrote);
+        chain.count(used.len);
     }
 }

@@ -1,6 +1,6 @@
 -- One service of a queue as its driver sees it, for any device: the memory, the window, and behind them the
 -- device's own state.
-use Rattle.std.specs.Prelude.{◌≡◌, ℕ, Bool, if◌then◌else◌, Option, None, Some, Result, Ok, Err}
+use Rattle.std.specs.Prelude.{◌≡◌, ℕ, Bool, if◌then◌else◌, Option, None, Some}
 use Rattle.guest_memory.specs.Memory.{Memory}
 use Rattle.chain.specs.declared.fault.Fault.{Fault}
 use Rattle.chain.specs.Service.{Device, Ending, Spent, Faulted, Refused, IsService}
@@ -8,15 +8,10 @@ use Rattle.mmio_window.specs.declared.queue.Queue.{Queue}
 use Rattle.mmio_window.specs.Queue.{queue_kind}
 use Rattle.mmio_window.specs.Window.{WindowState, with_ring, with_used_interrupt, with_reset_asked}
 
--- why a service ends, by the fault that it met: of a device that always has memory
+-- why a service ends that isn't refused, by the fault that it met
 abbrev pub ending_of : Option Fault → Ending
 ending_of None = Spent
 ending_of (Some fault) = Faulted fault
-
--- The same of a device that may have no memory for a chain: its service is refused exactly there.
-abbrev pub ending_of_result : {E : Type 0} → Result (Option Fault) E → Ending
-ending_of_result (Ok fault) = ending_of fault
-ending_of_result (Err why) = Refused
 
 -- after a fault, and after nothing else, the device asks to be reset (2.1.2)
 abbrev pub after_ending : Ending → WindowState → WindowState

@@ -33,7 +33,7 @@ returns-in-Answered-clause-own g c =
 pub returns-in-Answered-clause-does : goal.returns-in-Answered-clause-does
 returns-in-Answered-clause-does g c =
     let disk = extent_disk c.args.self.now.extent (g.I.Image.disk c.args.cache.now) in
-    served_does c.args.self.now c.args.mem.now c.begin.new.mem c.args.chain.now disk disk c.in-Answered.answer.len c.in-Answered.answer.wrote (c.in-Answered.ensures.begun.0 disk)
+    served_does c.args.self.now c.args.mem.now c.begin.new.mem c.args.chain.now disk disk c.in-Answered.used.len c.in-Answered.used.wrote (c.in-Answered.ensures.begun disk)
 
 pub returns-in-Answered-clause-touches : goal.returns-in-Answered-clause-touches
 returns-in-Answered-clause-touches g c = untouched c.args.self.now.extent
