@@ -12,3 +12,4 @@ pub mod Scattering
 pub mod Servicing
 pub mod Simulating
 pub mod Partial
+pub mod Setups

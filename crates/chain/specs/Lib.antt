@@ -5,4 +5,5 @@ pub mod Bytes
 pub mod Held
 pub mod Pieces
 pub mod Runs
+pub mod Setup
 pub mod Service

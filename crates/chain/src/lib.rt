@@ -15,6 +15,7 @@ mod fault;
 mod laws;
 mod runs;
 mod segment;
+mod setup;
 mod virtqueue;
 
 pub use budget::{Budget, Progress};
@@ -26,4 +27,5 @@ pub use laws::{
 };
 pub use runs::Runs;
 pub use segment::{Buffer, Segment};
+pub use setup::{Areas, Setup};
 pub use virtqueue::Virtqueue;

@@ -3,11 +3,11 @@ use Rattle.std.proofs.Common.{◌≡◌, ◌∙◌, ℕ, Bool, true, false, cond
 use Rattle.std.proofs.lemmas.Bool.{eqb-true}
 use Rattle.std.specs.Option.{option_and_then, option_map}
 use Rattle.guest_memory.specs.Memory.{Memory}
+use Rattle.chain.specs.declared.setup.Setup.{Setup}
+use Rattle.chain.specs.Setup.{RingState, new_ring}
 use Rattle.negotiation.specs.Negotiation.{NegotiationState, negotiated_of, standing}
 use Rattle.negotiation.specs.Sets.{has, Has}
 use Rattle.negotiation.specs.Status.{features_ok}
-use Rattle.split_ring.specs.Ring.{SplitRingState}
-use Rattle.packed_ring.specs.Ring.{PackedRingState}
 use Rattle.mmio_window.specs.declared.queue.Queue.{Queue}
 use Rattle.mmio_window.specs.declared.queue.Queue.TheVariants.{Split, Packed}
 use Rattle.mmio_window.specs.declared.queue_registers.QueueRegisters.{QueueRegisters}
@@ -24,25 +24,21 @@ use Rattle.mmio_window.proofs.Rings.{LiesIn-same, is_made}
 -- ---- a ring
 
 -- a ring that is served so far was made as it was
-split_made_by_test : (ring served : SplitRingState) (place left passed : ℕ) (reached : Bool) (to : Queue)
-    → option_map Split (cond reached (Some (record ring { place = place; left = left; passed = passed })) None) ≡ Some to
-    → made_as to ≡ made_as (Split ring)
-split_made_by_test ring served place left passed false to e = cc
-split_made_by_test ring served place left passed true to e =
-    let same : Split (record ring { place = place; left = left; passed = passed }) ≡ to = cc in
-    sym (ap made_as same)
-
-packed_made_by_test : (ring served : PackedRingState) (place left passed : ℕ) (reached : Bool) (to : Queue)
-    → option_map Packed (cond reached (Some (record ring { place = place; left = left; passed = passed })) None) ≡ Some to
-    → made_as to ≡ made_as (Packed ring)
-packed_made_by_test ring served place left passed false to e = cc
-packed_made_by_test ring served place left passed true to e =
-    let same : Packed (record ring { place = place; left = left; passed = passed }) ≡ to = cc in
-    sym (ap made_as same)
+made_by_test : (of : RingState → Queue) (ring : RingState) (place pending used_count : ℕ) (reached : Bool) (to : Queue)
+    → (kept : (r : RingState) → r.setup ≡ ring.setup → made_as (of r) ≡ made_as (of ring))
+    → option_map of (cond reached (Some (record ring { place = place; pending = pending; used_count = used_count })) None) ≡ Some to
+    → made_as to ≡ made_as (of ring)
+made_by_test of ring place pending used_count false to kept e = cc
+made_by_test of ring place pending used_count true to kept e =
+    let served : RingState = record ring { place = place; pending = pending; used_count = used_count } in
+    let same : of served ≡ to = cc in
+    sym (ap made_as same) ∙ kept served refl
 
 made_as-served_to : (reached : Reached) (ring to : Queue) → served_to reached ring ≡ Some to → made_as to ≡ made_as ring
-made_as-served_to reached (Split ring) to e = split_made_by_test ring ring reached.place reached.left reached.passed _ to e
-made_as-served_to reached (Packed ring) to e = packed_made_by_test ring ring reached.place reached.left reached.passed _ to e
+made_as-served_to reached (Split ring) to e =
+    made_by_test Split ring reached.place reached.pending reached.used_count _ to (λ r same. ap (λ (s : Setup). Split (new_ring s)) same) e
+made_as-served_to reached (Packed ring) to e =
+    made_by_test Packed ring reached.place reached.pending reached.used_count _ to (λ r same. ap (λ (s : Setup). Packed (new_ring s)) same) e
 
 -- ---- a queue
 

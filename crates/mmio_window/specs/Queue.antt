@@ -4,6 +4,7 @@ use Rattle.guest_memory.specs.Memory.{Memory}
 use Rattle.chain.specs.declared.segment.Buffer.{Buffer}
 use Rattle.chain.specs.declared.fault.Fault.{Fault}
 use Rattle.chain.specs.Service.{Entry, Kind}
+use Rattle.chain.specs.Setup.{new_ring}
 use Rattle.split_ring.specs.Kind as split
 use Rattle.split_ring.specs.Kind.{split_kind}
 use Rattle.split_ring.specs.Ring as split_ring
@@ -22,13 +23,13 @@ LiesIn m (Packed ring) = packed_ring.LiesIn m ring.setup
 
 -- the queue as it was when it was made ready: of the same size, areas and features, at its first place
 abbrev pub made_as : Queue → Queue
-made_as (Split ring) = Split (split_ring.new_ring ring.setup)
-made_as (Packed ring) = Packed (packed_ring.new_ring ring.setup)
+made_as (Split ring) = Split (new_ring ring.setup)
+made_as (Packed ring) = Packed (new_ring ring.setup)
 
 -- how much a service may still take: so many chains of a split ring, so many places of a packed one
 abbrev pub left_of : Queue → ℕ
-left_of (Split ring) = ring.left
-left_of (Packed ring) = ring.left
+left_of (Split ring) = ring.pending
+left_of (Packed ring) = ring.pending
 
 -- the entry that a taken chain is given back by
 abbrev pub entry_of : Token → Entry

@@ -1,14 +1,14 @@
 -- The registers of one queue (4.2.2): what its driver's writes make of them, and when it is made ready.
 use Rattle.std.specs.Prelude.{ℕ, ◌+◌, ◌*◌, ◌/◌, ◌%◌, ◌^◌, ◌==◌, ◌&&◌, if◌then◌else◌, Option, None, Some, is_some, is_none}
 use Rattle.guest_memory.specs.Memory.{Memory}
+use Rattle.chain.specs.declared.setup.Setup.{Setup}
+use Rattle.chain.specs.Setup.{new_ring}
 use Rattle.negotiation.specs.Features.{indirect_desc, event_idx, ring_packed}
 use Rattle.negotiation.specs.Negotiation.{NegotiationState, negotiated_of}
 use Rattle.negotiation.specs.Sets.{has}
 use Rattle.negotiation.specs.Status.{features_ok}
 use Rattle.split_ring.specs.Ring as split
-use Rattle.split_ring.specs.Ring.{SplitSetup}
 use Rattle.packed_ring.specs.Ring as packed
-use Rattle.packed_ring.specs.Ring.{PackedSetup}
 use Rattle.mmio_window.specs.declared.queue.Queue.{Queue}
 use Rattle.mmio_window.specs.declared.queue.Queue.TheVariants.{Split, Packed}
 use Rattle.mmio_window.specs.declared.queue_registers.QueueRegisters.{QueueRegisters}
@@ -19,32 +19,31 @@ use Rattle.mmio_window.specs.declared.register.Register.TheVariants.{QueueNum, Q
 abbrev pub no_queue : QueueRegisters
 no_queue = record { number = 0; descriptor_area = 0; driver_area = 0; device_area = 0; ring = None }
 
--- how a split ring of these registers and of these negotiated features is set up (2.7)
-abbrev pub split_setup_of : ℕ → QueueRegisters → SplitSetup
-split_setup_of features queue =
-    split.setup_of queue.number queue.descriptor_area queue.driver_area queue.device_area (has features indirect_desc)
-    (has features event_idx)
-
--- how a packed ring of them is set up (2.8)
-abbrev pub packed_setup_of : ℕ → QueueRegisters → PackedSetup
-packed_setup_of features queue =
-    packed.setup_of queue.number queue.descriptor_area queue.driver_area queue.device_area (has features indirect_desc)
-    (has features event_idx)
+-- how a ring of these registers and of these negotiated features is set up
+abbrev pub setup_of : ℕ → QueueRegisters → Setup
+setup_of features queue = record {
+  size = queue.number;
+  desc = queue.descriptor_area;
+  driver = queue.driver_area;
+  device = queue.device_area;
+  indirect = has features indirect_desc;
+  event_idx = has features event_idx;
+}
 
 -- a split ring, if its size is a power of two up to 256, and its areas are aligned and lie in the memory (2.7)
-abbrev pub split_ring_of : Memory → SplitSetup → Option Queue
-split_ring_of m setup = if split.can_set_up m setup then Some (Split (split.new_ring setup)) else None
+abbrev pub split_ring_of : Memory → Setup → Option Queue
+split_ring_of m setup = if split.can_set_up m setup then Some (Split (new_ring setup)) else None
 
 -- a packed ring, if its size is any number from 1 to 256, and its areas are aligned and lie in the memory (2.8)
-abbrev pub packed_ring_of : Memory → PackedSetup → Option Queue
-packed_ring_of m setup = if packed.can_set_up m setup then Some (Packed (packed.new_ring setup)) else None
+abbrev pub packed_ring_of : Memory → Setup → Option Queue
+packed_ring_of m setup = if packed.can_set_up m setup then Some (Packed (new_ring setup)) else None
 
 -- the ring that a queue gets as it is made ready, at its first place: a packed one exactly where RING_PACKED was
 -- negotiated (6)
 abbrev pub ring_of : Memory → ℕ → QueueRegisters → Option Queue
 ring_of m features queue =
-    if has features ring_packed then packed_ring_of m (packed_setup_of features queue)
-    else split_ring_of m (split_setup_of features queue)
+    if has features ring_packed then packed_ring_of m (setup_of features queue)
+    else split_ring_of m (setup_of features queue)
 
 -- a write to QueueReady: 0 stops the queue; 1 makes it ready where it isn't, the features are settled, and
 -- there is a ring for it; other values do nothing

@@ -21,13 +21,13 @@ use Rattle.mmio_window.specs.Window.{WindowState}
 
 -- how far it is served
 abbrev pub reached_of : Queue → Reached
-reached_of (Split ring) = record { place = ring.place; left = ring.left; passed = ring.passed }
-reached_of (Packed ring) = record { place = ring.place; left = ring.left; passed = ring.passed }
+reached_of (Split ring) = record { place = ring.place; pending = ring.pending; used_count = ring.used_count }
+reached_of (Packed ring) = record { place = ring.place; pending = ring.pending; used_count = ring.used_count }
 
 -- the queue, served so far, if any service comes so far
 abbrev pub served_to : Reached → Queue → Option Queue
-served_to reached (Split ring) = option_map Split (split.served_to reached.place reached.left reached.passed ring)
-served_to reached (Packed ring) = option_map Packed (packed.served_to reached.place reached.left reached.passed ring)
+served_to reached (Split ring) = option_map Split (split.served_to reached.place reached.pending reached.used_count ring)
+served_to reached (Packed ring) = option_map Packed (packed.served_to reached.place reached.pending reached.used_count ring)
 
 -- ---- the registers of a queue
 

@@ -8,6 +8,7 @@ mod saved;
 
 use crate::queue::Queue;
 use crate::register::Register;
+use chain::Setup;
 use guest_memory::GuestMemory;
 use negotiation::{Features, Flags, Negotiation, Status};
 use packed_ring::PackedRing;
@@ -100,18 +101,18 @@ impl QueueRegisters {
     fn new_ring<A: Allocator>(&self, features: Features, mem: &GuestMemory<A>) -> Option<Queue>
         ensures { result ≡ ring_of mem.now (feature_bits features) self.now }
     {
-        let n = self.number;
-        let descriptors = self.descriptor_area;
-        let driver = self.driver_area;
-        let device = self.device_area;
-        let indirect = features.contains(Features::INDIRECT_DESC);
-        let event_idx = features.contains(Features::EVENT_IDX);
+        let setup = Setup {
+            size: self.number,
+            desc: self.descriptor_area,
+            driver: self.driver_area,
+            device: self.device_area,
+            indirect: features.contains(Features::INDIRECT_DESC),
+            event_idx: features.contains(Features::EVENT_IDX),
+        };
         if features.contains(Features::RING_PACKED) {
-            let ring = PackedRing::new(mem, n, descriptors, driver, device, indirect, event_idx)?;
-            Some(Queue::Packed(ring))
+            Some(Queue::Packed(PackedRing::new(mem, setup)?))
         } else {
-            let ring = SplitRing::new(mem, n, descriptors, driver, device, indirect, event_idx)?;
-            Some(Queue::Split(ring))
+            Some(Queue::Split(SplitRing::new(mem, setup)?))
         }
     }
 }

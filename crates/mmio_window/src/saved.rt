@@ -6,9 +6,9 @@ pub struct Reached {
     /// Its place.
     pub place: u16,
     /// How much its service may still take, where one is paused.
-    pub left: u16,
-    /// How much its service has passed, where one is paused.
-    pub passed: u16,
+    pub pending: u16,
+    /// How much its service has used, where one is paused.
+    pub used_count: u16,
 }
 
 /// The registers of one queue, and how far it is served while it is ready.

@@ -1,4 +1,3 @@
-pub mod Areas
 pub mod Positions
 pub mod Passing
 pub mod Outcomes

@@ -5,7 +5,7 @@ ghost use Rattle.chain.specs.Service.{HasAtMostOneChain, HasSomeChain};
 ghost use Rattle.guest_memory.specs.Memory.{Memory};
 ghost use Rattle.suppression.specs.Places.{Passed};
 ghost use Rattle.suppression.specs.Sets.{PackedWantsOf};
-ghost use Rattle.packed_ring.specs.Ring.{PackedRingState};
+ghost use Rattle.chain.specs.Setup.{RingState};
 ghost use Rattle.packed_ring.specs.Kind.{HasPassed, Wants, first_passed, opened, packed_kind, past};
 
 /// A packed ring has one chain or one fault at each place: at most one chain, at most one fault, not both, and
@@ -18,16 +18,16 @@ pub fn one_chain_or_fault_at_a_place()
 /// What a service has passed are the places of its lists: behind one more list it has the same first place, and
 /// has passed the places of that list beside those before.
 pub fn a_list_passes_its_places()
-    ensures first { (ring : PackedRingState) (length : ℕ) → ring.passed + length ≤ 2 * ring.setup.size
+    ensures first { (ring : RingState) (length : ℕ) → ring.used_count + length ≤ 2 * ring.setup.size
         → first_passed (past ring length) ≡ first_passed ring }
-    ensures passed { (ring : PackedRingState) (length place : ℕ) → ring.place < 2 * ring.setup.size → ring.passed + length ≤ 2 * ring.setup.size
+    ensures passed { (ring : RingState) (length place : ℕ) → ring.place < 2 * ring.setup.size → ring.used_count + length ≤ 2 * ring.setup.size
         → HasPassed (past ring length) place ↔ (HasPassed ring place ⊎ Passed (2 * ring.setup.size) ring.place length place) }
 {}
 
 /// Whether a notification is wanted turns on the set of places that the service has passed, of which there are none
 /// as it opens.
 pub fn a_notification_is_wanted_of_the_places_passed()
-    ensures none_yet { (m : Memory) (ring : PackedRingState) (place : ℕ) → ¬ HasPassed (opened m ring) place }
-    ensures wanted_of { (m : Memory) (ring : PackedRingState) → Wants m ring
+    ensures none_yet { (m : Memory) (ring : RingState) (place : ℕ) → ¬ HasPassed (opened m ring) place }
+    ensures wanted_of { (m : Memory) (ring : RingState) → Wants m ring
         ↔ PackedWantsOf m ring.setup.driver ring.setup.size ring.setup.event_idx (HasPassed ring) }
 {}

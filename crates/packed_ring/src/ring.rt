@@ -1,15 +1,16 @@
 //! The ring: its areas, its place, and the four calls of a service.
 
-ghost use Rattle.std.specs.Prelude.{◌≡◌, ◌*◌, ◌<◌, ◌↔◌, if◌then◌else◌, IsTrue, IsSome, IfSome};
+ghost use Rattle.std.specs.Prelude.{◌≡◌, ◌*◌, ◌<◌, ◌≤◌, ◌↔◌, if◌then◌else◌, IsTrue, IsSome, IfSome};
 ghost use Rattle.guest_memory.specs.Memory.{SameRange};
-ghost use Rattle.packed_ring.specs.Ring.{IsAligned, IsQueueSize, IsUsable, LiesIn, can_set_up, descriptor_addr, head_of, id_of, is_available, new_ring, setup_of, used_flags, with_used, wrap_counter};
+ghost use Rattle.chain.specs.Setup.{new_ring};
+ghost use Rattle.packed_ring.specs.Ring.{IsQueueSize, IsUsable, LiesIn, areas_of, can_set_up, descriptor_addr, head_of, id_of, is_available, is_queue_size, used_flags, with_used, wrap_counter};
 ghost use Rattle.packed_ring.specs.Kind.{IsTaken, entry_of, first_passed, packed_kind};
 
 mod reached;
 mod view;
 
 use crate::walk::{Table, append_list};
-use chain::{Chain, Fault, Virtqueue};
+use chain::{Areas, Chain, Fault, Setup, Virtqueue};
 use guest_memory::GuestMemory;
 use indirect::WRITE;
 use std::alloc::Allocator;
@@ -30,35 +31,26 @@ const USED: u16 = 1 << 15;
 /// to each call, and the areas lie in it.
 #[derive(Drop)]
 pub struct PackedRing {
-    size: u16,
-    desc: u64,
-    driver: u64,
-    device: u64,
-    indirect: bool,
-    event_idx: bool,
+    setup: Setup,
     place: u16,
-    left: u16,
-    passed: u16,
+    pending: u16,
+    used_count: u16,
 }
 
 impl Model for PackedRing {
     ghost use Rattle.std.specs.Prelude.{◌<◌, ◌≤◌, ◌+◌, ◌*◌};
-    ghost use Rattle.packed_ring.specs.Ring.{PackedRingState, IsQueueSize, setup_of};
+    ghost use Rattle.chain.specs.Setup.{RingState};
+    ghost use Rattle.packed_ring.specs.Ring.{IsQueueSize};
 
-    ghost Value = { PackedRingState };
+    ghost Value = { RingState };
 
-    ghost view = { λ r. record {
-      setup = setup_of r.size r.desc r.driver r.device r.indirect r.event_idx;
-      place = r.place;
-      left = r.left;
-      passed = r.passed;
-    } };
+    ghost view = { λ r. record { setup = r.setup; place = r.place; pending = r.pending; used_count = r.used_count } };
 
     ghost invariant = { λ r. record {
-      number : IsQueueSize r.size;
-      below : r.place < 2 * r.size;
-      fewer : r.passed < 2 * r.size;
-      most : 0 < r.left → r.passed + r.left ≤ r.size;
+      number : IsQueueSize r.setup.size;
+      below : r.place < 2 * r.setup.size;
+      fewer : r.used_count < 2 * r.setup.size;
+      most : 0 < r.pending → r.used_count + r.pending ≤ r.setup.size;
     } };
 }
 
@@ -76,53 +68,36 @@ pub struct Token {
 impl PackedRing {
     /// A ring of `n` descriptors whose areas begin at the three addresses, before its first service. There
     /// is none where `n` is no queue size, or an area isn't aligned or isn't inside the memory (2.8).
-    pub fn new<A: Allocator>(
-        mem: &GuestMemory<A>,
-        n: u32,
-        desc: u64,
-        driver: u64,
-        device: u64,
-        indirect: bool,
-        event_idx: bool,
-    ) -> Option<PackedRing>
-        ensures value { result ≡ (if can_set_up mem.now (setup_of n desc driver device indirect event_idx)
-            then Some (new_ring (setup_of n desc driver device indirect event_idx)) else None) }
-        ensures usable { IsSome result ↔ IsUsable mem.now (setup_of n desc driver device indirect event_idx) }
+    pub fn new<A: Allocator>(mem: &GuestMemory<A>, setup: Setup) -> Option<PackedRing>
+        ensures value { result ≡ (if can_set_up mem.now setup then Some (new_ring setup) else None) }
+        ensures usable { IsSome result ↔ IsUsable mem.now setup }
         ensures lies { IfSome result (λ ring. LiesIn mem.now ring.setup) }
     {
-        if !is_queue_size(n) {
+        if !is_queue_size(setup.size) || !setup.fits_in(mem, areas_of(setup.size)) {
             return None;
         }
-        let ring = PackedRing {
-            size: n as u16,
-            desc,
-            driver,
-            device,
-            indirect,
-            event_idx,
+        Some(PackedRing {
+            setup,
             place: 0,
-            left: 0,
-            passed: 0,
-        };
-        if ring.is_aligned() && ring.lies_in(mem) {
-            Some(ring)
-        } else {
-            None
-        }
-    }
-
-    fn is_aligned(&self) -> bool
-        ensures { IsTrue result ↔ IsAligned self.now.setup }
-    {
-        self.desc % 16 == 0 && self.driver % 4 == 0 && self.device % 4 == 0
+            pending: 0,
+            used_count: 0,
+        })
     }
 
     /// Whether the areas lie in this memory, as each call of a service wants.
     pub fn lies_in<A: Allocator>(&self, mem: &GuestMemory<A>) -> bool
         ensures { IsTrue result ↔ LiesIn mem.now self.now.setup }
     {
-        let n = u64::from(self.size);
-        mem.holds(self.desc, 16 * n) && mem.holds(self.driver, 4) && mem.holds(self.device, 4)
+        self.setup.lies_in(mem, areas_of(self.setup.size))
+    }
+
+    // The number of descriptors.
+    fn size(&self) -> u16
+        ensures value { result ≡ self.now.setup.size }
+        ensures some { 0 < result }
+        ensures most { result ≤ 256 }
+    {
+        self.setup.size as u16
     }
 
     /// The position of the ring's place.
@@ -130,14 +105,14 @@ impl PackedRing {
         ensures value { result ≡ head_of self.now }
         ensures below { result < self.now.setup.size }
     {
-        self.place % self.size
+        self.place % self.size()
     }
 
     /// The wrap counter of the ring's place, as whether it is 1 (2.8.1).
     fn wrap_counter(&self) -> bool
         ensures { wrap_counter self.now ≡ (if result then 1 else 0) }
     {
-        self.place < self.size
+        self.place < self.size()
     }
 
     #[tactic(auto, using(guest_memory::proofs::Ranges::inside_part, guest_memory::proofs::Ranges::inside_same))]
@@ -147,8 +122,8 @@ impl PackedRing {
         ensures { result ≡ is_available mem.now self.now }
     {
         let offset = 16 * u64::from(self.head());
-        prove!(mem.holds(self.desc, 16 * u64::from(self.size)));
-        let flags = mem.read_u16(self.desc + offset + 14);
+        prove!(mem.holds(self.setup.desc, 16 * u64::from(self.setup.size)));
+        let flags = mem.read_u16(self.setup.desc + offset + 14);
         (flags & AVAIL != 0) == self.wrap_counter() && (flags & USED != 0) != self.wrap_counter()
     }
 
@@ -160,8 +135,8 @@ impl PackedRing {
         ensures { result ≡ id_of mem.now (descriptor_addr self.now.setup.desc position) }
     {
         let offset = 16 * u64::from(position);
-        prove!(mem.holds(self.desc, 16 * u64::from(self.size)));
-        mem.read_u16(self.desc + offset + 12)
+        prove!(mem.holds(self.setup.desc, 16 * u64::from(self.setup.size)));
+        mem.read_u16(self.setup.desc + offset + 12)
     }
 
     #[tactic(auto, using(guest_memory::proofs::Ranges::inside_part, guest_memory::proofs::Ranges::inside_same))]
@@ -172,8 +147,8 @@ impl PackedRing {
         ensures range { SameRange mem.old mem.new }
     {
         let offset = 16 * u64::from(self.head());
-        prove!(mem.holds(self.desc, 16 * u64::from(self.size)));
-        let descriptor = self.desc + offset;
+        prove!(mem.holds(self.setup.desc, 16 * u64::from(self.setup.size)));
+        let descriptor = self.setup.desc + offset;
         mem.write_u32(descriptor + 8, len);
         mem.write_u16(descriptor + 12, id);
         mem.write_u16(descriptor + 14, flags_of_used(self.wrap_counter(), wrote));
@@ -184,8 +159,8 @@ impl PackedRing {
         ensures value { result ≡ first_passed self.now }
         ensures below { result < 2 * self.now.setup.size }
     {
-        let places = 2 * self.size;
-        (self.place + (places - self.passed)) % places
+        let places = 2 * self.size();
+        (self.place + (places - self.used_count)) % places
     }
 }
 
@@ -200,7 +175,7 @@ impl Virtqueue for PackedRing {
 
     ghost IsTaken = { IsTaken };
 
-    ghost left_of = { λ ring. ring.left };
+    ghost left_of = { λ ring. ring.pending };
 
     ghost made_as = { λ ring. new_ring ring.setup };
 
@@ -208,8 +183,8 @@ impl Virtqueue for PackedRing {
     /// so it never has a fault.
     fn open<A: Allocator>(&mut self, mem: &GuestMemory<A>) -> Result<(), Fault> {
         let _ = mem;
-        self.left = self.size;
-        self.passed = 0;
+        self.pending = self.size();
+        self.used_count = 0;
         Ok(())
     }
 
@@ -220,13 +195,13 @@ impl Virtqueue for PackedRing {
         chain: &mut Chain,
     ) -> Result<Option<Token>, Fault> {
         chain.clear();
-        if self.left == 0 || !self.is_available(mem) {
+        if self.pending == 0 || !self.is_available(mem) {
             return Ok(None);
         }
         let table = Table {
-            addr: self.desc,
-            size: self.size,
-            indirect: self.indirect,
+            addr: self.setup.desc,
+            size: self.size(),
+            indirect: self.setup.indirect,
         };
         match append_list(mem, table, self.head(), chain) {
             Ok(end) => Ok(Some(Token {
@@ -236,7 +211,7 @@ impl Virtqueue for PackedRing {
             })),
             Err(fault) => {
                 chain.clear();
-                self.left = 0;
+                self.pending = 0;
                 Err(fault)
             }
         }
@@ -251,24 +226,24 @@ impl Virtqueue for PackedRing {
         wrote: bool,
     ) {
         self.put_used(mem, token.id, len, wrote);
-        self.place = (self.place + token.length) % (2 * self.size);
-        self.left = self.left.saturating_sub(token.length);
-        self.passed += token.length;
+        self.place = (self.place + token.length) % (2 * self.size());
+        self.pending = self.pending.saturating_sub(token.length);
+        self.used_count += token.length;
     }
 
     /// The closing write comes first (2.8.10), then the test.
     fn close<A: Allocator>(&mut self, mem: &mut GuestMemory<A>) -> bool {
-        mem.write_u32(self.device, 0);
+        mem.write_u32(self.setup.device, 0);
         let wanted = packed_wants(
             mem,
-            self.driver,
-            self.size,
-            self.event_idx,
+            self.setup.driver,
+            self.size(),
+            self.setup.event_idx,
             self.first_passed(),
-            self.passed,
+            self.used_count,
         );
-        self.left = 0;
-        self.passed = 0;
+        self.pending = 0;
+        self.used_count = 0;
         wanted
     }
 }
@@ -282,9 +257,23 @@ fn flags_of_used(wrap_counter: bool, wrote: bool) -> u16
     both | write
 }
 
+/// What the layout asks of the areas of a queue of so many descriptors.
+fn areas_of(size: u32) -> Areas
+    ensures { result ≡ areas_of size }
+{
+    let n = u64::from(size);
+    Areas {
+        desc: 16 * n,
+        driver: 4,
+        device: 4,
+        driver_alignment: 4,
+    }
+}
+
 /// Whether a packed queue may have `n` descriptors.
 fn is_queue_size(n: u32) -> bool
-    ensures { IsTrue result ↔ IsQueueSize n }
+    ensures test { result ≡ is_queue_size n }
+    ensures size { IsTrue result ↔ IsQueueSize n }
 {
     0 < n && n <= MOST_DESCRIPTORS
 }

@@ -147,10 +147,10 @@ fn place_of(board: &Watched, served: SlotQueue) -> Option<u16> {
 fn opened_at(board: &Watched, served: SlotQueue) -> Option<u16> {
     let (_, registers) = queue_of(board, served)?;
     match &registers.ring {
-        Some(Queue::Split(ring)) => Some(ring.place().wrapping_sub(ring.passed())),
+        Some(Queue::Split(ring)) => Some(ring.place().wrapping_sub(ring.used_count())),
         Some(Queue::Packed(ring)) => {
             let size = size_of(registers);
-            let back = size.wrapping_mul(2).wrapping_sub(ring.passed());
+            let back = size.wrapping_mul(2).wrapping_sub(ring.used_count());
             Some(next_place(ring.place(), back, size))
         }
         None => None,

@@ -1,9 +1,8 @@
 -- The same of a slot, and of the whole snapshot.
-use Rattle.std.proofs.Common.{◌≡◌, ◌==◌, ℕ, zero, suc, ◌+◌, ◌^◌, ◌<◌, ◌≤◌, Bool, true, false, cond, ltb, List, [], ◌∷◌, ◌++◌, length, drop, Option, Some, None, Result, Ok, Err, refl, sym, ap, subst, ◌∙◌, append_assoc, arith}
+use Rattle.std.proofs.Common.{◌≡◌, ℕ, zero, suc, ◌^◌, ◌<◌, ◌≤◌, Bool, true, false, ltb, List, [], ◌∷◌, ◌++◌, length, drop, Result, Ok, Err, refl, ap, subst, ◌∙◌, append_assoc, arith}
 use Rattle.std.specs.Int.{w16, w32, w64, to_le_bytes}
 use Rattle.std.proofs.lemmas.Bool.{ltb-false, le-ltb}
 use Rattle.snapshot.specs.declared.fault.Stop.{Stop}
-use Rattle.snapshot.specs.declared.fault.Why.{Why}
 use Rattle.snapshot.specs.declared.fault.Why.TheVariants.{Short, Magic, Version, TooMuchInput, Trailing}
 use Rattle.snapshot.specs.declared.fault.SnapshotFault.{SnapshotFault}
 use Rattle.snapshot.specs.declared.parts.Sizes.{Sizes}
@@ -11,7 +10,7 @@ use Rattle.snapshot.specs.declared.parts.Traits.{Traits}
 use Rattle.snapshot.specs.declared.saved.SavedSlot.{SavedSlot}
 use Rattle.snapshot.specs.Reading.{◌>>=◌, constant_at, flag_at, identity_at, input_at, number_at, opening_at, placed, sizes_at, slot_at, slot_of, snapshot_at, traits_at, whole_at, window_at}
 use Rattle.snapshot.specs.Spelling.{SizesFit, SlotFits, TraitsFit, WindowFits, flag, input, magic, opening, sizes, sizes_in, slot, snapshot, traits, traits_in, window}
-use Rattle.snapshot.proofs.Exact.{IsBytes, IsBytes-rest, IsField, Steps, Takes, Takes-then, constant32, constant64, field16, field32, field64, guarded, identity_field, ok_is, step}
+use Rattle.snapshot.proofs.Exact.{IsBytes, IsBytes-rest, IsField, Takes, Takes-then, constant32, constant64, field16, field32, field64, guarded, identity_field, ok_is, step}
 use Rattle.snapshot.proofs.OfWindow.{window_field}
 
 -- ---- a flag

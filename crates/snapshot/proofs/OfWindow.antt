@@ -1,17 +1,15 @@
 -- Fields of a window, a queue and a window: what is read is spelled so, and what is spelled so is read again.
-use Rattle.std.proofs.Common.{◌≡◌, ℕ, zero, suc, ◌+◌, ◌^◌, ◌<◌, Bool, true, false, List, [], ◌∷◌, ◌++◌, Option, Some, None, Result, Ok, Err, refl, sym, ap, subst, ◌∙◌, append_assoc, arith}
-use Rattle.std.specs.Prelude.{IfSome}
+use Rattle.std.proofs.Common.{◌≡◌, ℕ, zero, suc, ◌^◌, ◌<◌, Bool, true, false, List, [], ◌∷◌, ◌++◌, Option, Some, None, Ok, refl, ap, subst, ◌∙◌, append_assoc}
 use Rattle.std.specs.Int.{w16, w32, w64, to_le_bytes}
 use Rattle.mmio_window.specs.declared.saved.Reached.{Reached}
 use Rattle.mmio_window.specs.declared.saved.SavedQueue.{SavedQueue}
 use Rattle.mmio_window.specs.declared.saved.SavedWindow.{SavedWindow}
-use Rattle.snapshot.specs.declared.fault.Stop.{Stop}
 use Rattle.snapshot.specs.declared.parts.Settled.{Settled}
 use Rattle.snapshot.specs.declared.parts.Selectors.{Selectors}
 use Rattle.snapshot.specs.declared.parts.Told.{Told}
-use Rattle.snapshot.specs.Reading.{◌>>=◌, byte_at, interrupts_at, number_at, queue_at, reached_at, selectors_at, settled_at, told_at, window_at, window_of}
-use Rattle.snapshot.specs.Spelling.{MayReach, QueueFits, ReachedFits, SelectorsFit, SettledFits, ToldFits, WindowFits, interrupts, queue, reached, selectors, selectors_in, settled, settled_in, told, told_in, window}
-use Rattle.snapshot.proofs.Exact.{IsBytes, IsBytes-rest, IsField, byte_field, Steps, Takes, Takes-then, field16, field32, field64, ok_is, step}
+use Rattle.snapshot.specs.Reading.{byte_at, interrupts_at, number_at, queue_at, reached_at, selectors_at, settled_at, told_at, window_at, window_of}
+use Rattle.snapshot.specs.Spelling.{MayReach, QueueFits, SelectorsFit, SettledFits, ToldFits, WindowFits, interrupts, queue, reached, selectors, selectors_in, settled, settled_in, told, told_in, window}
+use Rattle.snapshot.proofs.Exact.{IsBytes, IsBytes-rest, IsField, byte_field, Takes, Takes-then, field16, field32, field64, ok_is, step}
 
 -- ---- how far a queue is served
 
@@ -23,23 +21,23 @@ reached_takes (zero ∷ bytes) r rest fits e =
     (record { parts = refl; rest_fits = IsBytes-rest 0 bytes fits }, tt)
 reached_takes (suc zero ∷ bytes) r rest fits e =
     let place = step (number_at w16) (to_le_bytes w16) (λ n. n < 2 ^ 16) bytes _ (r, rest) field16 (IsBytes-rest 1 bytes fits) e in
-    let left = step (number_at w16) (to_le_bytes w16) (λ n. n < 2 ^ 16) place.rest _ (r, rest) field16 place.takes.rest_fits place.goes_on in
-    let passed = step (number_at w16) (to_le_bytes w16) (λ n. n < 2 ^ 16) left.rest _ (r, rest) field16 left.takes.rest_fits left.goes_on in
-    let last = Takes-then place.rest (to_le_bytes w16 left.value) left.rest (to_le_bytes w16 passed.value) passed.rest left.takes passed.takes in
-    let all = Takes-then bytes (to_le_bytes w16 place.value) place.rest (to_le_bytes w16 left.value ++ to_le_bytes w16 passed.value) passed.rest place.takes last in
-    let found : Reached = record { place = place.value; left = left.value; passed = passed.value } in
-    subst (λ (x : Option Reached × List ℕ). Takes (1 ∷ bytes) (reached x.0) x.1 × MayReach x.0) (ok_is (Some found, passed.rest) (r, rest) passed.goes_on)
-    (record { parts = ap (λ (bs : List ℕ). 1 ∷ bs) all.parts; rest_fits = all.rest_fits }, record { place = place.fits; left = left.fits; passed = passed.fits })
+    let pending = step (number_at w16) (to_le_bytes w16) (λ n. n < 2 ^ 16) place.rest _ (r, rest) field16 place.takes.rest_fits place.goes_on in
+    let used_count = step (number_at w16) (to_le_bytes w16) (λ n. n < 2 ^ 16) pending.rest _ (r, rest) field16 pending.takes.rest_fits pending.goes_on in
+    let last = Takes-then place.rest (to_le_bytes w16 pending.value) pending.rest (to_le_bytes w16 used_count.value) used_count.rest pending.takes used_count.takes in
+    let all = Takes-then bytes (to_le_bytes w16 place.value) place.rest (to_le_bytes w16 pending.value ++ to_le_bytes w16 used_count.value) used_count.rest place.takes last in
+    let found : Reached = record { place = place.value; pending = pending.value; used_count = used_count.value } in
+    subst (λ (x : Option Reached × List ℕ). Takes (1 ∷ bytes) (reached x.0) x.1 × MayReach x.0) (ok_is (Some found, used_count.rest) (r, rest) used_count.goes_on)
+    (record { parts = ap (λ (bs : List ℕ). 1 ∷ bs) all.parts; rest_fits = all.rest_fits }, record { place = place.fits; pending = pending.fits; used_count = used_count.fits })
 reached_takes (suc (suc b) ∷ bytes) r rest fits e = absurd cc
 
 reached_again : (r : Option Reached) (rest : List ℕ) → MayReach r → reached_at (reached r ++ rest) ≡ Ok (r, rest)
 unfolding reached_at
 reached_again None rest fits = refl
 reached_again (Some r) rest fits =
-    let parts = append_assoc (to_le_bytes w16 r.place) (to_le_bytes w16 r.left ++ to_le_bytes w16 r.passed) rest
-    ∙ ap (λ (x : List ℕ). to_le_bytes w16 r.place ++ x) (append_assoc (to_le_bytes w16 r.left) (to_le_bytes w16 r.passed) rest) in
+    let parts = append_assoc (to_le_bytes w16 r.place) (to_le_bytes w16 r.pending ++ to_le_bytes w16 r.used_count) rest
+    ∙ ap (λ (x : List ℕ). to_le_bytes w16 r.place ++ x) (append_assoc (to_le_bytes w16 r.pending) (to_le_bytes w16 r.used_count) rest) in
     ap (λ (x : List ℕ). reached_at (1 ∷ x)) parts
-    ∙ rw (field16.again r.place (to_le_bytes w16 r.left ++ (to_le_bytes w16 r.passed ++ rest)) fits.place, field16.again r.left (to_le_bytes w16 r.passed ++ rest) fits.left, field16.again r.passed rest fits.passed) refl
+    ∙ rw (field16.again r.place (to_le_bytes w16 r.pending ++ (to_le_bytes w16 r.used_count ++ rest)) fits.place, field16.again r.pending (to_le_bytes w16 r.used_count ++ rest) fits.pending, field16.again r.used_count rest fits.used_count) refl
 
 reached_field : IsField reached_at reached MayReach
 reached_field = record {

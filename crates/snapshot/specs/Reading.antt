@@ -69,9 +69,9 @@ reached_at [] = stop Short []
 reached_at (zero ∷ rest) = Ok (None, rest)
 reached_at (suc zero ∷ rest) = do
   place ← number_at w16 rest
-  left ← number_at w16 place.1
-  passed ← number_at w16 left.1
-  Ok (Some (record { place = place.0; left = left.0; passed = passed.0 }), passed.1)
+  pending ← number_at w16 place.1
+  used_count ← number_at w16 pending.1
+  Ok (Some (record { place = place.0; pending = pending.0; used_count = used_count.0 }), used_count.1)
 reached_at (suc (suc b) ∷ rest) = stop Choice (suc (suc b) ∷ rest)
 
 -- ---- a window

@@ -1,5 +1,5 @@
 -- How a snapshot is spelled, byte by byte: numbers little-endian, one field behind another.
-use Rattle.std.specs.Prelude.{◌≡◌, ℕ, ◌+◌, ◌^◌, ◌<◌, ◌≤◌, Bool, IfSome, if◌then◌else◌, List, [], ◌∷◌, ◌++◌, Option, Some, None, length}
+use Rattle.std.specs.Prelude.{◌≡◌, ℕ, ◌+◌, ◌^◌, ◌<◌, Bool, IfSome, if◌then◌else◌, List, [], ◌∷◌, ◌++◌, Option, Some, None, length}
 use Rattle.std.specs.Int.{w16, w32, w64, to_le_bytes}
 use Rattle.mmio_window.specs.declared.saved.Reached.{Reached}
 use Rattle.mmio_window.specs.declared.saved.SavedQueue.{SavedQueue}
@@ -16,7 +16,7 @@ use Rattle.snapshot.specs.declared.saved.SavedSlot.{SavedSlot}
 -- 0 where the queue isn't ready, and 1 and how far it is served where it is
 abbrev pub reached : Option Reached → List ℕ
 reached None = 0 ∷ []
-reached (Some r) = 1 ∷ (to_le_bytes w16 r.place ++ (to_le_bytes w16 r.left ++ to_le_bytes w16 r.passed))
+reached (Some r) = 1 ∷ (to_le_bytes w16 r.place ++ (to_le_bytes w16 r.pending ++ to_le_bytes w16 r.used_count))
 
 unfoldable pub queue : SavedQueue → List ℕ
 queue q =
@@ -105,8 +105,8 @@ snapshot s pending = opening 1 ++ (slot s ++ input pending)
 
 pub record ReachedFits (r : Reached) : Type 0 where
   pub place : r.place < 2 ^ 16
-  pub left : r.left < 2 ^ 16
-  pub passed : r.passed < 2 ^ 16
+  pub pending : r.pending < 2 ^ 16
+  pub used_count : r.used_count < 2 ^ 16
 
 abbrev pub MayReach : Option Reached → Type 0
 MayReach r = IfSome r ReachedFits

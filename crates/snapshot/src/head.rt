@@ -191,6 +191,6 @@ fn put_reached(out: &mut Head, saved: Option<Reached>)
     };
     put_u8(out, 1);
     put_u16(out, served.place);
-    put_u16(out, served.left);
-    put_u16(out, served.passed);
+    put_u16(out, served.pending);
+    put_u16(out, served.used_count);
 }

@@ -17,12 +17,12 @@ fn reached_of(bytes: &[u8]) -> Result<(Option<Reached>, &[u8]), Stop>
         [0, rest @ ..] => Ok((None, rest)),
         [1, rest @ ..] => {
             let (place, rest) = u16_at(rest)?;
-            let (left, rest) = u16_at(rest)?;
-            let (passed, rest) = u16_at(rest)?;
+            let (pending, rest) = u16_at(rest)?;
+            let (used_count, rest) = u16_at(rest)?;
             let reached = Reached {
                 place,
-                left,
-                passed,
+                pending,
+                used_count,
             };
             Ok((Some(reached), rest))
         }

@@ -1,3 +1,3 @@
-pub mod Areas
+pub mod Sizes
 pub mod Outcomes
 pub mod Passing

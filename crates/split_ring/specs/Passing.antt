@@ -1,9 +1,9 @@
 -- The places that a service of a split ring has passed.
 use Rattle.std.specs.Prelude.{ℕ}
 use Rattle.suppression.specs.Places.{Passed, idx_modulus}
-use Rattle.split_ring.specs.Ring.{SplitRingState}
+use Rattle.chain.specs.Setup.{RingState}
 use Rattle.split_ring.specs.Kind.{first_passed}
 
 -- the place is one of those that the service has passed
-abbrev pub HasPassed : SplitRingState → ℕ → Type 0
-HasPassed ring place = Passed idx_modulus (first_passed ring) ring.passed place
+abbrev pub HasPassed : RingState → ℕ → Type 0
+HasPassed ring place = Passed idx_modulus (first_passed ring) ring.used_count place

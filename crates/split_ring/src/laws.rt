@@ -5,7 +5,7 @@ ghost use Rattle.guest_memory.specs.Memory.{Memory};
 ghost use Rattle.chain.specs.Service.{HasAtMostOneChain, HasSomeChain};
 ghost use Rattle.suppression.specs.Places.{idx_modulus};
 ghost use Rattle.suppression.specs.Sets.{SplitWantsOf};
-ghost use Rattle.split_ring.specs.Ring.{SplitRingState};
+ghost use Rattle.chain.specs.Setup.{RingState};
 ghost use Rattle.split_ring.specs.Kind.{Wants, first_passed, opened, past, split_kind};
 ghost use Rattle.split_ring.specs.Passing.{HasPassed};
 
@@ -19,15 +19,15 @@ pub fn one_chain_or_fault_at_a_place()
 /// What a service has passed are the places of its chains: behind one more chain it has the same first place, and
 /// has passed that chain's place beside those before.
 pub fn a_chain_passes_its_place()
-    ensures first { (ring : SplitRingState) → ring.passed < idx_modulus → first_passed (past ring) ≡ first_passed ring }
-    ensures passed { (ring : SplitRingState) (place : ℕ) → ring.place < idx_modulus → ring.passed < idx_modulus
+    ensures first { (ring : RingState) → ring.used_count < idx_modulus → first_passed (past ring) ≡ first_passed ring }
+    ensures passed { (ring : RingState) (place : ℕ) → ring.place < idx_modulus → ring.used_count < idx_modulus
         → HasPassed (past ring) place ↔ (HasPassed ring place ⊎ (place ≡ ring.place)) }
 {}
 
 /// Whether a notification is wanted turns on the set of places that the service has passed, of which there are none
 /// as it opens.
 pub fn a_notification_is_wanted_of_the_places_passed()
-    ensures none_yet { (m : Memory) (ring : SplitRingState) (place : ℕ) → ¬ HasPassed (opened m ring) place }
-    ensures wanted_of { (m : Memory) (ring : SplitRingState) → Wants m ring
+    ensures none_yet { (m : Memory) (ring : RingState) (place : ℕ) → ¬ HasPassed (opened m ring) place }
+    ensures wanted_of { (m : Memory) (ring : RingState) → Wants m ring
         ↔ SplitWantsOf m ring.setup.driver ring.setup.size ring.setup.event_idx (HasPassed ring) }
 {}

@@ -1,15 +1,16 @@
 //! The ring: its areas, its place, and the four calls of a service.
 
-ghost use Rattle.std.specs.Prelude.{◌≡◌, ◌↔◌, if◌then◌else◌, IsTrue, IsSome, IfSome};
+ghost use Rattle.std.specs.Prelude.{◌≡◌, ◌%◌, ◌<◌, ◌↔◌, if◌then◌else◌, IsTrue, IsSome, IfSome};
 ghost use Rattle.guest_memory.specs.Memory.{SameRange};
-ghost use Rattle.split_ring.specs.Ring.{IsAligned, IsQueueSize, IsUsable, LiesIn, head_of, can_set_up, new_ring, next_place, setup_of, with_used};
+ghost use Rattle.chain.specs.Setup.{new_ring};
+ghost use Rattle.split_ring.specs.Ring.{IsQueueSize, IsUsable, LiesIn, head_of, areas_of, can_set_up, is_queue_size, next_place, with_used};
 ghost use Rattle.split_ring.specs.Kind.{IsTaken, entry_of, split_kind};
 
 mod reached;
 mod view;
 
 use crate::walk::{Table, append_path};
-use chain::{Chain, Fault, Virtqueue};
+use chain::{Areas, Chain, Fault, Setup, Virtqueue};
 use guest_memory::GuestMemory;
 use std::alloc::Allocator;
 use std::marker::Model;
@@ -22,31 +23,22 @@ const MOST_DESCRIPTORS: u32 = 256;
 /// to each call, and the areas lie in it.
 #[derive(Drop)]
 pub struct SplitRing {
-    size: u16,
-    desc: u64,
-    driver: u64,
-    device: u64,
-    indirect: bool,
-    event_idx: bool,
+    setup: Setup,
     place: u16,
-    left: u16,
-    passed: u16,
+    pending: u16,
+    used_count: u16,
 }
 
 impl Model for SplitRing {
     ghost use Rattle.std.specs.Prelude.{◌≤◌, ◌+◌};
-    ghost use Rattle.split_ring.specs.Ring.{SplitRingState, IsQueueSize, setup_of};
+    ghost use Rattle.chain.specs.Setup.{RingState};
+    ghost use Rattle.split_ring.specs.Ring.{IsQueueSize};
 
-    ghost Value = { SplitRingState };
+    ghost Value = { RingState };
 
-    ghost view = { λ r. record {
-      setup = setup_of r.size r.desc r.driver r.device r.indirect r.event_idx;
-      place = r.place;
-      left = r.left;
-      passed = r.passed;
-    } };
+    ghost view = { λ r. record { setup = r.setup; place = r.place; pending = r.pending; used_count = r.used_count } };
 
-    ghost invariant = { λ r. record { number : IsQueueSize r.size; most : r.passed + r.left ≤ r.size } };
+    ghost invariant = { λ r. record { number : IsQueueSize r.setup.size; most : r.used_count + r.pending ≤ r.setup.size } };
 }
 
 /// A chain that was taken and not yet given back.
@@ -61,65 +53,54 @@ pub struct Token {
 impl SplitRing {
     /// A ring of `n` descriptors whose areas begin at the three addresses, before its first service. There
     /// is none where `n` is no queue size, or an area isn't aligned or isn't inside the memory (2.7).
-    pub fn new<A: Allocator>(
-        mem: &GuestMemory<A>,
-        n: u32,
-        desc: u64,
-        driver: u64,
-        device: u64,
-        indirect: bool,
-        event_idx: bool,
-    ) -> Option<SplitRing>
-        ensures value { result ≡ (if can_set_up mem.now (setup_of n desc driver device indirect event_idx)
-            then Some (new_ring (setup_of n desc driver device indirect event_idx)) else None) }
-        ensures usable { IsSome result ↔ IsUsable mem.now (setup_of n desc driver device indirect event_idx) }
+    pub fn new<A: Allocator>(mem: &GuestMemory<A>, setup: Setup) -> Option<SplitRing>
+        ensures value { result ≡ (if can_set_up mem.now setup then Some (new_ring setup) else None) }
+        ensures usable { IsSome result ↔ IsUsable mem.now setup }
         ensures lies { IfSome result (λ ring. LiesIn mem.now ring.setup) }
     {
-        if !is_queue_size(n) {
+        if !is_queue_size(setup.size) || !setup.fits_in(mem, areas_of(setup.size)) {
             return None;
         }
-        let ring = SplitRing {
-            size: n as u16,
-            desc,
-            driver,
-            device,
-            indirect,
-            event_idx,
+        Some(SplitRing {
+            setup,
             place: 0,
-            left: 0,
-            passed: 0,
-        };
-        if ring.is_aligned() && ring.lies_in(mem) {
-            Some(ring)
-        } else {
-            None
-        }
-    }
-
-    fn is_aligned(&self) -> bool
-        ensures { IsTrue result ↔ IsAligned self.now.setup }
-    {
-        self.desc % 16 == 0 && self.driver % 2 == 0 && self.device % 4 == 0
+            pending: 0,
+            used_count: 0,
+        })
     }
 
     /// Whether the areas lie in this memory, as each call of a service wants.
     pub fn lies_in<A: Allocator>(&self, mem: &GuestMemory<A>) -> bool
         ensures { IsTrue result ↔ LiesIn mem.now self.now.setup }
     {
-        let n = u64::from(self.size);
-        mem.holds(self.desc, 16 * n)
-            && mem.holds(self.driver, 6 + 2 * n)
-            && mem.holds(self.device, 6 + 8 * n)
+        self.setup.lies_in(mem, areas_of(self.setup.size))
     }
 
+    // The number of descriptors.
+    fn size(&self) -> u16
+        ensures value { result ≡ self.now.setup.size }
+        ensures some { 0 < result }
+    {
+        self.setup.size as u16
+    }
+
+    // The entry of a place in the available ring and in the used one.
+    fn entry_at(&self, place: u16) -> u64
+        ensures value { result ≡ place % self.now.setup.size }
+        ensures below { result < self.now.setup.size }
+    {
+        u64::from(place % self.size())
+    }
+
+    #[tactic(auto, using(guest_memory::proofs::Ranges::inside_part, guest_memory::proofs::Ranges::inside_same))]
     /// The head in the available entry of the ring's place (2.7.6).
     pub fn head<A: Allocator>(&self, mem: &GuestMemory<A>) -> u16
         requires { LiesIn mem.now self.now.setup }
         ensures { result ≡ head_of mem.now self.now }
     {
-        let entry = 2 * u64::from(self.place % self.size);
-        prove!(mem.holds(self.driver, 6 + 2 * u64::from(self.size)));
-        mem.read_u16(self.driver + 4 + entry)
+        let entry = 2 * self.entry_at(self.place);
+        prove!(mem.holds(self.setup.driver, 6 + 2 * u64::from(self.setup.size)));
+        mem.read_u16(self.setup.driver + 4 + entry)
     }
 
     #[tactic(auto, using(guest_memory::proofs::Ranges::inside_part, guest_memory::proofs::Ranges::inside_same))]
@@ -130,12 +111,12 @@ impl SplitRing {
         ensures used { mem.new ≡ with_used mem.old self.now head len }
         ensures range { SameRange mem.old mem.new }
     {
-        let offset = 8 * u64::from(self.place % self.size);
-        prove!(mem.holds(self.device, 6 + 8 * u64::from(self.size)));
-        let entry = self.device + 4 + offset;
+        let offset = 8 * self.entry_at(self.place);
+        prove!(mem.holds(self.setup.device, 6 + 8 * u64::from(self.setup.size)));
+        let entry = self.setup.device + 4 + offset;
         mem.write_u32(entry, u32::from(head));
         mem.write_u32(entry + 4, len);
-        mem.write_u16(self.device + 2, next);
+        mem.write_u16(self.setup.device + 2, next);
     }
 
     #[tactic(auto, using(guest_memory::proofs::Ranges::inside_part, guest_memory::proofs::Ranges::inside_same))]
@@ -145,11 +126,11 @@ impl SplitRing {
         ensures closed { mem.new ≡ split_kind.closed mem.old self.now }
         ensures range { SameRange mem.old mem.new }
     {
-        let entries = 8 * u64::from(self.size);
-        prove!(mem.holds(self.device, 6 + entries));
-        mem.write_u16(self.device, 0);
-        if self.event_idx {
-            mem.write_u16(self.device + 4 + entries, self.place);
+        let entries = 8 * u64::from(self.setup.size);
+        prove!(mem.holds(self.setup.device, 6 + entries));
+        mem.write_u16(self.setup.device, 0);
+        if self.setup.event_idx {
+            mem.write_u16(self.setup.device + 4 + entries, self.place);
         }
     }
 }
@@ -165,7 +146,7 @@ impl Virtqueue for SplitRing {
 
     ghost IsTaken = { IsTaken };
 
-    ghost left_of = { λ ring. ring.left };
+    ghost left_of = { λ ring. ring.pending };
 
     ghost made_as = { λ ring. new_ring ring.setup };
 
@@ -174,14 +155,14 @@ impl Virtqueue for SplitRing {
     /// queue has descriptors are a `Jump`.
     fn open<A: Allocator>(&mut self, mem: &GuestMemory<A>) -> Result<(), Fault> {
         // So no address in the area passes 2^64.
-        prove!(mem.holds(self.driver, 6));
-        let offered = mem.read_u16(self.driver + 2).wrapping_sub(self.place);
-        self.passed = 0;
-        if offered > self.size {
-            self.left = 0;
+        prove!(mem.holds(self.setup.driver, 6));
+        let offered = mem.read_u16(self.setup.driver + 2).wrapping_sub(self.place);
+        self.used_count = 0;
+        if offered > self.size() {
+            self.pending = 0;
             return Err(Fault::Jump);
         }
-        self.left = offered;
+        self.pending = offered;
         Ok(())
     }
 
@@ -192,14 +173,14 @@ impl Virtqueue for SplitRing {
         chain: &mut Chain,
     ) -> Result<Option<Token>, Fault> {
         chain.clear();
-        if self.left == 0 {
+        if self.pending == 0 {
             return Ok(None);
         }
         let head = self.head(mem);
         let table = Table {
-            addr: self.desc,
-            size: self.size,
-            indirect: self.indirect,
+            addr: self.setup.desc,
+            size: self.size(),
+            indirect: self.setup.indirect,
         };
         match append_path(mem, table, head, chain) {
             Ok(()) => Ok(Some(Token {
@@ -208,7 +189,7 @@ impl Virtqueue for SplitRing {
             })),
             Err(fault) => {
                 chain.clear();
-                self.left = 0;
+                self.pending = 0;
                 Err(fault)
             }
         }
@@ -225,31 +206,45 @@ impl Virtqueue for SplitRing {
         let next = self.place.wrapping_add(1);
         self.put_used(mem, token.head, len, next);
         self.place = next;
-        self.left -= 1;
-        self.passed += 1;
+        self.pending -= 1;
+        self.used_count += 1;
     }
 
     /// The closing writes come first (2.7.10), then the test (2.7.7).
     fn close<A: Allocator>(&mut self, mem: &mut GuestMemory<A>) -> bool {
         self.put_closing(mem);
-        let first = self.place.wrapping_sub(self.passed);
+        let first = self.place.wrapping_sub(self.used_count);
         let wanted = split_wants(
             mem,
-            self.driver,
-            self.size,
-            self.event_idx,
+            self.setup.driver,
+            self.size(),
+            self.setup.event_idx,
             first,
-            self.passed,
+            self.used_count,
         );
-        self.left = 0;
-        self.passed = 0;
+        self.pending = 0;
+        self.used_count = 0;
         wanted
+    }
+}
+
+/// What the layout asks of the areas of a queue of so many descriptors.
+fn areas_of(size: u32) -> Areas
+    ensures { result ≡ areas_of size }
+{
+    let n = u64::from(size);
+    Areas {
+        desc: 16 * n,
+        driver: 6 + 2 * n,
+        device: 6 + 8 * n,
+        driver_alignment: 2,
     }
 }
 
 /// Whether a split queue may have `n` descriptors.
 fn is_queue_size(n: u32) -> bool
-    ensures { IsTrue result ↔ IsQueueSize n }
+    ensures test { result ≡ is_queue_size n }
+    ensures size { IsTrue result ↔ IsQueueSize n }
 {
     n <= MOST_DESCRIPTORS && n.is_power_of_two()
 }

@@ -4,7 +4,7 @@ use crate::calls::answer::{put_result, put_word, written};
 use crate::calls::chains::Chains;
 use crate::calls::subject::{Stuck, Subject};
 use crate::calls::words::Words;
-use chain::{Chain, Fault, Virtqueue};
+use chain::{Chain, Fault, Setup, Virtqueue};
 use guest_memory::GuestMemory;
 use mmio_window::{Queue, Token};
 use packed_ring::PackedRing;
@@ -19,54 +19,14 @@ pub(crate) struct Rings {
 }
 
 /// How a queue is made.
-#[derive(Clone, Copy)]
-struct Setup {
-    size: u32,
-    descriptors: u64,
-    driver: u64,
-    device: u64,
-    indirect: bool,
-    event_idx: bool,
-}
-
-impl Setup {
-    fn read(words: &mut Words<'_>) -> Setup {
-        Setup {
-            size: words.u32(),
-            descriptors: words.u64(),
-            driver: words.u64(),
-            device: words.u64(),
-            indirect: words.choice("indirect", "-"),
-            event_idx: words.choice("event_idx", "-"),
-        }
-    }
-
-    /// A split queue of this kind, if there can be one.
-    fn split(self, mem: &GuestMemory) -> Option<Queue> {
-        let ring = SplitRing::new(
-            mem,
-            self.size,
-            self.descriptors,
-            self.driver,
-            self.device,
-            self.indirect,
-            self.event_idx,
-        );
-        ring.map(Queue::Split)
-    }
-
-    /// A packed one.
-    fn packed(self, mem: &GuestMemory) -> Option<Queue> {
-        let ring = PackedRing::new(
-            mem,
-            self.size,
-            self.descriptors,
-            self.driver,
-            self.device,
-            self.indirect,
-            self.event_idx,
-        );
-        ring.map(Queue::Packed)
+fn read_setup(words: &mut Words<'_>) -> Setup {
+    Setup {
+        size: words.u32(),
+        desc: words.u64(),
+        driver: words.u64(),
+        device: words.u64(),
+        indirect: words.choice("indirect", "-"),
+        event_idx: words.choice("event_idx", "-"),
     }
 }
 
@@ -85,11 +45,11 @@ impl Rings {
         words: &mut Words<'_>,
         answer: &mut String,
     ) -> Result<(), Stuck> {
-        let setup = Setup::read(words);
+        let setup = read_setup(words);
         let mem = &self.below.below.mem;
         self.queue = match word {
-            "split" => setup.split(mem),
-            _ => setup.packed(mem),
+            "split" => SplitRing::new(mem, setup).map(Queue::Split),
+            _ => PackedRing::new(mem, setup).map(Queue::Packed),
         };
         put_word(answer, if self.queue.is_some() { "ok" } else { "none" })
     }

@@ -16,13 +16,13 @@ impl Queue {
         match self {
             Queue::Split(ring) => Reached {
                 place: ring.place(),
-                left: ring.left(),
-                passed: ring.passed(),
+                pending: ring.pending(),
+                used_count: ring.used_count(),
             },
             Queue::Packed(ring) => Reached {
                 place: ring.place(),
-                left: ring.left(),
-                passed: ring.passed(),
+                pending: ring.pending(),
+                used_count: ring.used_count(),
             },
         }
     }
@@ -33,12 +33,14 @@ impl Queue {
     {
         let Reached {
             place,
-            left,
-            passed,
+            pending,
+            used_count,
         } = reached;
         match self {
-            Queue::Split(ring) => ring.served_to(place, left, passed).map(Queue::Split),
-            Queue::Packed(ring) => ring.served_to(place, left, passed).map(Queue::Packed),
+            Queue::Split(ring) => ring.served_to(place, pending, used_count).map(Queue::Split),
+            Queue::Packed(ring) => ring
+                .served_to(place, pending, used_count)
+                .map(Queue::Packed),
         }
     }
 }

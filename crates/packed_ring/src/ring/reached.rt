@@ -7,42 +7,37 @@ use crate::ring::PackedRing;
 
 impl PackedRing {
     /// How many places are left until the service ends.
-    pub fn left(&self) -> u16
-        ensures { result ≡ self.now.left }
+    pub fn pending(&self) -> u16
+        ensures { result ≡ self.now.pending }
     {
-        self.left
+        self.pending
     }
 
     /// How many places the service has passed.
-    pub fn passed(&self) -> u16
-        ensures value { result ≡ self.now.passed }
-        ensures reached { served_to self.now.place self.now.left self.now.passed self.now ≡ Some self.now }
+    pub fn used_count(&self) -> u16
+        ensures value { result ≡ self.now.used_count }
+        ensures reached { served_to self.now.place self.now.pending self.now.used_count self.now ≡ Some self.now }
     {
-        self.passed
+        self.used_count
     }
 
     /// The ring, served so far: at this place, with so many places left until its service ends, and so many that it
     /// has passed. There is none where no service comes so far.
-    pub fn served_to(self, place: u16, left: u16, passed: u16) -> Option<PackedRing>
-        ensures { result ≡ served_to place left passed self }
+    pub fn served_to(self, place: u16, pending: u16, used_count: u16) -> Option<PackedRing>
+        ensures { result ≡ served_to place pending used_count self }
     {
-        let size = u32::from(self.size);
-        if u32::from(place) >= 2 * size || u32::from(passed) >= 2 * size {
+        let size = self.setup.size;
+        if u32::from(place) >= 2 * size || u32::from(used_count) >= 2 * size {
             return None;
         }
-        if left > 0 && u32::from(passed) + u32::from(left) > size {
+        if pending > 0 && u32::from(used_count) + u32::from(pending) > size {
             return None;
         }
         Some(PackedRing {
-            size: self.size,
-            desc: self.desc,
-            driver: self.driver,
-            device: self.device,
-            indirect: self.indirect,
-            event_idx: self.event_idx,
+            setup: self.setup,
             place,
-            left,
-            passed,
+            pending,
+            used_count,
         })
     }
 }

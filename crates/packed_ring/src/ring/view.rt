@@ -17,15 +17,10 @@ impl PackedRing {
         ensures { result ≡ self.now }
     {
         PackedRing {
-            size: self.size,
-            desc: self.desc,
-            driver: self.driver,
-            device: self.device,
-            indirect: self.indirect,
-            event_idx: self.event_idx,
+            setup: self.setup,
             place: self.place,
-            left: self.left,
-            passed: self.passed,
+            pending: self.pending,
+            used_count: self.used_count,
         }
     }
 
@@ -51,15 +46,18 @@ impl PackedRing {
         ensures place { result.0 ≡ num mem.now self.now.setup.driver 2 }
         ensures flags { result.1 ≡ num mem.now (self.now.setup.driver + 2) 2 }
     {
-        prove!(mem.holds(self.driver, 4));
-        (mem.read_u16(self.driver), mem.read_u16(self.driver + 2))
+        prove!(mem.holds(self.setup.driver, 4));
+        (
+            mem.read_u16(self.setup.driver),
+            mem.read_u16(self.setup.driver + 2),
+        )
     }
 
     /// Whether EVENT_IDX was negotiated.
     pub fn event_idx(&self) -> bool
         ensures { result ≡ self.now.setup.event_idx }
     {
-        self.event_idx
+        self.setup.event_idx
     }
 
     #[tactic(auto, using(guest_memory::proofs::Ranges::inside_part, guest_memory::proofs::Ranges::inside_same))]
@@ -75,12 +73,12 @@ impl PackedRing {
         ensures id { IfSome result (λ found. found.1 ≡ id_of mem.now (descriptor_addr self.now.setup.desc position)) }
         ensures flags { IfSome result (λ found. found.2 ≡ flags_of mem.now (descriptor_addr self.now.setup.desc position)) }
     {
-        if position >= self.size {
+        if position >= self.size() {
             return None;
         }
         let offset = 16 * u64::from(position);
-        prove!(mem.holds(self.desc, 16 * u64::from(self.size)));
-        let descriptor = PackedDescriptor::read(mem, self.desc + offset);
+        prove!(mem.holds(self.setup.desc, 16 * u64::from(self.setup.size)));
+        let descriptor = PackedDescriptor::read(mem, self.setup.desc + offset);
         Some((descriptor.buffer, descriptor.id, descriptor.flags))
     }
 
@@ -94,6 +92,6 @@ impl PackedRing {
         ensures len { IfSome result (λ found. found.0 ≡ packed_buffer mem.now (descriptor_addr self.now.setup.desc (place % self.now.setup.size))) }
         ensures id { IfSome result (λ found. found.1 ≡ id_of mem.now (descriptor_addr self.now.setup.desc (place % self.now.setup.size))) }
     {
-        self.descriptor(mem, place % self.size)
+        self.descriptor(mem, place % self.size())
     }
 }

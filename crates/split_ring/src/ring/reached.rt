@@ -7,38 +7,33 @@ use crate::ring::SplitRing;
 
 impl SplitRing {
     /// How many chains the service may still take.
-    pub fn left(&self) -> u16
-        ensures { result ≡ self.now.left }
+    pub fn pending(&self) -> u16
+        ensures { result ≡ self.now.pending }
     {
-        self.left
+        self.pending
     }
 
     /// How many chains the service has used.
-    pub fn passed(&self) -> u16
-        ensures value { result ≡ self.now.passed }
-        ensures reached { served_to self.now.place self.now.left self.now.passed self.now ≡ Some self.now }
+    pub fn used_count(&self) -> u16
+        ensures value { result ≡ self.now.used_count }
+        ensures reached { served_to self.now.place self.now.pending self.now.used_count self.now ≡ Some self.now }
     {
-        self.passed
+        self.used_count
     }
 
     /// The ring, served so far: at this place, with so many chains that its service may still take, and so many that
     /// it has used. There is none where those are more than the queue has descriptors.
-    pub fn served_to(self, place: u16, left: u16, passed: u16) -> Option<SplitRing>
-        ensures { result ≡ served_to place left passed self }
+    pub fn served_to(self, place: u16, pending: u16, used_count: u16) -> Option<SplitRing>
+        ensures { result ≡ served_to place pending used_count self }
     {
-        if u32::from(passed) + u32::from(left) > u32::from(self.size) {
+        if u32::from(used_count) + u32::from(pending) > self.setup.size {
             return None;
         }
         Some(SplitRing {
-            size: self.size,
-            desc: self.desc,
-            driver: self.driver,
-            device: self.device,
-            indirect: self.indirect,
-            event_idx: self.event_idx,
+            setup: self.setup,
             place,
-            left,
-            passed,
+            pending,
+            used_count,
         })
     }
 }

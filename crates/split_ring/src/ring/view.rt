@@ -15,15 +15,10 @@ impl SplitRing {
         ensures { result ≡ self.now }
     {
         SplitRing {
-            size: self.size,
-            desc: self.desc,
-            driver: self.driver,
-            device: self.device,
-            indirect: self.indirect,
-            event_idx: self.event_idx,
+            setup: self.setup,
             place: self.place,
-            left: self.left,
-            passed: self.passed,
+            pending: self.pending,
+            used_count: self.used_count,
         }
     }
 
@@ -40,8 +35,8 @@ impl SplitRing {
         requires { LiesIn mem.now self.now.setup }
         ensures { result ≡ avail_idx mem.now self.now }
     {
-        prove!(mem.holds(self.driver, 6));
-        mem.read_u16(self.driver + 2)
+        prove!(mem.holds(self.setup.driver, 6));
+        mem.read_u16(self.setup.driver + 2)
     }
 
     #[tactic(auto, using(guest_memory::proofs::Ranges::inside_part, guest_memory::proofs::Ranges::inside_same))]
@@ -50,8 +45,8 @@ impl SplitRing {
         requires { LiesIn mem.now self.now.setup }
         ensures { result ≡ num mem.now (self.now.setup.device + 2) 2 }
     {
-        prove!(mem.holds(self.device, 6));
-        mem.read_u16(self.device + 2)
+        prove!(mem.holds(self.setup.device, 6));
+        mem.read_u16(self.setup.device + 2)
     }
 
     #[tactic(auto, using(guest_memory::proofs::Ranges::inside_part, guest_memory::proofs::Ranges::inside_same))]
@@ -60,8 +55,8 @@ impl SplitRing {
         requires { LiesIn mem.now self.now.setup }
         ensures { result ≡ num mem.now self.now.setup.driver 2 }
     {
-        prove!(mem.holds(self.driver, 6));
-        mem.read_u16(self.driver)
+        prove!(mem.holds(self.setup.driver, 6));
+        mem.read_u16(self.setup.driver)
     }
 
     #[tactic(auto, using(guest_memory::proofs::Ranges::inside_part, guest_memory::proofs::Ranges::inside_same))]
@@ -70,27 +65,28 @@ impl SplitRing {
         requires { LiesIn mem.now self.now.setup }
         ensures { result ≡ num mem.now (self.now.setup.driver + 4 + 2 * self.now.setup.size) 2 }
     {
-        let entries = 2 * u64::from(self.size);
-        prove!(mem.holds(self.driver, 6 + entries));
-        mem.read_u16(self.driver + 4 + entries)
+        let entries = 2 * u64::from(self.setup.size);
+        prove!(mem.holds(self.setup.driver, 6 + entries));
+        mem.read_u16(self.setup.driver + 4 + entries)
     }
 
     /// Whether EVENT_IDX was negotiated.
     pub fn event_idx(&self) -> bool
         ensures { result ≡ self.now.setup.event_idx }
     {
-        self.event_idx
+        self.setup.event_idx
     }
 
+    #[tactic(auto, using(guest_memory::proofs::Ranges::inside_part, guest_memory::proofs::Ranges::inside_same))]
     /// The head and the len in the used entry of a place (2.7.8).
     pub fn used_entry<A: Allocator>(&self, mem: &GuestMemory<A>, place: u16) -> (u32, u32)
         requires { LiesIn mem.now self.now.setup }
         ensures head { result.0 ≡ num mem.now (self.now.setup.device + 4 + 8 * (place % self.now.setup.size)) 4 }
         ensures len { result.1 ≡ num mem.now (self.now.setup.device + 4 + 8 * (place % self.now.setup.size) + 4) 4 }
     {
-        let offset = 8 * u64::from(place % self.size);
-        prove!(mem.holds(self.device, 6 + 8 * u64::from(self.size)));
-        let entry = self.device + 4 + offset;
+        let offset = 8 * self.entry_at(place);
+        prove!(mem.holds(self.setup.device, 6 + 8 * u64::from(self.setup.size)));
+        let entry = self.setup.device + 4 + offset;
         (mem.read_u32(entry), mem.read_u32(entry + 4))
     }
 
@@ -101,10 +97,10 @@ impl SplitRing {
         ensures inside { IsSome result ↔ (index < self.now.setup.size) }
         ensures value { IfSome result (λ found. found ≡ table_of mem.now self.now index) }
     {
-        if index >= self.size {
+        if index >= self.size() {
             return None;
         }
-        prove!(mem.holds(self.desc, 16 * u64::from(self.size)));
-        Some(Descriptor::read_split(mem, self.desc + 16 * u64::from(index)))
+        prove!(mem.holds(self.setup.desc, 16 * u64::from(self.setup.size)));
+        Some(Descriptor::read_split(mem, self.setup.desc + 16 * u64::from(index)))
     }
 }

@@ -1,5 +1,4 @@
-use Rattle.std.proofs.Common.{◌≡◌, ◌+◌, ◌-◌, ◌++◌, ◌<◌, ◌≤◌, ◌∙◌, ap, arith, length, length-append, refl, sym}
-use Rattle.snapshot.specs.Spelling.{snapshot}
+use Rattle.std.proofs.Common.{◌≡◌, ◌+◌, ◌-◌, ◌++◌, arith, length, length-append, refl}
 use Rattle.snapshot.proofs.Joining.{all_put, snapshot_len, snapshot_of_head}
 use Rattle.snapshot.proofs.OfSlot.{snapshot_again}
 use Rattle.snapshot.proofs.writing.write_into.Goals as goal

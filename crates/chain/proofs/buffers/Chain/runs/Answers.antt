@@ -1,8 +1,7 @@
 use Rattle.std.proofs.Common.{◌-◌, ap, arith}
 use Rattle.std.proofs.Math.Nat.{sub-add-min_cancel}
-use Rattle.std.proofs.lemmas.List.{append-nil}
 use Rattle.chain.specs.declared.segment.Segment.{Segment}
-use Rattle.chain.specs.Bytes.{rest_at, segments_of}
+use Rattle.chain.specs.Bytes.{segments_of}
 use Rattle.chain.proofs.Cutting.{run_fits, run_put, runs_end}
 use Rattle.chain.proofs.Places.{rest_some}
 use Rattle.chain.proofs.buffers.Chain.runs.Goals as goal

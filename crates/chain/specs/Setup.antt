@@ -1,0 +1,53 @@
+-- How a virtqueue is set up, where its areas lie (2.6), and how far it is served.
+use Rattle.std.specs.Prelude.{◌≡◌, ℕ, ◌%◌, Bool, ◌&&◌, ◌==◌}
+use Rattle.guest_memory.specs.Memory.{Memory, Inside, is_inside}
+use Rattle.chain.specs.declared.setup.Setup.{Setup}
+use Rattle.chain.specs.declared.setup.Areas.{Areas}
+
+-- the three areas lie in the memory
+pub record LiesIn (m : Memory) (setup : Setup) (areas : Areas) : Type 0 where
+  pub desc : Inside m setup.desc areas.desc
+  pub driver : Inside m setup.driver areas.driver
+  pub device : Inside m setup.device areas.device
+
+-- each area begins at a multiple of its alignment (2.7, 2.8)
+pub record IsAligned (setup : Setup) (areas : Areas) : Type 0 where
+  pub desc : setup.desc % 16 ≡ 0
+  pub driver : setup.driver % areas.driver_alignment ≡ 0
+  pub device : setup.device % 4 ≡ 0
+
+-- the areas are aligned and lie in the memory
+pub record FitsIn (m : Memory) (setup : Setup) (areas : Areas) : Type 0 where
+  pub aligned : IsAligned setup areas
+  pub lies : LiesIn m setup areas
+
+-- the tests whether they do
+abbrev pub is_aligned : Setup → Areas → Bool
+is_aligned setup areas = setup.desc % 16 == 0 && setup.driver % areas.driver_alignment == 0 && setup.device % 4 == 0
+
+abbrev pub lies_in : Memory → Setup → Areas → Bool
+lies_in m setup areas = is_inside m setup.desc areas.desc && is_inside m setup.driver areas.driver && is_inside m setup.device areas.device
+
+abbrev pub fits_in : Memory → Setup → Areas → Bool
+fits_in m setup areas = is_aligned setup areas && lies_in m setup areas
+
+-- a ring as it is set up, and how far it is served
+pub record RingState : Type 0 where
+  pub setup : Setup
+  -- the place of the next chain
+  pub place : ℕ
+  -- how much its service may still take, and how much it has used: chains of a split ring, places of a packed one
+  pub pending : ℕ
+  pub used_count : ℕ
+
+-- a ring before its first service
+abbrev pub new_ring : Setup → RingState
+new_ring setup = record { setup = setup; place = 0; pending = 0; used_count = 0 }
+
+-- the ring after a fault: nothing more is taken in this service
+abbrev pub stopped : RingState → RingState
+stopped ring = record ring { pending = 0 }
+
+-- the ring between two services
+abbrev pub shut : RingState → RingState
+shut ring = record ring { pending = 0; used_count = 0 }
