@@ -135,8 +135,8 @@ impl<A: Allocator + Copy> Slot<A> {
         }
     }
 
-    // Serves a piece of a service of the console. What it puts out is appended to `out`.
-    fn serve_console<O: Outlet>(
+    /// Serves a piece of a service of the console. What it puts out is appended to `out`.
+    pub(super) fn serve_console<O: Outlet>(
         &mut self,
         pause: Pause,
         stage: Stage,
