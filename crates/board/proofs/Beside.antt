@@ -1,16 +1,20 @@
 -- An event in which the disk has no part: what it keeps of the slot.
-use Rattle.std.proofs.Common.{◌≡◌, ◌≢◌, ℕ, List, [], false, refl, sym, ◌∙◌, ap, subst}
+use Rattle.std.proofs.Common.{◌≡◌, ◌≢◌, ℕ, List, [], Bool, true, false, Some, None, refl, sym, ◌∙◌, ap, subst}
 use Rattle.guest_memory.specs.Memory.{Memory, SameRange}
 use Rattle.mmio_window.specs.declared.device_kind.DeviceKind.{DeviceKind}
 use Rattle.mmio_window.specs.declared.device_kind.DeviceKind.TheVariants.{Block, Console}
-use Rattle.board.specs.declared.event.EventKind.TheVariants.{Write}
+use Rattle.sector_cache.specs.Disk.{Disk}
+use Rattle.block_device.specs.declared.extent.Extent.{Extent}
+use Rattle.block_device.specs.Extent.{StaysInExtent}
+use Rattle.board.specs.declared.event.EventKind.{EventKind}
+use Rattle.board.specs.declared.event.EventKind.TheVariants.{Read, Write, MemRead, MemWrite, Input, Resize, Restore, Complete}
 use Rattle.board.specs.declared.pause.Service.{Service}
 use Rattle.board.specs.declared.pause.Service.TheVariants as service
 use Rattle.board.specs.declared.slot.window.Duty.TheVariants as duty
-use Rattle.board.specs.Hosting.{block_beside, device_at, is_block_task}
-use Rattle.board.specs.Machine.{with_write}
-use Rattle.board.specs.Pausing.{duty_of}
-use Rattle.board.specs.Slot.{BoardSlot, SlotState, state_of}
+use Rattle.board.specs.Hosting.{block_beside, device_at, is_block_task, notifies_block}
+use Rattle.board.specs.Machine.{task_at, with_write}
+use Rattle.board.specs.Pausing.{asked, asked_by, duty_of}
+use Rattle.board.specs.Slot.{BoardSlot, IsUnnoted, SlotState, state_of}
 use Rattle.board.specs.Task.{Task, Nothing, ServeBlock, ServeReceive, ServeTransmit, PutOut}
 
 same_device : (s t : BoardSlot) → s.extent ≡ t.extent → s.read_only ≡ t.read_only → s.identity ≡ t.identity → device_at s ≡ device_at t
@@ -56,3 +60,36 @@ not_block ServeBlock which is other = absurd (other (cc))
 not_block ServeReceive which is other = refl
 not_block ServeTransmit which is other = refl
 not_block (PutOut byte) which is other = refl
+
+-- ---- the block device was notified
+
+-- and so the event asks for its service
+rung : (task : Task) → true ≡ is_block_task task → task ≡ ServeBlock
+rung Nothing rings = absurd (cc (rings))
+rung ServeBlock rings = refl
+rung ServeReceive rings = absurd (cc (rings))
+rung ServeTransmit rings = absurd (cc (rings))
+rung (PutOut byte) rings = absurd (cc (rings))
+
+pub block_asked : {A : Type 0} (what : EventKind A) (state : SlotState) → true ≡ notifies_block what state
+    → asked what state ≡ Some (record { service = service.Block; taken = None })
+block_asked (Read window offset width) state rings = absurd (cc (rings))
+block_asked (Write window offset width value) state rings = ap asked_by (rung (task_at window offset width value state) rings)
+block_asked (MemRead addr len) state rings = absurd (cc (rings))
+block_asked (MemWrite addr bytes) state rings = absurd (cc (rings))
+block_asked (Input bytes) state rings = absurd (cc (rings))
+block_asked (Resize cols rows) state rings = absurd (cc (rings))
+block_asked (Restore bytes) state rings = absurd (cc (rings))
+block_asked (Complete verdict) state rings = absurd (cc (rings))
+
+-- what its service leaves to be noted is that of the event
+pub unnoted_behind : (old mid new : BoardSlot) (before after : Disk) (failed : Bool) → mid.extent ≡ old.extent → mid.disturbed ≡ old.disturbed
+    → IsUnnoted mid new before after failed → IsUnnoted old new before after failed
+unnoted_behind old mid new before after failed extent disturbed h = record {
+  stays = record {
+    extent = h.stays.extent ∙ extent;
+    image = subst (λ (e : Extent). StaysInExtent e before after) extent h.stays.image;
+  };
+  disturbed = h.disturbed ∙ disturbed;
+  counted = h.counted;
+}

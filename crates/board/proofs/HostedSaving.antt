@@ -13,7 +13,7 @@ use Rattle.board.specs.declared.saved.RestoreFault.{RestoreFault}
 use Rattle.board.specs.declared.saved.RestoreRefusal.{RestoreRefusal}
 use Rattle.board.specs.Hosting.{HostedState, TakesHosted, device_at, hosted_slot, in_rooms, unseen}
 use Rattle.board.specs.HostedLine.{TakesQuietly}
-use Rattle.board.specs.Machine.{at_rest, block_irq, console_irq}
+use Rattle.board.specs.Machine.{at_rest}
 use Rattle.board.specs.Outcome.{replies}
 use Rattle.board.specs.Restoring.{hosted_restore_reply, refusal_of, restore_reply, slot_in}
 use Rattle.board.specs.Saved.{IsAs, IsCauseOf, IsLike, IsRestored}

@@ -1,8 +1,8 @@
 //! One slot: a guest's memory and devices, and how its events are served.
 //!
 //! Nothing here knows of other slots. What a slot does is stated against the one-slot machine, and
-//! the board lifts that to all of its slots. `memory` has the events of the guest's memory, `window`
-//! those of its devices' windows, `service` serves their queues, and `console` is what is done to the console
+//! the board lifts that to all of its slots. `hosting` has what comes of an event beside the disk, `memory` the events of
+//! the guest's memory, `window` those of its devices' windows, `service` serves their queues, and `console` is what is done to the console
 //! from outside.
 
 ghost use Rattle.std.specs.Prelude.{◌≡◌, ◌≢◌, ◌<◌, ◌≤◌, ◌||◌, ℕ, List, All, map, length, Some, IfOk};
@@ -32,7 +32,7 @@ mod window;
 
 use crate::counters::Counters;
 use crate::event::EventKind;
-use crate::pause::{Turn, Work};
+use crate::pause::{Pause, Service, Turn, Work};
 use crate::reply::Reply;
 use crate::spec::SlotSpec;
 use crate::{features, lent};
@@ -215,33 +215,18 @@ impl<A: Allocator + Copy> Slot<A> {
         ensures no_memory { result.turn ≡ Turn.Answered Reply.NoMemory → (image : List ℕ) →
             MayLackMemory (state_of image self.old) what.now }
     {
-        let reply = match what {
-            EventKind::Read {
-                window,
-                offset,
-                width,
-            } => Reply::Value(self.read_window(*window, *offset, *width)),
-            EventKind::Write {
-                window,
-                offset,
-                width,
-                value,
-            } => return self.write_window(*window, *offset, *width, *value, budget, cache, out),
-            EventKind::MemRead { addr, len } => self.read_memory(alloc, *addr, *len),
-            EventKind::MemWrite { addr, bytes } => self.write_memory(*addr, bytes.as_slice()),
-            EventKind::Input { bytes } => {
-                return Answer {
-                    turn: self.input(bytes.as_slice(), budget),
-                    failed: false,
+        match self.answer_beside_disk(alloc, what, budget, out) {
+            Some(turn) => Answer {
+                turn,
+                failed: false,
+            },
+            None => {
+                let pause = Pause {
+                    service: Service::Block,
+                    taken: None,
                 };
+                self.serve_piece(pause, Stage::First, budget, cache, out)
             }
-            EventKind::Resize { cols, rows } => self.resize(*cols, *rows),
-            EventKind::Restore { bytes } => self.answer_restore(bytes.as_slice()),
-            EventKind::Complete { .. } => Reply::Idle,
-        };
-        Answer {
-            turn: Turn::Answered(reply),
-            failed: false,
         }
     }
 }

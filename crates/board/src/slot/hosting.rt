@@ -1,5 +1,5 @@
-//! A slot whose disk the host serves: the events in which the disk has no part, and the block device's looks at its
-//! queue.
+//! Beside a slot's disk: what comes of its events but for the block device's part, and, of a slot whose disk the host
+//! serves, the block device's looks at its queue.
 
 ghost use Rattle.std.specs.Prelude.{◌≡◌, ◌≢◌, ◌<◌, ◌*◌, ◌^◌, ℕ, List, Some, false, is_none, IfSome, IfNone};
 ghost use Rattle.guest_memory.specs.Memory.{SameRange};
@@ -13,11 +13,13 @@ ghost use Rattle.board.specs.declared.event.EventKind.{EventKind};
 ghost use Rattle.board.specs.declared.pause.Pause.{Pause};
 ghost use Rattle.board.specs.declared.pause.Service.{Service};
 ghost use Rattle.board.specs.declared.pause.Turn.{Turn};
+ghost use Rattle.board.specs.declared.reply.Reply.{Reply};
 ghost use Rattle.board.specs.Hosting.{block_beside, device_at, must_wait, notifies_block, unlimited};
 ghost use Rattle.board.specs.Image.{Health, sectors_of};
 ghost use Rattle.board.specs.Pausing.{Begins, ComesTo, PausesByLimit, ServesTurn, readied};
 ghost use Rattle.board.specs.Slot.{state_of};
 ghost use Rattle.board.specs.Within.{BeginsWithin, PieceWithin};
+ghost use Rattle.board.specs.World.{HasBytesToPutOut, MayLackMemory};
 
 use crate::event::EventKind;
 use crate::pause::{Pause, Service, Turn};
@@ -54,6 +56,12 @@ impl<A: Allocator + Copy> Slot<A> {
         ensures device { device_at self.new ≡ device_at self.old }
         ensures block { must_wait what.now ≡ false → self.new.block ≡ block_beside what.now self.old }
         ensures range { SameRange self.old.memory self.new.memory }
+        ensures extent { self.new.extent ≡ self.old.extent }
+        ensures disturbed { self.new.disturbed ≡ self.old.disturbed }
+        ensures there { IfSome result (λ turn. turn ≢ Turn.Answered Reply.BadSlot) }
+        ensures bad_range { IfSome result (λ turn. turn ≡ Turn.Answered Reply.BadRange → self.new ≡ self.old) }
+        ensures no_memory { IfSome result (λ turn. turn ≡ Turn.Answered Reply.NoMemory → (image : List ℕ) →
+            MayLackMemory (state_of image self.old) what.now) }
     {
         let reply = match what {
             EventKind::Read {
@@ -103,6 +111,12 @@ impl<A: Allocator + Copy> Slot<A> {
         ensures device { device_at self.new ≡ device_at self.old }
         ensures block { self.new.block ≡ block_beside {A = A} (EventKind.Write window offset width value) self.old }
         ensures range { SameRange self.old.memory self.new.memory }
+        ensures extent { self.new.extent ≡ self.old.extent }
+        ensures disturbed { self.new.disturbed ≡ self.old.disturbed }
+        ensures there { IfSome result (λ turn. turn ≢ Turn.Answered Reply.BadSlot) }
+        ensures bad_range { IfSome result (λ turn. turn ≡ Turn.Answered Reply.BadRange → self.new ≡ self.old) }
+        ensures no_memory { IfSome result (λ turn. turn ≡ Turn.Answered Reply.NoMemory → (image : List ℕ) →
+            MayLackMemory {A = A} (state_of image self.old) (EventKind.Write window offset width value)) }
     {
         match self.write_registers(window, offset, width, value) {
             Duty::Serve(Service::Block) => None,
@@ -121,8 +135,8 @@ impl<A: Allocator + Copy> Slot<A> {
         }
     }
 
-    // Serves a piece of a service of the console. What it puts out is appended to `out`.
-    fn serve_console<O: Outlet>(
+    /// Serves a piece of a service of the console. What it puts out is appended to `out`.
+    pub(super) fn serve_console<O: Outlet>(
         &mut self,
         pause: Pause,
         stage: Stage,
@@ -142,6 +156,12 @@ impl<A: Allocator + Copy> Slot<A> {
         ensures device { device_at self.new ≡ device_at self.old }
         ensures block { self.new.block ≡ self.old.block }
         ensures range { SameRange self.old.memory self.new.memory }
+        ensures extent { self.new.extent ≡ self.old.extent }
+        ensures disturbed { self.new.disturbed ≡ self.old.disturbed }
+        ensures there { result ≢ Turn.Answered Reply.BadSlot }
+        ensures in_range { result ≢ Turn.Answered Reply.BadRange }
+        ensures no_memory { result ≡ Turn.Answered Reply.NoMemory → stage ≡ Stage.First →
+            (pause.service ≡ Service.Transmit) × HasBytesToPutOut self.old.memory self.old.console }
     {
         match pause.service {
             Service::Block => unreachable!(),

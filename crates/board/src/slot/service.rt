@@ -18,8 +18,7 @@ ghost use Rattle.board.specs.Slot.{IsUnnoted, state_of};
 ghost use Rattle.board.specs.Within.{PieceWithin};
 ghost use Rattle.board.specs.World.{HasBytesToPutOut};
 
-use crate::pause::{Pause, Service, Turn};
-use crate::reply::Reply;
+use crate::pause::{Pause, Service};
 use crate::slot::{Answer, Slot};
 use block_device::Piece;
 use chain::{Budget, Progress};
@@ -63,23 +62,10 @@ impl<A: Allocator + Copy> Slot<A> {
                     failed,
                 }
             }
-            Service::Receive => {
-                let progress = self.serve_receive(stage, budget);
-                Answer {
-                    turn: pause.turn(progress),
-                    failed: false,
-                }
-            }
-            Service::Transmit => {
-                let turn = match self.serve_transmit(stage, budget, out) {
-                    Ok(progress) => pause.turn(progress),
-                    Err(NoMemory) => Turn::Answered(Reply::NoMemory),
-                };
-                Answer {
-                    turn,
-                    failed: false,
-                }
-            }
+            Service::Receive | Service::Transmit => Answer {
+                turn: self.serve_console(pause, stage, budget, out),
+                failed: false,
+            },
         }
     }
 

@@ -1,28 +1,20 @@
 //! The accesses of a guest's drivers to the windows of its devices, and what the devices do then.
 
-ghost use Rattle.std.specs.Prelude.{◌≡◌, ◌≢◌, ℕ, List, Some, OnOk, OnErr};
-ghost use Rattle.block_device.specs.Extent.{IsWithin, TouchesExtent};
+ghost use Rattle.std.specs.Prelude.{◌≡◌, ℕ, List, OnOk, OnErr};
 ghost use Rattle.mmio_window.specs.declared.device_kind.DeviceKind.{DeviceKind};
-ghost use Rattle.board.specs.declared.event.EventKind.{EventKind};
-ghost use Rattle.board.specs.declared.pause.Pause.{Pause};
-ghost use Rattle.board.specs.declared.pause.Turn.{Turn};
 ghost use Rattle.board.specs.declared.reply.Reply.{Reply};
-ghost use Rattle.board.specs.Image.{Tells, bytes_of, health_of, sectors_of};
+ghost use Rattle.board.specs.Image.{sectors_of};
 ghost use Rattle.board.specs.Machine.{register, task_at, window_of, with_write};
-ghost use Rattle.board.specs.Pausing.{Begins, PausesByLimit, ServesTurn, duty_of};
-ghost use Rattle.board.specs.Slot.{IsUnnoted, state_of};
+ghost use Rattle.board.specs.Pausing.{duty_of};
+ghost use Rattle.board.specs.Slot.{state_of};
 ghost use Rattle.board.specs.Task.{task_of};
-ghost use Rattle.board.specs.Within.{BeginsWithin};
-ghost use Rattle.board.specs.World.{MayLackMemory};
 
-use crate::pause::{Pause, Service, Turn};
+use crate::pause::Service;
 use crate::reply::Reply;
-use crate::slot::{Answer, Slot};
+use crate::slot::Slot;
 use block_device::REQUESTQ;
-use chain::Budget;
-use console_device::{NoMemory, Outlet, RECEIVEQ, TRANSMITQ};
-use mmio_window::{Action, CONFIGURATION_OFFSET, DeviceKind, Stage, Window};
-use sector_cache::{Image, SectorCache};
+use console_device::{NoMemory, RECEIVEQ, TRANSMITQ};
+use mmio_window::{Action, CONFIGURATION_OFFSET, DeviceKind, Window};
 use std::alloc::Allocator;
 
 /// Where a driver writes to the console without a queue: emerg_wr (5.3.4).
@@ -56,57 +48,7 @@ impl<A: Allocator + Copy> Slot<A> {
         }
     }
 
-    /// Writes a window's registers, and lets its device do its part, which may pause where the budget is spent.
-    /// What the console puts out is appended to `out`.
-    pub(super) fn write_window<I: Image, O: Outlet>(
-        &mut self,
-        window: DeviceKind,
-        offset: u16,
-        width: u8,
-        value: u32,
-        budget: Budget,
-        cache: &mut SectorCache<I, A>,
-        out: &mut O,
-    ) -> Answer<A>
-        requires lies { IsWithin (I.disk cache.old).sector_count self.old.extent }
-        ensures serves { Tells (I.disk cache.old) →
-            ServesTurn (Begins {A = A} (EventKind.Write window offset width value) budget)
-            (state_of (bytes_of (I.disk cache.old)) self.old)
-            (health_of (I.disk cache.old)) (health_of (I.disk cache.new))
-            (state_of (bytes_of (I.disk cache.new)) self.new) result.turn (O.bytes out.old) (O.bytes out.new) }
-        ensures within { (limit : ℕ) → O.limit out.old ≡ Some limit →
-            BeginsWithin {A = A} limit (EventKind.Write window offset width value) budget
-            (state_of (bytes_of (I.disk cache.old)) self.old)
-            (state_of (bytes_of (I.disk cache.new)) self.new) (O.bytes out.old) (O.bytes out.new) result.turn }
-        ensures limit { O.limit out.new ≡ O.limit out.old }
-        ensures unnoted { IsUnnoted self.old self.new (I.disk cache.old) (I.disk cache.new) result.failed }
-        ensures touches { TouchesExtent I.moment I.may_leave I.left_since self.old.extent cache.old cache.new }
-        ensures limited { PausesByLimit budget result.turn }
-        ensures there { result.turn ≢ Turn.Answered Reply.BadSlot }
-        ensures in_range { result.turn ≢ Turn.Answered Reply.BadRange }
-        ensures no_memory { result.turn ≡ Turn.Answered Reply.NoMemory → (image : List ℕ) →
-            MayLackMemory {A = A} (state_of image self.old) (EventKind.Write window offset width value) }
-    {
-        match self.write_registers(window, offset, width, value) {
-            Duty::Serve(service) => {
-                let pause = Pause {
-                    service,
-                    taken: None,
-                };
-                self.serve_piece(pause, Stage::First, budget, cache, out)
-            }
-            Duty::PutOut(byte) => Answer {
-                turn: Turn::Answered(reply_to(self.console_device.emergency(byte, out))),
-                failed: false,
-            },
-            Duty::Nothing => Answer {
-                turn: Turn::Answered(Reply::Done),
-                failed: false,
-            },
-        }
-    }
-
-    // Writes a window's registers, and tells what is left for its device to do.
+    /// Writes a window's registers, and tells what is left for its device to do.
     pub(super) fn write_registers(
         &mut self,
         window: DeviceKind,

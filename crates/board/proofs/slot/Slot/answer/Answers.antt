@@ -1,43 +1,60 @@
-use Rattle.std.proofs.Common.{refl}
-use Rattle.board.specs.declared.event.EventKind.TheVariants.{Input}
+use Rattle.std.proofs.Common.{sym, subst, ◌∙◌, refl}
+use Rattle.block_device.specs.declared.extent.Extent.{Extent}
+use Rattle.block_device.specs.Extent.{IsWithin, TouchesExtent}
 use Rattle.board.specs.Image.{bytes_of, health_of}
 use Rattle.board.specs.Slot.{state_of}
-use Rattle.board.proofs.Blocks.{completion_given, count_of, read_given}
-use Rattle.board.proofs.Turns.{comes_first, silent_answer}
+use Rattle.board.proofs.Beside.{block_asked, unnoted_behind}
+use Rattle.board.proofs.Blocks.{count_of}
 use Rattle.board.proofs.Touching.{untouched}
+use Rattle.board.proofs.Turns.{begins_by, begins_within}
 use Rattle.board.proofs.slot.Slot.answer.Goals as goal
-use Rattle.board.proofs.slot.Slot.answer.Goals.{in-Read, in-MemRead, in-MemWrite, in-Resize, in-Restore, in-Complete}
 
-pub returns-in-Input-clause-serves : goal.returns-in-Input-clause-serves
-returns-in-Input-clause-serves g c = λ tells.
+pub returns-in-Some-clause-serves : goal.returns-in-Some-clause-serves
+returns-in-Some-clause-serves g c = λ tells.
     let old = g.I.Image.disk c.args.cache.now in
-    rw (c.in-Input.is, ← c.as_slice-in-Input.ensures)
-    (comes_first (Input _) _ c.args.budget (state_of (bytes_of old) c.args.self.now) _ _ _ c.input.result (g.O.Outlet.bytes c.args.out.now) refl
-    (c.input.ensures.comes (bytes_of old) (health_of old)))
+    c.in-Some.ensures.serves (bytes_of old) (health_of old)
+    (count_of c.args.self.now.extent old tells (g.met.I.Image.whole c.args.cache.now) c.requires.lies)
 
-pub returns-clause-serves : goal.returns-clause-serves
-returns-clause-serves g c = λ tells.
-    let old = g.I.Image.disk c.args.cache.now in
-    let bytes = bytes_of old in
-    let slot = c.args.self.now in
-    let out = (g.O.Outlet.bytes c.args.out.now) in
-    elim c.match-what.branch [
-      | in-Read w ↦
-          rw (w.self-is, w.reply-is, w.in-Read.is)
-          (silent_answer _ c.args.budget _ _ _ _ _ out refl (read_given (state_of bytes slot) w.in-Read.window w.in-Read.offset w.in-Read.width w.read_window.result (health_of old)
-          (w.read_window.ensures bytes (count_of slot.extent old tells (g.met.I.Image.whole c.args.cache.now) c.requires.lies))))
-      | in-MemRead w ↦ rw (w.self-is, w.reply-is, w.in-MemRead.is) (silent_answer _ c.args.budget _ _ _ _ _ out refl (w.read_memory-reply.ensures.given bytes (health_of old)))
-      | in-MemWrite w ↦ rw (w.self-is, w.reply-is, w.in-MemWrite.is, ← w.as_slice.ensures) (silent_answer _ c.args.budget _ _ _ _ _ out refl (w.write_memory-reply.ensures.given bytes (health_of old)))
-      | in-Resize w ↦ rw (w.self-is, w.reply-is, w.in-Resize.is) (silent_answer _ c.args.budget _ _ _ _ _ out refl (w.resize-reply.ensures.given bytes (health_of old)))
-      | in-Restore w ↦
-          rw (w.self-is, w.reply-is, w.in-Restore.is, ← w.as_slice-in-Restore.ensures)
-          (silent_answer _ c.args.budget _ _ _ _ _ out refl
-          (w.answer_restore-reply.ensures.given bytes (health_of old) (count_of slot.extent old tells (g.met.I.Image.whole c.args.cache.now) c.requires.lies)))
-      | in-Complete w ↦ rw (w.self-is, w.reply-is, w.in-Complete.is) (silent_answer _ c.args.budget _ _ _ _ _ out refl (completion_given (state_of bytes slot) _ (health_of old)))
-    ]
+pub returns-in-Some-clause-within : goal.returns-in-Some-clause-within
+returns-in-Some-clause-within g c = λ limit limited.
+    c.in-Some.ensures.within (bytes_of (g.I.Image.disk c.args.cache.now)) limit limited
 
-pub returns-in-Input-clause-touches : goal.returns-in-Input-clause-touches
-returns-in-Input-clause-touches g c = untouched g.I.Image.moment g.I.Image.may_leave g.I.Image.left_since c.args.self.now.extent c.args.cache.now
+pub returns-in-Some-clause-touches : goal.returns-in-Some-clause-touches
+returns-in-Some-clause-touches g c = untouched g.I.Image.moment g.I.Image.may_leave g.I.Image.left_since c.args.self.now.extent c.args.cache.now
 
-pub returns-clause-touches : goal.returns-clause-touches
-returns-clause-touches g c = untouched g.I.Image.moment g.I.Image.may_leave g.I.Image.left_since c.args.self.now.extent c.args.cache.now
+pub serve_piece-requires : goal.serve_piece-requires
+serve_piece-requires g c = record {
+  lies = subst (λ (e : Extent). IsWithin (g.I.Image.disk c.args.cache.now).sector_count e) (sym c.answer_beside_disk.ensures.extent) c.requires.lies;
+}
+
+pub returns-in-None-clause-serves : goal.returns-in-None-clause-serves
+returns-in-None-clause-serves g c = λ tells.
+    let bytes = bytes_of (g.I.Image.disk c.args.cache.now) in
+    let state = state_of bytes c.args.self.now in
+    let rings = rw (c.in-None.is) at (c.answer_beside_disk.ensures.notified bytes) in
+    rw (← c.in-None.ensures.silent)
+    (begins_by c.args.what.now _ c.args.budget state (state_of bytes c.answer_beside_disk.new.self) _ _ _ c.serve_piece.result.turn _ _
+    (block_asked c.args.what.now state rings) (c.in-None.ensures.readied bytes) (c.serve_piece.ensures.serves tells))
+
+pub returns-in-None-clause-within : goal.returns-in-None-clause-within
+returns-in-None-clause-within g c = λ limit limited.
+    let bytes = bytes_of (g.I.Image.disk c.args.cache.now) in
+    let state = state_of bytes c.args.self.now in
+    let rings = rw (c.in-None.is) at (c.answer_beside_disk.ensures.notified bytes) in
+    rw (← c.in-None.ensures.silent)
+    (begins_within limit c.args.what.now _ c.args.budget state (state_of bytes c.answer_beside_disk.new.self) _ _ _ c.serve_piece.result.turn
+    (block_asked c.args.what.now state rings) (c.in-None.ensures.readied bytes)
+    (c.serve_piece.ensures.within limit (c.answer_beside_disk.ensures.limit ∙ limited)))
+
+pub returns-in-None-clause-unnoted : goal.returns-in-None-clause-unnoted
+returns-in-None-clause-unnoted g c =
+    unnoted_behind _ _ _ _ _ _ c.answer_beside_disk.ensures.extent c.answer_beside_disk.ensures.disturbed c.serve_piece.ensures.unnoted
+
+pub returns-in-None-clause-touches : goal.returns-in-None-clause-touches
+returns-in-None-clause-touches g c =
+    subst (λ (e : Extent). TouchesExtent g.I.Image.moment g.I.Image.may_leave g.I.Image.left_since e c.args.cache.now c.serve_piece.new.cache)
+    c.answer_beside_disk.ensures.extent c.serve_piece.ensures.touches
+
+pub returns-in-None-clause-no_memory : goal.returns-in-None-clause-no_memory
+returns-in-None-clause-no_memory g c = λ lacking image.
+    let found = (c.serve_piece.ensures.no_memory lacking refl).0 in absurd (cc (found))

@@ -1,6 +1,6 @@
-use Rattle.std.proofs.Common.{refl}
+use Rattle.std.proofs.Common.{refl, sym, ◌∙◌}
 use Rattle.board.specs.Slot.{state_of}
-use Rattle.board.proofs.Turns.{refuses, sends, silent_turn}
+use Rattle.board.proofs.Turns.{has_bytes, never_lacks, refuses, sends, silent_turn}
 use Rattle.board.proofs.slot.Slot.serve_console.Goals as goal
 
 pub returns-in-Receive-clause-serves : goal.returns-in-Receive-clause-serves
@@ -21,3 +21,11 @@ returns-in-Err-clause-serves g c = λ image health.
     let served = c.serve_transmit in
     rw (served.ensures.rest)
     (refuses (state_of image c.args.self.now) c.args.pause c.args.stage c.args.budget (g.O.Outlet.limit c.args.out.now) health served.new.self.memory served.new.self.console _ _ c.in-Transmit.is c.in-Err.ensures.no_memory)
+
+pub returns-in-Ok-clause-no_memory : goal.returns-in-Ok-clause-no_memory
+returns-in-Ok-clause-no_memory g c = λ lacking first.
+    absurd (never_lacks c.args.pause c.in-Ok.progress (sym c.turn-in-Ok.ensures ∙ lacking))
+
+pub returns-in-Err-clause-no_memory : goal.returns-in-Err-clause-no_memory
+returns-in-Err-clause-no_memory g c = λ lacking first.
+    (c.in-Transmit.is, has_bytes c.args.stage c.args.budget (g.O.Outlet.limit c.args.out.now) _ _ _ _ _ _ first c.in-Err.ensures.no_memory)

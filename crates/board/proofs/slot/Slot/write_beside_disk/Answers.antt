@@ -1,17 +1,19 @@
-use Rattle.std.proofs.Common.{◌≡◌, ℕ, List, sym, ap, subst, ◌∙◌}
+use Rattle.std.proofs.Common.{◌≡◌, ℕ, List, sym, ap, subst, ◌∙◌, refl}
 use Rattle.guest_memory.specs.Memory.{SameRange}
 use Rattle.guest_memory.proofs.Ranges.{same_trans}
 use Rattle.board.specs.declared.event.EventKind.{EventKind}
 use Rattle.board.specs.declared.event.EventKind.TheVariants.{Write}
 use Rattle.board.specs.declared.pause.Turn.TheVariants.{Answered}
 use Rattle.board.specs.Hosting.{device_at}
-use Rattle.board.specs.Machine.{task_at}
+use Rattle.board.specs.declared.slot.window.Duty.TheVariants as duty
+use Rattle.board.specs.Machine.{task_at, with_write}
 use Rattle.board.specs.Pausing.{Begins, ServesTurn}
 use Rattle.board.specs.Slot.{BoardSlot, state_of}
 use Rattle.board.specs.Task.{Task}
 use Rattle.board.specs.Within.{BeginsWithin}
+use Rattle.board.specs.World.{TakesMemory}
 use Rattle.board.proofs.Beside.{not_block, written_block, written_device, written_range}
-use Rattle.board.proofs.Turns.{begins_by, begins_within, nothing_asked, nothing_turn, put_out_asked, put_out_turn, put_out_within, serve_asked}
+use Rattle.board.proofs.Turns.{begins_by, begins_within, nothing_asked, nothing_turn, put_out_asked, put_out_turn, put_out_within, serve_asked, transmit_asked}
 use Rattle.board.proofs.slot.Slot.write_beside_disk.Goals as goal
 
 pub returns-in-Serve-Block-clause-device : goal.returns-in-Serve-Block-clause-device
@@ -44,6 +46,16 @@ returns-in-Serve g c =
       device = served.ensures.device ∙ written_device c.args.window c.args.offset c.args.width c.args.value c.args.self.now c.write_registers.new.self written.written written.extent;
       block = served.ensures.block ∙ written_block g.row.A.Denot c.args.window c.args.offset c.args.width c.args.value c.args.self.now c.write_registers.new.self written.written;
       range = same_trans _ _ _ (written_range c.args.window c.args.offset c.args.width c.args.value c.args.self.now c.write_registers.new.self written.written) served.ensures.range;
+      extent = served.ensures.extent ∙ written.extent;
+      disturbed = served.ensures.disturbed ∙ written.disturbed;
+      there = served.ensures.there;
+      bad_range = λ refused. absurd (served.ensures.in_range refused);
+      no_memory = λ lacking image.
+          let state = state_of image c.args.self.now in
+          let found = served.ensures.no_memory lacking refl in
+          let asked = transmit_asked (task image) (ap duty.Serve (sym found.0) ∙ (sym c.in-Serve.is ∙ written.duty image)) in
+          subst (λ (t : Task). TakesMemory t (with_write c.args.window c.args.offset c.args.width c.args.value state)) (sym asked)
+          (rw (← written.written image) found.1);
     }
 
 pub returns-in-PutOut-clause-serves : goal.returns-in-PutOut-clause-serves
