@@ -1,15 +1,18 @@
--- A slot's windows stay those of its devices.
-use Rattle.std.proofs.Common.{ℕ, List, Option, Result, Ok, Err}
+-- A slot's windows stay those of its devices, and sound.
+use Rattle.std.proofs.Common.{ℕ, ◌≤◌, ◌∙◌, Bool, List, length, Option, Result, Ok, Err}
 use Rattle.std.specs.Prelude.{IfOk, OnErr}
-use Rattle.guest_memory.specs.Memory.{Memory}
+use Rattle.guest_memory.specs.Memory.{Memory, SameRange}
 use Rattle.chain.specs.declared.budget.Budget.{Budget}
 use Rattle.chain.specs.declared.budget.Progress.{Progress}
 use Rattle.chain.specs.Service.{Device}
 use Rattle.mmio_window.specs.declared.queue.Queue.{Queue}
 use Rattle.mmio_window.specs.declared.stage.Stage.{Stage}
 use Rattle.mmio_window.specs.Pieces.{IsRefusedAt, ServesTo}
+use Rattle.mmio_window.specs.Soundness.{IsSound}
 use Rattle.mmio_window.specs.Window.{WindowState}
 use Rattle.mmio_window.proofs.Devices.{KeepsDevice, KeepsDevice-refused, KeepsDevice-served}
+use Rattle.mmio_window.proofs.Soundness.{IsSound-same_range}
+use Rattle.board.specs.Slot.{IsSoundSlot}
 
 -- a piece of the transmit queue's service, however it ends
 pub transmit_keeps : {E : Type 0} (stage : Stage) (served refused : Device (List ℕ)) (budget : Budget) (queue : Option Queue) (m m' : Memory) (w w' : WindowState) (s s' : List ℕ) (result : Result Progress E)
@@ -19,3 +22,46 @@ transmit_keeps stage served refused budget queue m m' w w' s s' (Ok progress) ok
     KeepsDevice-served served budget 1 stage queue progress m m' w w' s s' ok
 transmit_keeps stage served refused budget queue m m' w w' s s' (Err why) ok no_memory =
     KeepsDevice-refused refused budget 1 stage queue m m' w w' s s' no_memory
+
+-- ---- a slot stays sound
+
+-- where its memory changed
+pub memory_changed : (m m' : Memory) (read_only : Bool) (block console : WindowState) (pending : List ℕ)
+    → IsSoundSlot m read_only block console pending → SameRange m m' → IsSoundSlot m' read_only block console pending
+memory_changed m m' read_only block console pending sound range = record {
+  block_kind = sound.block_kind;
+  block_offers = sound.block_offers;
+  console_kind = sound.console_kind;
+  console_offers = sound.console_offers;
+  block_sound = IsSound-same_range m m' block range sound.block_sound;
+  console_sound = IsSound-same_range m m' console range sound.console_sound;
+  pending_fits = sound.pending_fits;
+}
+
+-- where its block device was at work
+pub block_changed : (m m' : Memory) (read_only : Bool) (block block' console : WindowState) (pending : List ℕ)
+    → IsSoundSlot m read_only block console pending → KeepsDevice block block' → IsSound m' block' → SameRange m m'
+    → IsSoundSlot m' read_only block' console pending
+block_changed m m' read_only block block' console pending sound keeps here range = record {
+  block_kind = keeps.kind ∙ sound.block_kind;
+  block_offers = keeps.offered ∙ sound.block_offers;
+  console_kind = sound.console_kind;
+  console_offers = sound.console_offers;
+  block_sound = here;
+  console_sound = IsSound-same_range m m' console range sound.console_sound;
+  pending_fits = sound.pending_fits;
+}
+
+-- and where its console was
+pub console_changed : (m m' : Memory) (read_only : Bool) (block console console' : WindowState) (pending pending' : List ℕ)
+    → IsSoundSlot m read_only block console pending → KeepsDevice console console' → IsSound m' console' → SameRange m m'
+    → length pending' ≤ 4096 → IsSoundSlot m' read_only block console' pending'
+console_changed m m' read_only block console console' pending pending' sound keeps here range fits = record {
+  block_kind = sound.block_kind;
+  block_offers = sound.block_offers;
+  console_kind = keeps.kind ∙ sound.console_kind;
+  console_offers = keeps.offered ∙ sound.console_offers;
+  block_sound = IsSound-same_range m m' block range sound.block_sound;
+  console_sound = here;
+  pending_fits = fits;
+}

@@ -9,7 +9,7 @@ use Rattle.board.specs.declared.reply.Reply.{Reply}
 use Rattle.board.specs.declared.reply.Reply.TheVariants.{BadSlot, NoMemory}
 use Rattle.board.specs.declared.reply.Record.{Record}
 use Rattle.board.specs.Slot.{SlotState, BoardSlot}
-use Rattle.board.specs.World.{World, SlotStep, MissingStep, Step, Handles, Answers, KeepsOthers, bad_slot, extents_of}
+use Rattle.board.specs.World.{BoardState, IsMissed, World, SlotStep, MissingStep, Step, Handles, Answers, KeepsOthers, bad_slot, extents_of}
 use Rattle.board.specs.Line.{AnswersMissing, Move, IsLine, IsQuiet, HadMemory, HasInterruptWords, IsRun, KeepsIdle, events_of, records_of}
 use Rattle.board.proofs.Alone.{alone, recorded_slot}
 use Rattle.board.proofs.Failures.{given_failures}
@@ -94,18 +94,18 @@ reached_more {A} old mid new events event reply block console out before so_far 
     }
 
 -- another record joins those whose words are right
-pub words_more : {A : Type 0} (so_far after : List (Record A)) (entry : Record A) → after ≡ so_far ++ entry ∷ [] → All HasInterruptWords so_far → entry.block_irq ≤ 3 → entry.console_irq ≤ 3 → All HasInterruptWords after
-words_more {A} so_far after entry added words block console =
+pub words_more : {A : Type 0} (so_far after : List (Record A)) (entry : Record A) → after ≡ so_far ++ entry ∷ [] → All HasInterruptWords so_far → HasInterruptWords entry → All HasInterruptWords after
+words_more {A} so_far after entry added words own =
     let P : Record A → Type 0 = λ w. HasInterruptWords w in
-    subst (λ (rs : List (Record A)). All P rs) (sym added) (All-push P so_far entry words (record { block = block; console = console }))
+    subst (λ (rs : List (Record A)). All P rs) (sym added) (All-push P so_far entry words own)
 
 -- the record of an event of a slot that isn't there joins those of other such events
-pub missing_more : {A : Type 0} (slots now : List BoardSlot) (so_far after : List (Record A)) (h : ℕ) (reply : Reply A) (out : List ℕ) (block console : ℕ) →
+pub missing_more : {I A : Type 0} {old new : BoardState I} (slots now : List BoardSlot) (so_far after : List (Record A)) (h : ℕ) (reply : Reply A) (out : List ℕ) (block console : ℕ) →
     after ≡ so_far ++ record { slot = h; reply = reply; output = out; block_irq = block; console_irq = console } ∷ [] →
     extents_of now ≡ extents_of slots → All (AnswersMissing (length slots)) so_far →
-    (length now ≤ h → reply ≡ BadSlot) → (length now ≤ h → (out ≡ []) × (block ≡ 0) × (console ≡ 0)) →
+    (length now ≤ h → reply ≡ BadSlot) → (length now ≤ h → IsMissed old new [] out block console) →
     All (AnswersMissing (length slots)) after
-missing_more {A} slots now so_far after h reply out block console added many before bad rest =
+missing_more {A = A} slots now so_far after h reply out block console added many before bad rest =
     let P : Record A → Type 0 = λ w. AnswersMissing (length slots) w in
     subst (λ (rs : List (Record A)). All P rs) (sym added) (All-push P so_far _ before is)
   where
@@ -113,7 +113,7 @@ missing_more {A} slots now so_far after h reply out block console added many bef
     as_many = sym (length-map now (λ (s : BoardSlot). s.extent)) ∙ (ap length many ∙ length-map slots (λ (s : BoardSlot). s.extent))
 
     is : length slots ≤ h → record { slot = h; reply = reply; output = out; block_irq = block; console_irq = console } ≡ bad_slot {A = A} h
-    is past = let away : length now ≤ h = omega (arith, as_many, past) in rw (bad away, (rest away).0, (rest away).1, (rest away).2) refl
+    is past = let away : length now ≤ h = omega (arith, as_many, past) in let missed = rest away in rw (bad away, missed.silent, missed.block, missed.console) refl
 
 -- what was reached is a run
 pub run_of : {A : Type 0} (old new : World) (events : List (Event A)) (before after : List (Record A)) → Reached old new events before after → IsRun old new events before after

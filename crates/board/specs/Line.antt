@@ -7,7 +7,7 @@ use Rattle.board.specs.declared.reply.Reply.TheVariants.{NoMemory}
 use Rattle.board.specs.declared.reply.Record.{Record}
 use Rattle.board.specs.declared.reply.RunStop.{RunStop}
 use Rattle.board.specs.Machine.{RunsOnItsOwn}
-use Rattle.board.specs.Slot.{SlotState, BoardSlot}
+use Rattle.board.specs.Slot.{AreInterruptWords, SlotState, BoardSlot}
 use Rattle.board.specs.World.{World, Step, bad_slot}
 
 -- One event that was handled: the event, its record, and what can be seen of the board after it.
@@ -85,11 +85,9 @@ IsNoted g old moves new =
 abbrev pub HadMemory : {A : Type 0} → ℕ → List (Record A) → Type 0
 HadMemory g written = All (λ entry. entry.slot ≡ g → entry.reply ≢ NoMemory) written
 
--- both interrupt words have no bits but the two that a device may set: a used buffer, and a change of
--- configuration (4.2.2)
-pub record HasInterruptWords {A : Type 0} (written : Record A) : Type 0 where
-  pub block : written.block_irq ≤ 3
-  pub console : written.console_irq ≤ 3
+-- its interrupt words have no bits but those that a device may set
+abbrev pub HasInterruptWords : {A : Type 0} → Record A → Type 0
+HasInterruptWords written = AreInterruptWords written.block_irq written.console_irq
 
 -- a record of a slot that isn't one of so many is that of an event of a slot that isn't there
 abbrev pub AnswersMissing : {A : Type 0} → ℕ → Record A → Type 0

@@ -1,5 +1,5 @@
 -- An event whose service may pause: what each piece of the service comes to, for one slot.
-use Rattle.std.specs.Prelude.{◌≡◌, ◌≢◌, ◌⊎◌, ℕ, ◌<◌, ◌||◌, Bool, false, nat_lt, Option, Some, None, List, [], ◌++◌, slice_set}
+use Rattle.std.specs.Prelude.{◌≡◌, ◌≢◌, ◌⊎◌, ⊤, ℕ, ◌<◌, ◌||◌, Bool, false, nat_lt, Option, Some, None, List, [], ◌++◌, slice_set}
 use Rattle.std.specs.List.{slice_get}
 use Rattle.chain.specs.declared.budget.Budget.{Budget}
 use Rattle.chain.specs.declared.budget.Progress.{Progress}
@@ -18,6 +18,8 @@ use Rattle.board.specs.declared.event.EventKind.TheVariants.{Write, Input}
 use Rattle.board.specs.declared.pause.Pause.{Pause}
 use Rattle.board.specs.declared.pause.Service.{Service}
 use Rattle.board.specs.declared.pause.Service.TheVariants.{Block, Receive, Transmit}
+use Rattle.board.specs.declared.pause.Work.{Work}
+use Rattle.board.specs.declared.pause.Work.TheVariants.{Begin, Resume}
 use Rattle.board.specs.declared.pause.Turn.{Turn}
 use Rattle.board.specs.declared.pause.Turn.TheVariants.{Answered, More}
 use Rattle.board.specs.declared.reply.Reply.{Reply}
@@ -28,7 +30,7 @@ use Rattle.board.specs.Image.{Health, sectors_of, disk_with}
 use Rattle.board.specs.Machine.{block_irq, console_irq, task_at, with_write, with_input}
 use Rattle.board.specs.Slot.{SlotState}
 use Rattle.board.specs.Task.{Task, Nothing, ServeBlock, ServeReceive, ServeTransmit, PutOut, device_of}
-use Rattle.board.specs.World.{World, MayGive, lacks_memory, noted}
+use Rattle.board.specs.World.{World, MayGive, MayLackMemory, lacks_memory, noted}
 
 -- ---- one piece
 
@@ -84,6 +86,10 @@ IsPiece Transmit stage budget progress old before after new output = IsTransmitP
 -- whether a budget has a limit: without one no service pauses
 abbrev pub HasLimit : Budget → Type 0
 HasLimit budget = (budget.chains ≢ None) ⊎ (budget.bytes ≢ None)
+
+-- only within a budget that has a limit is this turn a pause
+abbrev pub PausesByLimit : {A : Type 0} → Budget → Turn A → Type 0
+PausesByLimit budget turn = (next : Pause) → turn ≡ More next → HasLimit budget
 
 -- ---- its answer
 
@@ -157,6 +163,16 @@ Begins what budget old before after new output turn =
 -- What a service that paused comes to as it goes on.
 abbrev pub GoesOn : {A : Type 0} → Pause → Budget → SlotState → Health → Health → SlotState → List ℕ → Turn A → Type 0
 GoesOn pause budget old before after new output turn = ComesTo pause Next budget old before after new output turn
+
+-- What a turn of a slot comes to, by what it is to do: an event begins, or a service that paused goes on.
+abbrev pub Does : {A : Type 0} → Work A → Budget → SlotState → Health → Health → SlotState → List ℕ → Turn A → Type 0
+Does (Begin what) budget old before after new output turn = Begins what.now budget old before after new output turn
+Does (Resume pause) budget old before after new output turn = GoesOn pause budget old before after new output turn
+
+-- the turns that may find no memory: those of the events that may, and any of a service that goes on
+abbrev pub MayLackMemoryIn : {A : Type 0} → Work A → SlotState → Type 0
+MayLackMemoryIn (Begin what) state = MayLackMemory state what.now
+MayLackMemoryIn (Resume pause) state = ⊤
 
 -- ---- what is noted of it
 

@@ -130,6 +130,12 @@ opened spec = record {
   disturbed = false;
 }
 
+-- Both interrupt words have no bits but the two that a device may set: a used buffer, and a change of configuration
+-- (4.2.2).
+pub record AreInterruptWords (block_irq console_irq : ℕ) : Type 0 where
+  pub block : block_irq ≤ 3
+  pub console : console_irq ≤ 3
+
 -- InterruptStatus of a slot's two windows (4.2.2), the block device's before the console's
 abbrev pub interrupt_words : BoardSlot → ℕ × ℕ
 interrupt_words slot = (interrupt_bits slot.block.interrupts, interrupt_bits slot.console.interrupts)

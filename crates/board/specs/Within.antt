@@ -1,5 +1,6 @@
 -- What an outlet with a limit decides: which of the bytes that a console puts out may wait in it.
 use Rattle.std.specs.Prelude.{◌≡◌, ◌≢◌, ◌⊎◌, ℕ, ◌<◌, ◌≤◌, ⊤, Option, Some, None, List, [], ◌∷◌, ◌++◌, length}
+use Rattle.std.specs.List.{slice_get}
 use Rattle.chain.specs.declared.budget.Budget.{Budget}
 use Rattle.chain.specs.declared.budget.Progress.{Progress}
 use Rattle.chain.specs.declared.budget.Progress.TheVariants as progress
@@ -8,12 +9,15 @@ use Rattle.mmio_window.specs.declared.stage.Stage.{Stage}
 use Rattle.mmio_window.specs.declared.stage.Stage.TheVariants.{First, Next}
 use Rattle.mmio_window.specs.Serving.{Notified}
 use Rattle.mmio_window.specs.Window.{queue_at}
+use Rattle.sector_cache.specs.Disk.{Disk}
 use Rattle.console_device.specs.Device.{transmit_fitting, transmit_within}
 use Rattle.board.specs.declared.event.EventKind.{EventKind}
 use Rattle.board.specs.declared.event.EventKind.TheVariants.{Write}
 use Rattle.board.specs.declared.pause.Pause.{Pause}
 use Rattle.board.specs.declared.pause.Service.{Service}
 use Rattle.board.specs.declared.pause.Service.TheVariants.{Transmit}
+use Rattle.board.specs.declared.pause.Work.{Work}
+use Rattle.board.specs.declared.pause.Work.TheVariants.{Begin, Resume}
 use Rattle.board.specs.declared.pause.Turn.{Turn}
 use Rattle.board.specs.declared.pause.Turn.TheVariants.{Answered, More}
 use Rattle.board.specs.declared.reply.Reply.{Reply}
@@ -21,8 +25,10 @@ use Rattle.board.specs.declared.reply.Reply.TheVariants.{Done, NoMemory}
 use Rattle.board.specs.Machine.{IsNext, task_at, with_write}
 use Rattle.mmio_window.specs.Pieces.{IsRefusedAt, ServesTo}
 use Rattle.board.specs.Pausing.{asked, readied, reply_of}
-use Rattle.board.specs.Slot.{SlotState}
+use Rattle.board.specs.Image.{bytes_of}
+use Rattle.board.specs.Slot.{BoardSlot, SlotState, state_of}
 use Rattle.board.specs.Task.{Task, ServeTransmit, PutOut}
+use Rattle.board.specs.World.{BoardState}
 
 -- what a guest is answered whose transmit queue was served to this end
 abbrev pub reply_at : {A : Type 0} → Ending → Reply A
@@ -57,6 +63,14 @@ TakesWithin limit state (Write window offset width value) after waiting left rep
     PutsOutWithin limit (task_at window offset width value state) (with_write window offset width value state)
     after waiting left reply
 TakesWithin limit state what after waiting left reply = ⊤
+
+-- How an outlet decides what a slot of a board puts out: by its limit, where it has one, of the slot as its guest sees it
+-- before and after.
+abbrev pub DecidesSlot : {I : Type 0} → (I → Disk) → Option ℕ → ℕ → BoardState I → BoardState I → (ℕ → SlotState → SlotState → Type 0) → Type 0
+DecidesSlot disk outlet slot old new Within =
+    (limit : ℕ) → outlet ≡ Some limit →
+    (found after : BoardSlot) → slice_get old.slots slot ≡ Some found → slice_get new.slots slot ≡ Some after →
+    Within limit (state_of (bytes_of (disk old.image)) found) (state_of (bytes_of (disk new.image)) after)
 
 -- ---- a guest with its outlet
 
@@ -129,3 +143,8 @@ BeginsWithin limit what budget old new waiting left turn =
 abbrev pub GoesOnWithin : {A : Type 0} → ℕ → Pause → Budget → SlotState → SlotState → List ℕ → List ℕ → Turn A → Type 0
 GoesOnWithin limit pause budget old new waiting left turn =
     PieceWithin limit pause Next budget old new waiting left turn
+
+-- And so how a turn is, by what its slot is to do.
+abbrev pub DoesWithin : {A : Type 0} → ℕ → Work A → Budget → SlotState → SlotState → List ℕ → List ℕ → Turn A → Type 0
+DoesWithin limit (Begin what) budget old new waiting left turn = BeginsWithin limit what.now budget old new waiting left turn
+DoesWithin limit (Resume pause) budget old new waiting left turn = GoesOnWithin limit pause budget old new waiting left turn

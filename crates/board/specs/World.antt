@@ -1,5 +1,5 @@
 -- The whole board as it can be seen from outside, and what one event may do to it.
-use Rattle.std.specs.Prelude.{◌≡◌, ◌≢◌, ◌⊎◌, ℕ, ◌<◌, ◌≤◌, ◌||◌, Bool, true, false, nat_lt, if◌then◌else◌, IsTrue, ⊤, Some, List, [], ◌++◌, map, slice_set, MatchOption}
+use Rattle.std.specs.Prelude.{◌≡◌, ◌≢◌, ◌⊎◌, ℕ, ◌<◌, ◌≤◌, ◌||◌, Bool, true, false, nat_lt, if◌then◌else◌, IsTrue, ⊤, Some, List, [], ◌++◌, map, slice_set, IsSomeAnd, MatchOption}
 use Rattle.std.specs.List.{slice_get}
 use Rattle.guest_memory.specs.Memory.{Inside, Memory, is_inside}
 use Rattle.chain.specs.Service.{Site, Refused, IsRefusedService}
@@ -251,6 +251,17 @@ pub record KeepsBoard {A : Type 0} (old : World) (written : Record A) (new : Wor
   pub outside : new.outside ≡ old.outside
   pub health : new.health ≡ old.health
   pub output : written.output ≡ []
+
+-- A call for a slot that isn't there changes nothing, puts nothing out and shows 0 for both interrupt words.
+pub record IsMissed {I : Type 0} (old new : BoardState I) (out_before out_after : List ℕ) (block_irq console_irq : ℕ) : Type 0 where
+  pub same : new ≡ old
+  pub silent : out_after ≡ out_before
+  pub block : block_irq ≡ 0
+  pub console : console_irq ≡ 0
+
+-- the slot of that number is there, and whatever the image has, this holds of what its guest can see
+abbrev pub HoldsAt : ℕ → List BoardSlot → (SlotState → Type 0) → Type 0
+HoldsAt slot slots Holds = IsSomeAnd (slice_get slots slot) (λ found. (image : List ℕ) → Holds (state_of image found))
 
 -- every slot but that one is kept as it was
 abbrev pub KeepsOthers : ℕ → List BoardSlot → List BoardSlot → Type 0

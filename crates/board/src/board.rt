@@ -4,10 +4,10 @@ ghost use Rattle.std.specs.Prelude.{◌≡◌, ◌≢◌, ◌↔◌, ◌≤◌, 
 ghost use Rattle.std.specs.List.{slice_get};
 ghost use Rattle.board.specs.Durable.{TouchesSlot};
 ghost use Rattle.board.specs.Line.{AnswersMissing, IsRun, HasInterruptWords, KeepsIdle, events_done};
-ghost use Rattle.board.specs.Slot.{BoardSlot, state_of};
-ghost use Rattle.board.specs.Image.{Tells, bytes_of};
-ghost use Rattle.board.specs.World.{Handles, Answers, KeepsOthers, MayLackMemory, StaysInExtents, disturbed_of, met_refusal, noted, world_of};
-ghost use Rattle.board.specs.Within.{TakesWithin};
+ghost use Rattle.board.specs.Slot.{AreInterruptWords};
+ghost use Rattle.board.specs.Image.{Tells};
+ghost use Rattle.board.specs.World.{Handles, HoldsAt, Answers, IsMissed, KeepsOthers, MayLackMemory, StaysInExtents, disturbed_of, met_refusal, noted, world_of};
+ghost use Rattle.board.specs.Within.{DecidesSlot, TakesWithin};
 
 mod access;
 mod make;
@@ -18,8 +18,8 @@ mod view;
 pub use crate::board::pieces::Taken;
 use crate::bytes::Bytes;
 use crate::event::{Event, EventKind};
-use crate::pause::Turn;
-use crate::reply::{Record, Reply, RunStop};
+use crate::pause::{Turn, Work};
+use crate::reply::{Handled, Record, Reply, RunStop};
 use crate::slot::Slot;
 use chain::Budget;
 use console_device::Outlet;
@@ -46,16 +46,8 @@ impl<I: Image, A: Allocator> Model for Board<I, A> {
     ghost invariant = { λ b. AreSound (I.disk b.cache).sector_count (extents_of b.slots.items) };
 }
 
-// What an event came to, beside what was put out.
-#[derive(Drop)]
-struct Handled<A: Allocator = Global> {
-    reply: Reply<A>,
-    block_irq: u8,
-    console_irq: u8,
-}
-
 impl<I: Image, A: Allocator + Copy> Board<I, A> {
-    /// Handles one event to its end. What the slot's console puts out is appended to `out`.
+    /// Handles one event to its end, as `handle` does. What the slot's console puts out is appended to `out`.
     #[tactic(auto, using(crate::proofs::Runs::answered))]
     pub fn step<O: Outlet>(&mut self, event: &Event<A>, out: &mut O) -> Reply<A>
         ensures step { Tells (I.disk self.old.image) →
@@ -63,11 +55,8 @@ impl<I: Image, A: Allocator + Copy> Board<I, A> {
             (world_of I.disk self.new) }
 
         // by an outlet with a limit, what waits in it decides what is refused
-        ensures within { (limit : ℕ) → O.limit out.old ≡ Some limit → (found after : BoardSlot) →
-            slice_get self.old.slots event.now.slot ≡ Some found → slice_get self.new.slots event.now.slot ≡ Some after →
-            TakesWithin limit (state_of (bytes_of (I.disk self.old.image)) found) event.now.what
-            (state_of (bytes_of (I.disk self.new.image)) after)
-            (O.bytes out.old) (O.bytes out.new) result }
+        ensures within { DecidesSlot I.disk (O.limit out.old) event.now.slot self.old self.new (λ limit found after.
+            TakesWithin limit found event.now.what after (O.bytes out.old) (O.bytes out.new) result) }
         ensures limit { O.limit out.new ≡ O.limit out.old }
 
         ensures stays { StaysInExtents I.disk self.old self.new }
@@ -86,8 +75,7 @@ impl<I: Image, A: Allocator + Copy> Board<I, A> {
         ensures bad_range_keeps { result ≡ Reply.BadRange → self.new ≡ self.old }
         ensures others { KeepsOthers event.now.slot self.old.slots self.new.slots }
         ensures no_memory { result ≡ Reply.NoMemory →
-            IsSomeAnd (slice_get self.old.slots event.now.slot)
-            (λ slot. (image : List ℕ) → MayLackMemory (state_of image slot) event.now.what) }
+            HoldsAt event.now.slot self.old.slots (λ state. MayLackMemory state event.now.what) }
     {
         self.handle(event.slot, &event.what, out).reply
     }
@@ -130,20 +118,17 @@ impl<I: Image, A: Allocator + Copy> Board<I, A> {
         Ok(())
     }
 
-    // Handles one event of a slot.
-    fn handle<O: Outlet>(&mut self, slot: u8, what: &EventKind<A>, out: &mut O) -> Handled<A>
+    /// Handles one event of a slot to its end, and tells both interrupt words after it. What its console puts out is
+    /// appended to `out`.
+    pub fn handle<O: Outlet>(&mut self, slot: u8, what: &EventKind<A>, out: &mut O) -> Handled<A>
         ensures handles { Tells (I.disk self.old.image) →
             Handles (world_of I.disk self.old) (record { slot = slot; what = what.now })
             result.reply result.block_irq result.console_irq
             (O.bytes out.old) (O.bytes out.new) (world_of I.disk self.new) }
-        ensures within { (limit : ℕ) → O.limit out.old ≡ Some limit → (found after : BoardSlot) →
-            slice_get self.old.slots slot ≡ Some found → slice_get self.new.slots slot ≡ Some after →
-            TakesWithin limit (state_of (bytes_of (I.disk self.old.image)) found) what.now
-            (state_of (bytes_of (I.disk self.new.image)) after)
-            (O.bytes out.old) (O.bytes out.new) result.reply }
+        ensures within { DecidesSlot I.disk (O.limit out.old) slot self.old self.new (λ limit found after.
+            TakesWithin limit found what.now after (O.bytes out.old) (O.bytes out.new) result.reply) }
         ensures limit { O.limit out.new ≡ O.limit out.old }
-        ensures block_word { result.block_irq ≤ 3 }
-        ensures console_word { result.console_irq ≤ 3 }
+        ensures words { AreInterruptWords result.block_irq result.console_irq }
         ensures stays { StaysInExtents I.disk self.old self.new }
         ensures touches { TouchesSlot I.moment I.may_leave I.left_since slot self.old self.new }
         ensures noted { disturbed_of self.new.slots ≡ noted slot
@@ -151,19 +136,18 @@ impl<I: Image, A: Allocator + Copy> Board<I, A> {
             (disturbed_of self.old.slots) }
         ensures bad_slot { (result.reply ≡ Reply.BadSlot) ↔ (length self.old.slots ≤ slot) }
         ensures bad_slot_keeps { result.reply ≡ Reply.BadSlot → self.new ≡ self.old }
-        ensures missing { length self.old.slots ≤ slot → (O.bytes out.new ≡ O.bytes out.old)
-            × (result.block_irq ≡ 0) × (result.console_irq ≡ 0) }
+        ensures missing { length self.old.slots ≤ slot →
+            IsMissed self.old self.new (O.bytes out.old) (O.bytes out.new) result.block_irq result.console_irq }
         ensures bad_range_keeps { result.reply ≡ Reply.BadRange → self.new ≡ self.old }
         ensures others { KeepsOthers slot self.old.slots self.new.slots }
         ensures no_memory { result.reply ≡ Reply.NoMemory →
-            IsSomeAnd (slice_get self.old.slots slot)
-            (λ found. (image : List ℕ) → MayLackMemory (state_of image found) what.now) }
+            HoldsAt slot self.old.slots (λ state. MayLackMemory state what.now) }
     {
         let Taken {
             turn,
             block_irq,
             console_irq,
-        } = self.begin(slot, what, Budget::UNLIMITED, out);
+        } = self.turn(slot, Work::Begin(what), Budget::UNLIMITED, out);
         match turn {
             Turn::Answered(reply) => Handled {
                 reply,

@@ -2,8 +2,7 @@
 //! what it wants and the host says what came of it.
 //!
 //! `slot` has one guest, of whose requests one is in flight at most; `access` is what an embedder reaches between events,
-//! `view` what somebody sees who only looks, `saved` a slot's snapshot,
-//! `reply` what a call comes to, and `laws` has what holds of all calls, whatever their order. Nothing is shared between slots: there is no image.
+//! `view` what somebody sees who only looks, `saved` a slot's snapshot, and `laws` has what holds of all calls, whatever their order. Nothing is shared between slots: there is no image.
 
 ghost use Rattle.std.specs.Prelude.{◌≡◌, ◌≢◌, ◌↔◌, ◌<◌, ◌≤◌, ℕ, List, Option, Some, None, length, map, IfOk, IfSome, IfNone, IsSome, IsSomeAnd, IfErr, IsErrAnd, OnOk};
 ghost use Rattle.std.specs.List.{slice_get};
@@ -16,11 +15,11 @@ ghost use Rattle.board.specs.Fault.{AreGoodHosted, RefusesHosted};
 ghost use Rattle.board.specs.Hosting.{hosted_opened, operation_in};
 ghost use Rattle.board.specs.HostedLine.{KeepsOtherGuests, TakesCall};
 ghost use Rattle.board.specs.Lent.{AreBytesOf, hosted_over, made_over};
+ghost use Rattle.board.specs.Slot.{AreInterruptWords};
 ghost use Rattle.std.specs.Vec.{vec_items};
 
 mod access;
 mod laws;
-mod reply;
 mod saved;
 mod slot;
 mod view;
@@ -31,8 +30,8 @@ pub use crate::hosted::laws::{
     a_flight_outlasts_own_events, a_hosted_guest_alone_has_one_run, an_honest_host_serves,
     each_hosted_guest_is_alone, one_hosted_outcome, what_waits_changes_nothing,
 };
-pub use crate::hosted::reply::HostedTaken;
 use crate::hosted::slot::HostedSlot;
+use crate::reply::Handled;
 use crate::spec::SlotSpec;
 use crate::{check, lent};
 use block_device::{Operation, Verdict};
@@ -100,37 +99,35 @@ impl<A: Allocator + Copy> HostedBoard<A> {
 
     /// Handles one event of a slot, which may be the completion of what is in flight. What its console puts out is
     /// appended to `out`.
-    pub fn step<O: Outlet>(&mut self, slot: u8, what: &EventKind<A>, out: &mut O) -> HostedTaken<A>
+    pub fn step<O: Outlet>(&mut self, slot: u8, what: &EventKind<A>, out: &mut O) -> Handled<A>
         ensures takes { TakesCall self.old slot what.now (O.limit out.old) result.reply
             result.block_irq result.console_irq (O.bytes out.old) (O.bytes out.new) self.new }
         ensures others { KeepsOtherGuests slot self.old self.new }
         ensures limit { O.limit out.new ≡ O.limit out.old }
-        ensures block_word { result.block_irq ≤ 3 }
-        ensures console_word { result.console_irq ≤ 3 }
+        ensures words { AreInterruptWords result.block_irq result.console_irq }
     {
         let Some(found) = self.slots.get_mut(slot as usize) else {
-            return HostedTaken::missing();
+            return Handled::missing();
         };
         let reply = found.step(self.alloc, what, out);
-        HostedTaken::after(reply, found)
+        found.handled(reply)
     }
 }
 
 impl<A: Allocator> HostedBoard<A> {
     /// Completes what is in flight of a slot by what came of it: the event of that completion.
-    pub fn complete(&mut self, slot: u8, verdict: Verdict) -> HostedTaken<A>
+    pub fn complete(&mut self, slot: u8, verdict: Verdict) -> Handled<A>
         ensures takes { (limit : Option ℕ) (waiting : List ℕ) →
             TakesCall self.old slot (EventKind.Complete verdict) limit result.reply
             result.block_irq result.console_irq waiting waiting self.new }
         ensures others { KeepsOtherGuests slot self.old self.new }
-        ensures block_word { result.block_irq ≤ 3 }
-        ensures console_word { result.console_irq ≤ 3 }
+        ensures words { AreInterruptWords result.block_irq result.console_irq }
     {
         let Some(found) = self.slots.get_mut(slot as usize) else {
-            return HostedTaken::missing();
+            return Handled::missing();
         };
         let reply = found.complete(verdict);
-        HostedTaken::after(reply, found)
+        found.handled(reply)
     }
 
     /// What the host is asked to do for a slot. There is no answer where nothing of it is in flight.

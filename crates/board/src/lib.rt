@@ -6,8 +6,8 @@
 //! difference that another one caused.
 //!
 //! `board` is the board. `spec` says what it is made of, `check` and `fault` why one is refused;
-//! `event` is what comes in and `reply` what goes out, and `pause` what an event comes to whose service
-//! may pause. `slot` serves one guest, its memory, its two windows and its two devices, and knows of no
+//! `event` is what comes in and `reply` what goes out, and `pause` what a turn of a slot is asked and comes to,
+//! whose service may pause. `slot` serves one guest, its memory, its two windows and its two devices, and knows of no
 //! other; `counters` is what it counts of them, `features` says what its devices offer, and `lent` makes its memory of a host's bytes. `laws` has what holds of every run by itself.
 #![tactic(auto)]
 
@@ -37,7 +37,7 @@ pub use event::{Event, EventKind};
 pub use fault::BoardFault;
 pub use guest_memory::{GuestMemory, MemoryFault, RegionSpec, Regions};
 pub use hosted::{
-    HostedBoard, HostedTaken, a_flight_outlasts_own_events, a_hosted_guest_alone_has_one_run,
+    HostedBoard, a_flight_outlasts_own_events, a_hosted_guest_alone_has_one_run,
     an_honest_host_serves, each_hosted_guest_is_alone, one_hosted_outcome,
     what_waits_changes_nothing,
 };
@@ -48,8 +48,8 @@ pub use laws::{
     want_of_memory_changes_nothing, want_of_memory_keeps_the_rest,
 };
 pub use mmio_window::{DeviceKind, Stage};
-pub use pause::{Pause, Service, Turn};
-pub use reply::{Record, Reply, RunStop};
+pub use pause::{Pause, Service, Turn, Work};
+pub use reply::{Handled, Record, Reply, RunStop};
 pub use saved::{RestoreFault, RestoreRefusal, SaveRefusal};
 pub use sector_cache::{CacheFault, Image, ImageError, ImageFault, MemoryImage, Refused};
 pub use snapshot::{ShortBuffer, SnapshotFault};

@@ -1,8 +1,9 @@
-//! A service that pauses: which one, and what a call for an event comes to.
+//! A turn of a slot: what it is to do, the service that pauses in it, and what it comes to.
 
 ghost use Rattle.std.specs.Prelude.{◌≡◌};
 ghost use Rattle.board.specs.Pausing.{reply_of, turn_of};
 
+use crate::event::EventKind;
 use crate::reply::Reply;
 use chain::Progress;
 use std::alloc::{Allocator, Global};
@@ -46,6 +47,15 @@ impl Pause {
             Progress::Done => Turn::Answered(self.reply()),
         }
     }
+}
+
+/// What a slot is to do in a turn.
+#[derive(Drop)]
+pub enum Work<'a, A: Allocator = Global> {
+    /// An event begins.
+    Begin(&'a EventKind<A>),
+    /// A service that paused goes on.
+    Resume(Pause),
 }
 
 /// What an event came to, or a piece of its service.

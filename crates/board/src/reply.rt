@@ -1,5 +1,8 @@
 //! What goes out: the reply to each event, and its record.
 
+ghost use Rattle.std.specs.Prelude.{◌≡◌};
+ghost use Rattle.board.specs.declared.reply.Reply.{Reply};
+
 use crate::bytes::Bytes;
 use std::alloc::{Allocator, Global};
 use thiserror::Error;
@@ -28,6 +31,31 @@ pub enum Reply<A: Allocator = Global> {
     Busy,
     /// Nothing of the slot is in flight. Nothing changed.
     Idle,
+}
+
+/// What an event came to: its reply, and InterruptStatus of both windows after it (4.2.2), 0 where there is no such slot.
+#[derive(Drop)]
+pub struct Handled<A: Allocator = Global> {
+    pub reply: Reply<A>,
+    pub block_irq: u8,
+    pub console_irq: u8,
+}
+
+impl<A: Allocator> Handled<A> {
+    /// Where there is no such slot.
+    pub(crate) fn missing() -> Handled<A>
+        ensures { result ≡ record {
+          reply = Reply.BadSlot;
+          block_irq = 0;
+          console_irq = 0;
+        } }
+    {
+        Handled {
+            reply: Reply::BadSlot,
+            block_irq: 0,
+            console_irq: 0,
+        }
+    }
 }
 
 /// An event that was handled: whose it was, what it was answered, and what could be seen after it.

@@ -12,10 +12,10 @@ ghost use Rattle.block_device.specs.Extent.{IsWithin, TouchesExtent};
 ghost use Rattle.board.specs.Image.{Tells, bytes_of, health_of};
 ghost use Rattle.board.specs.Lending.{LendsBytes};
 ghost use Rattle.board.specs.Lent.{AreBytesOf, made_over, opened_over};
-ghost use Rattle.board.specs.Pausing.{Begins, GoesOn, HasLimit, ServesTurn, lacks_memory_in, met_in};
-ghost use Rattle.board.specs.Slot.{IsUnnoted, StaysInSlot, interrupt_words, opened, state_of};
+ghost use Rattle.board.specs.Pausing.{Begins, Does, PausesByLimit, MayLackMemoryIn, ServesTurn, lacks_memory_in, met_in};
+ghost use Rattle.board.specs.Slot.{AreInterruptWords, IsUnnoted, StaysInSlot, interrupt_words, opened, state_of};
 ghost use Rattle.board.specs.World.{MayLackMemory};
-ghost use Rattle.board.specs.Within.{BeginsWithin, GoesOnWithin};
+ghost use Rattle.board.specs.Within.{BeginsWithin, DoesWithin};
 ghost use Rattle.board.specs.declared.pause.Pause.{Pause};
 ghost use Rattle.board.specs.declared.pause.Turn.{Turn};
 ghost use Rattle.board.specs.declared.reply.Reply.{Reply};
@@ -32,7 +32,7 @@ mod window;
 
 use crate::counters::Counters;
 use crate::event::EventKind;
-use crate::pause::{Pause, Turn};
+use crate::pause::{Turn, Work};
 use crate::reply::Reply;
 use crate::spec::SlotSpec;
 use crate::{features, lent};
@@ -126,23 +126,23 @@ impl<A: Allocator + Copy> Slot<A> {
         })
     }
 
-    /// Handles one event of the slot's guest, whose service may pause where the budget is spent, and notes a
-    /// refusal. What its console puts out is appended to `out`.
-    pub(crate) fn begin<I: Image, O: Outlet>(
+    /// Takes a turn, in which a service may pause where the budget is spent, and notes a refusal. What the console puts
+    /// out is appended to `out`.
+    pub(crate) fn turn<I: Image, O: Outlet>(
         &mut self,
         alloc: A,
-        what: &EventKind<A>,
+        work: Work<'_, A>,
         budget: Budget,
         cache: &mut SectorCache<I, A>,
         out: &mut O,
     ) -> Turn<A>
         requires lies { IsWithin (I.disk cache.old).sector_count self.old.extent }
         ensures serves { Tells (I.disk cache.old) →
-            ServesTurn (Begins what.now budget) (state_of (bytes_of (I.disk cache.old)) self.old)
+            ServesTurn (Does work.entry budget) (state_of (bytes_of (I.disk cache.old)) self.old)
             (health_of (I.disk cache.old)) (health_of (I.disk cache.new))
             (state_of (bytes_of (I.disk cache.new)) self.new) result (O.bytes out.old) (O.bytes out.new) }
         ensures within { (limit : ℕ) → O.limit out.old ≡ Some limit →
-            BeginsWithin limit what.now budget (state_of (bytes_of (I.disk cache.old)) self.old)
+            DoesWithin limit work.entry budget (state_of (bytes_of (I.disk cache.old)) self.old)
             (state_of (bytes_of (I.disk cache.new)) self.new)
             (O.bytes out.old) (O.bytes out.new) result }
         ensures limit { O.limit out.new ≡ O.limit out.old }
@@ -152,44 +152,23 @@ impl<A: Allocator + Copy> Slot<A> {
         ensures touches { TouchesExtent I.moment I.may_leave I.left_since self.old.extent cache.old cache.new }
 
         // a slot that is there is never said to be missing, and what is refused changes nothing
-        ensures limited { (next : Pause) → result ≡ Turn.More next → HasLimit budget }
+        ensures limited { PausesByLimit budget result }
         ensures there { result ≢ Turn.Answered Reply.BadSlot }
         ensures bad_range { result ≡ Turn.Answered Reply.BadRange → self.new ≡ self.old }
         ensures bad_range_image { result ≡ Turn.Answered Reply.BadRange → cache.new ≡ cache.old }
         ensures no_memory { result ≡ Turn.Answered Reply.NoMemory → (image : List ℕ) →
-            MayLackMemory (state_of image self.old) what.now }
+            MayLackMemoryIn work.entry (state_of image self.old) }
     {
-        let answer = self.answer(alloc, what, budget, cache, out);
-        self.note(answer)
-    }
-
-    /// Goes on with a service that paused, and notes a refusal.
-    pub(crate) fn go_on<I: Image, O: Outlet>(
-        &mut self,
-        pause: Pause,
-        budget: Budget,
-        cache: &mut SectorCache<I, A>,
-        out: &mut O,
-    ) -> Turn<A>
-        requires lies { IsWithin (I.disk cache.old).sector_count self.old.extent }
-        ensures serves { Tells (I.disk cache.old) →
-            ServesTurn (GoesOn pause budget) (state_of (bytes_of (I.disk cache.old)) self.old)
-            (health_of (I.disk cache.old)) (health_of (I.disk cache.new))
-            (state_of (bytes_of (I.disk cache.new)) self.new) result (O.bytes out.old) (O.bytes out.new) }
-        ensures within { (limit : ℕ) → O.limit out.old ≡ Some limit →
-            GoesOnWithin limit pause budget (state_of (bytes_of (I.disk cache.old)) self.old)
-            (state_of (bytes_of (I.disk cache.new)) self.new)
-            (O.bytes out.old) (O.bytes out.new) result }
-        ensures limit { O.limit out.new ≡ O.limit out.old }
-        ensures noted { self.new.disturbed ≡ (self.old.disturbed ||
-            met_in result (I.disk cache.old).failures (I.disk cache.new).failures) }
-        ensures stays { StaysInSlot self.old self.new (I.disk cache.old) (I.disk cache.new) }
-        ensures touches { TouchesExtent I.moment I.may_leave I.left_since self.old.extent cache.old cache.new }
-        ensures limited { (next : Pause) → result ≡ Turn.More next → HasLimit budget }
-        ensures there { result ≢ Turn.Answered Reply.BadSlot }
-    {
-        let answer = self.serve_piece(pause, Stage::Next, budget, cache, out);
-        self.note(answer)
+        match work {
+            Work::Begin(what) => {
+                let answer = self.answer(alloc, what, budget, cache, out);
+                self.note(answer)
+            }
+            Work::Resume(pause) => {
+                let answer = self.serve_piece(pause, Stage::Next, budget, cache, out);
+                self.note(answer)
+            }
+        }
     }
 
     // Notes a refusal, and hands on what the event came to.
@@ -229,7 +208,7 @@ impl<A: Allocator + Copy> Slot<A> {
         ensures limit { O.limit out.new ≡ O.limit out.old }
         ensures unnoted { IsUnnoted self.old self.new (I.disk cache.old) (I.disk cache.new) result.failed }
         ensures touches { TouchesExtent I.moment I.may_leave I.left_since self.old.extent cache.old cache.new }
-        ensures limited { (next : Pause) → result.turn ≡ Turn.More next → HasLimit budget }
+        ensures limited { PausesByLimit budget result.turn }
         ensures there { result.turn ≢ Turn.Answered Reply.BadSlot }
         ensures bad_range { result.turn ≡ Turn.Answered Reply.BadRange → self.new ≡ self.old }
         ensures bad_range_image { result.turn ≡ Turn.Answered Reply.BadRange → cache.new ≡ cache.old }
@@ -308,8 +287,7 @@ impl<A: Allocator> Slot<A> {
     /// InterruptStatus of the block window and of the console window.
     pub(crate) fn interrupts(&self) -> (u8, u8)
         ensures value { result ≡ interrupt_words self.now }
-        ensures block_word { result.0 ≤ 3 }
-        ensures console_word { result.1 ≤ 3 }
+        ensures words { AreInterruptWords result.0 result.1 }
     {
         (self.block.interrupts(), self.console.interrupts())
     }

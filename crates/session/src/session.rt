@@ -12,10 +12,10 @@ ghost use Rattle.board.specs.Lent.{AreBytesOf, made_over, opened_over};
 ghost use Rattle.board.specs.Slot.{opened};
 ghost use Rattle.session.specs.declared.fault.SessionFault.{SessionFault};
 ghost use Rattle.board.specs.declared.event.EventKind.{EventKind};
-ghost use Rattle.session.specs.Pacing.{GoOn, Handle};
-ghost use Rattle.session.specs.Answering.{SuitsCall};
-ghost use Rattle.session.specs.Pausing.{IsCall, IsWhole};
-ghost use Rattle.session.specs.Session.{HasNoRead, IsIdle, new_session, new_session_over, none_waiting, slots_of};
+ghost use Rattle.session.specs.Pacing.{Handle, call_of};
+ghost use Rattle.session.specs.Answering.{SuitsCall, SuitsTurn};
+ghost use Rattle.session.specs.Pausing.{IsCall, IsWhole, IsWholeCall};
+ghost use Rattle.session.specs.Session.{BeginsNoRead, IsIdle, new_session, new_session_over, none_waiting, slots_of};
 ghost use Rattle.session.specs.Refusing.{AreOutlets, IsBoardFault, IsJudged, IsLentRefusedFor, IsRefusedFor};
 
 mod console;
@@ -27,9 +27,9 @@ mod saved;
 use crate::fault::{SessionFault, why_not};
 use crate::guest::{GuestSpec, are_bytes_of, are_outlets, outputs, slots};
 use crate::output_queue::OutputQueue;
-use crate::paced::Paced;
+use crate::paced::{Paced, TurnKind};
 use crate::response::Response;
-use board::{Board, Budget, Event, MemoryImage, Refused, Reply};
+use board::{Board, Budget, MemoryImage, Refused, Reply};
 use sector_cache::are_whole_sectors;
 use std::alloc::{AllocError, Allocator, Global};
 use std::marker::Model;
@@ -151,17 +151,17 @@ impl<A: Allocator + Copy> Session<A> {
         }
     }
 
-    // Handles an event, to its end or up to a pause.
-    fn step(&mut self, event: &Event<A>) -> Response<A>
-        requires { HasNoRead event.now.what }
-        ensures call { IsCall self.old (Handle event.now) result self.new }
-        ensures whole { IsWhole self.old event.now result self.new }
-        ensures suits { SuitsCall event.now.what result }
+    // A slot takes a turn: an event begins, to its end or up to a pause, or its paused service goes on.
+    fn turn(&mut self, slot: u8, kind: TurnKind<'_, A>) -> Response<A>
+        requires { BeginsNoRead kind }
+        ensures call { IsCall self.old (call_of slot kind.entry) result self.new }
+        ensures whole { IsWholeCall self.old (call_of slot kind.entry) result self.new }
+        ensures suits { SuitsTurn kind.entry result }
     {
-        let Some(output) = self.outputs.get_mut(event.slot as usize) else {
+        let Some(output) = self.outputs.get_mut(slot as usize) else {
             return Response::Answered(Reply::BadSlot);
         };
-        output.step(&mut self.paced, event)
+        output.turn(&mut self.paced, slot, kind)
     }
 
     // Types to a slot's console.
@@ -171,16 +171,6 @@ impl<A: Allocator + Copy> Session<A> {
         ensures suits { SuitsCall (EventKind.Input bytes.now) result }
     {
         self.paced.input(slot, bytes)
-    }
-
-    // Goes on with a slot's service.
-    fn serve_on(&mut self, slot: u8) -> Response<A>
-        ensures call { IsCall self.old (GoOn slot) result self.new }
-    {
-        let Some(output) = self.outputs.get_mut(slot as usize) else {
-            return Response::Answered(Reply::BadSlot);
-        };
-        output.go_on(&mut self.paced, slot)
     }
 }
 

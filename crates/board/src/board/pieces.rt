@@ -1,21 +1,18 @@
 //! An event of a slot, and the pieces of its service.
 
-ghost use Rattle.std.specs.Prelude.{◌≡◌, ◌↔◌, ◌<◌, ◌≤◌, ℕ, List, [], length, Some, IsSomeAnd};
-ghost use Rattle.std.specs.List.{slice_get};
+ghost use Rattle.std.specs.Prelude.{◌≡◌, ◌↔◌, ◌<◌, ◌≤◌, [], length};
 ghost use Rattle.board.specs.Durable.{TouchesSlot};
 ghost use Rattle.board.specs.declared.event.EventKind.{EventKind};
-ghost use Rattle.board.specs.declared.pause.Pause.{Pause};
 ghost use Rattle.board.specs.declared.pause.Turn.{Turn};
 ghost use Rattle.board.specs.declared.reply.Reply.{Reply};
-ghost use Rattle.board.specs.Image.{Tells, bytes_of};
-ghost use Rattle.board.specs.Pausing.{Begins, GoesOn, HasLimit, TakesTurn, met_in};
-ghost use Rattle.board.specs.Slot.{BoardSlot, interrupt_words, state_of};
-ghost use Rattle.board.specs.World.{KeepsOthers, MayLackMemory, StaysInExtents, disturbed_of, extents_of, noted, world_of};
-ghost use Rattle.board.specs.Within.{BeginsWithin, GoesOnWithin};
+ghost use Rattle.board.specs.Image.{Tells};
+ghost use Rattle.board.specs.Pausing.{Begins, Does, PausesByLimit, MayLackMemoryIn, TakesTurn, met_in};
+ghost use Rattle.board.specs.Slot.{AreInterruptWords, interrupt_words};
+ghost use Rattle.board.specs.World.{HoldsAt, IsMissed, KeepsOthers, StaysInExtents, disturbed_of, extents_of, noted, world_of};
+ghost use Rattle.board.specs.Within.{DecidesSlot, DoesWithin};
 
 use crate::board::Board;
-use crate::event::EventKind;
-use crate::pause::{Pause, Turn};
+use crate::pause::{Turn, Work};
 use crate::reply::Reply;
 use crate::slot::Slot;
 use chain::Budget;
@@ -50,9 +47,8 @@ impl<A: Allocator> Taken<A> {
     // The slot took the turn.
     fn after(turn: Turn<A>, slot: &Slot<A>) -> Taken<A>
         ensures turn { result.turn ≡ turn }
-        ensures words { (result.block_irq, result.console_irq) ≡ interrupt_words slot.now }
-        ensures block_word { result.block_irq ≤ 3 }
-        ensures console_word { result.console_irq ≤ 3 }
+        ensures shown { (result.block_irq, result.console_irq) ≡ interrupt_words slot.now }
+        ensures words { AreInterruptWords result.block_irq result.console_irq }
     {
         let (block_irq, console_irq) = slot.interrupts();
         Taken {
@@ -64,48 +60,44 @@ impl<A: Allocator> Taken<A> {
 }
 
 impl<I: Image, A: Allocator + Copy> Board<I, A> {
-    /// Handles one event of a slot, whose service may pause where the budget is spent.
-    pub fn begin<O: Outlet>(
+    /// A slot takes a turn, in which its service may pause where the budget is spent: an event begins, or a service that
+    /// paused goes on. What its console puts out is appended to `out`.
+    pub fn turn<O: Outlet>(
         &mut self,
         slot: u8,
-        what: &EventKind<A>,
+        work: Work<'_, A>,
         budget: Budget,
         out: &mut O,
     ) -> Taken<A>
         ensures takes { Tells (I.disk self.old.image) → slot < length self.old.slots →
-            TakesTurn (Begins what.now budget) (world_of I.disk self.old) slot result.turn
+            TakesTurn (Does work.entry budget) (world_of I.disk self.old) slot result.turn
             result.block_irq result.console_irq (O.bytes out.old) (O.bytes out.new) (world_of I.disk self.new) }
-        ensures within { (limit : ℕ) → O.limit out.old ≡ Some limit → (found after : BoardSlot) →
-            slice_get self.old.slots slot ≡ Some found → slice_get self.new.slots slot ≡ Some after →
-            BeginsWithin limit what.now budget (state_of (bytes_of (I.disk self.old.image)) found)
-            (state_of (bytes_of (I.disk self.new.image)) after)
-            (O.bytes out.old) (O.bytes out.new) result.turn }
+        ensures within { DecidesSlot I.disk (O.limit out.old) slot self.old self.new (λ limit found after.
+            DoesWithin limit work.entry budget found after (O.bytes out.old) (O.bytes out.new) result.turn) }
         ensures limit { O.limit out.new ≡ O.limit out.old }
-        ensures block_word { result.block_irq ≤ 3 }
-        ensures console_word { result.console_irq ≤ 3 }
+        ensures words { AreInterruptWords result.block_irq result.console_irq }
         ensures stays { StaysInExtents I.disk self.old self.new }
         ensures touches { TouchesSlot I.moment I.may_leave I.left_since slot self.old self.new }
         ensures noted { disturbed_of self.new.slots ≡ noted slot
             (met_in result.turn (I.disk self.old.image).failures (I.disk self.new.image).failures)
             (disturbed_of self.old.slots) }
-        ensures limited { (next : Pause) → result.turn ≡ Turn.More next → HasLimit budget }
+        ensures limited { PausesByLimit budget result.turn }
         ensures bad_slot { (result.turn ≡ Turn.Answered Reply.BadSlot) ↔ (length self.old.slots ≤ slot) }
-        ensures missing { length self.old.slots ≤ slot → (self.new ≡ self.old) × (O.bytes out.new ≡ O.bytes out.old)
-            × (result.block_irq ≡ 0) × (result.console_irq ≡ 0) }
+        ensures missing { length self.old.slots ≤ slot →
+            IsMissed self.old self.new (O.bytes out.old) (O.bytes out.new) result.block_irq result.console_irq }
         ensures bad_range_keeps { result.turn ≡ Turn.Answered Reply.BadRange → self.new ≡ self.old }
         ensures others { KeepsOthers slot self.old.slots self.new.slots }
         ensures no_memory { result.turn ≡ Turn.Answered Reply.NoMemory →
-            IsSomeAnd (slice_get self.old.slots slot)
-            (λ found. (image : List ℕ) → MayLackMemory (state_of image found) what.now) }
+            HoldsAt slot self.old.slots (MayLackMemoryIn work.entry) }
     {
         let Some(slot) = self.slots.get_mut(slot as usize) else {
             return Taken::missing();
         };
-        let turn = slot.begin(self.alloc, what, budget, &mut self.cache, out);
+        let turn = slot.turn(self.alloc, work, budget, &mut self.cache, out);
         Taken::after(turn, slot)
     }
 
-    /// Types bytes to the slot's console: `begin` for that input, for who has the bytes in a slice. No memory is
+    /// Types bytes to the slot's console: `turn` for that input, for who has the bytes in a slice. No memory is
     /// taken.
     pub fn begin_input(&mut self, slot: u8, bytes: &[u8], budget: Budget) -> Taken<A>
         ensures takes { Tells (I.disk self.old.image) → slot < length self.old.slots →
@@ -114,55 +106,17 @@ impl<I: Image, A: Allocator + Copy> Board<I, A> {
         ensures image { self.new.image ≡ self.old.image }
         ensures extents { extents_of self.new.slots ≡ extents_of self.old.slots }
         ensures disturbed { disturbed_of self.new.slots ≡ disturbed_of self.old.slots }
-        ensures block_word { result.block_irq ≤ 3 }
-        ensures console_word { result.console_irq ≤ 3 }
-        ensures limited { (next : Pause) → result.turn ≡ Turn.More next → HasLimit budget }
+        ensures words { AreInterruptWords result.block_irq result.console_irq }
+        ensures limited { PausesByLimit budget result.turn }
         ensures bad_slot { (result.turn ≡ Turn.Answered Reply.BadSlot) ↔ (length self.old.slots ≤ slot) }
-        ensures missing { length self.old.slots ≤ slot → (self.new ≡ self.old)
-            × (result.block_irq ≡ 0) × (result.console_irq ≡ 0) }
+        ensures missing { length self.old.slots ≤ slot →
+            IsMissed self.old self.new [] [] result.block_irq result.console_irq }
         ensures others { KeepsOthers slot self.old.slots self.new.slots }
     {
         let Some(slot) = self.slots.get_mut(slot as usize) else {
             return Taken::missing();
         };
         let turn = slot.input(bytes, budget);
-        Taken::after(turn, slot)
-    }
-
-    /// Goes on with a service of a slot that paused.
-    pub fn go_on<O: Outlet>(
-        &mut self,
-        slot: u8,
-        pause: Pause,
-        budget: Budget,
-        out: &mut O,
-    ) -> Taken<A>
-        ensures takes { Tells (I.disk self.old.image) → slot < length self.old.slots →
-            TakesTurn (GoesOn pause budget) (world_of I.disk self.old) slot result.turn
-            result.block_irq result.console_irq (O.bytes out.old) (O.bytes out.new) (world_of I.disk self.new) }
-        ensures within { (limit : ℕ) → O.limit out.old ≡ Some limit → (found after : BoardSlot) →
-            slice_get self.old.slots slot ≡ Some found → slice_get self.new.slots slot ≡ Some after →
-            GoesOnWithin limit pause budget (state_of (bytes_of (I.disk self.old.image)) found)
-            (state_of (bytes_of (I.disk self.new.image)) after)
-            (O.bytes out.old) (O.bytes out.new) result.turn }
-        ensures limit { O.limit out.new ≡ O.limit out.old }
-        ensures block_word { result.block_irq ≤ 3 }
-        ensures console_word { result.console_irq ≤ 3 }
-        ensures stays { StaysInExtents I.disk self.old self.new }
-        ensures touches { TouchesSlot I.moment I.may_leave I.left_since slot self.old self.new }
-        ensures noted { disturbed_of self.new.slots ≡ noted slot
-            (met_in result.turn (I.disk self.old.image).failures (I.disk self.new.image).failures)
-            (disturbed_of self.old.slots) }
-        ensures limited { (next : Pause) → result.turn ≡ Turn.More next → HasLimit budget }
-        ensures bad_slot { (result.turn ≡ Turn.Answered Reply.BadSlot) ↔ (length self.old.slots ≤ slot) }
-        ensures missing { length self.old.slots ≤ slot → (self.new ≡ self.old) × (O.bytes out.new ≡ O.bytes out.old)
-            × (result.block_irq ≡ 0) × (result.console_irq ≡ 0) }
-        ensures others { KeepsOthers slot self.old.slots self.new.slots }
-    {
-        let Some(slot) = self.slots.get_mut(slot as usize) else {
-            return Taken::missing();
-        };
-        let turn = slot.go_on(pause, budget, &mut self.cache, out);
         Taken::after(turn, slot)
     }
 }

@@ -13,6 +13,7 @@ ghost use Rattle.board.specs.Image.{sectors_of};
 ghost use Rattle.board.specs.Machine.{block_irq, console_irq};
 ghost use Rattle.board.specs.Hosting.{IsOwn, IsSoundHosted, LooksAtQueue, TakesHosted, flight_by, hosted_opened, hosted_slot, must_wait, operation_in};
 ghost use Rattle.board.specs.Lent.{hosted_over};
+ghost use Rattle.board.specs.Slot.{AreInterruptWords};
 ghost use Rattle.board.specs.Within.{TakesWithin};
 
 mod access;
@@ -146,8 +147,7 @@ impl<A: Allocator> HostedSlot<A> {
     pub(crate) fn interrupts(&self) -> (u8, u8)
         ensures block { result.0 ≡ block_irq self.now.slot }
         ensures console { result.1 ≡ console_irq self.now.slot }
-        ensures block_word { result.0 ≤ 3 }
-        ensures console_word { result.1 ≤ 3 }
+        ensures words { AreInterruptWords result.0 result.1 }
     {
         self.slot.interrupts()
     }

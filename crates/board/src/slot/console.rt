@@ -12,7 +12,7 @@ ghost use Rattle.board.specs.declared.reply.Reply.{Reply};
 ghost use Rattle.board.specs.Image.{Health};
 ghost use Rattle.board.specs.Machine.{with_input};
 ghost use Rattle.board.specs.Outcome.{replies};
-ghost use Rattle.board.specs.Pausing.{ComesTo, HasLimit};
+ghost use Rattle.board.specs.Pausing.{ComesTo, PausesByLimit};
 ghost use Rattle.board.specs.Slot.{state_of};
 ghost use Rattle.board.specs.World.{MayGive};
 
@@ -38,7 +38,7 @@ impl<A: Allocator + Copy> Slot<A> {
         ensures range { SameRange self.old.memory self.new.memory }
         ensures extent { self.new.extent ≡ self.old.extent }
         ensures disturbed { self.new.disturbed ≡ self.old.disturbed }
-        ensures limited { (next : Pause) → result ≡ Turn.More next → HasLimit budget }
+        ensures limited { PausesByLimit budget result }
         ensures took { result ≡ Turn.More (record {
           service = Service.Receive;
           taken = Some (fitting self.old.pending bytes.now);

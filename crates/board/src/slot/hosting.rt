@@ -15,7 +15,7 @@ ghost use Rattle.board.specs.declared.pause.Service.{Service};
 ghost use Rattle.board.specs.declared.pause.Turn.{Turn};
 ghost use Rattle.board.specs.Hosting.{block_beside, device_at, must_wait, notifies_block, unlimited};
 ghost use Rattle.board.specs.Image.{Health, sectors_of};
-ghost use Rattle.board.specs.Pausing.{Begins, ComesTo, HasLimit, ServesTurn, readied};
+ghost use Rattle.board.specs.Pausing.{Begins, ComesTo, PausesByLimit, ServesTurn, readied};
 ghost use Rattle.board.specs.Slot.{state_of};
 ghost use Rattle.board.specs.Within.{BeginsWithin, PieceWithin};
 
@@ -49,7 +49,7 @@ impl<A: Allocator + Copy> Slot<A> {
         ensures within { IfSome result (λ turn. (image : List ℕ) (limit : ℕ) → O.limit out.old ≡ Some limit →
             BeginsWithin limit what.now budget (state_of image self.old) (state_of image self.new)
             (O.bytes out.old) (O.bytes out.new) turn) }
-        ensures limited { IfSome result (λ turn. (next : Pause) → turn ≡ Turn.More next → HasLimit budget) }
+        ensures limited { IfSome result (PausesByLimit budget) }
         ensures limit { O.limit out.new ≡ O.limit out.old }
         ensures device { device_at self.new ≡ device_at self.old }
         ensures block { must_wait what.now ≡ false → self.new.block ≡ block_beside what.now self.old }
@@ -98,7 +98,7 @@ impl<A: Allocator + Copy> Slot<A> {
         ensures within { IfSome result (λ turn. (image : List ℕ) (limit : ℕ) → O.limit out.old ≡ Some limit →
             BeginsWithin {A = A} limit (EventKind.Write window offset width value) budget
             (state_of image self.old) (state_of image self.new) (O.bytes out.old) (O.bytes out.new) turn) }
-        ensures limited { IfSome result (λ turn. (next : Pause) → turn ≡ Turn.More next → HasLimit budget) }
+        ensures limited { IfSome result (PausesByLimit budget) }
         ensures limit { O.limit out.new ≡ O.limit out.old }
         ensures device { device_at self.new ≡ device_at self.old }
         ensures block { self.new.block ≡ block_beside {A = A} (EventKind.Write window offset width value) self.old }
@@ -137,7 +137,7 @@ impl<A: Allocator + Copy> Slot<A> {
         ensures within { (image : List ℕ) (limit : ℕ) → O.limit out.old ≡ Some limit →
             PieceWithin limit pause stage budget (state_of image self.old) (state_of image self.new)
             (O.bytes out.old) (O.bytes out.new) result }
-        ensures limited { (next : Pause) → result ≡ Turn.More next → HasLimit budget }
+        ensures limited { PausesByLimit budget result }
         ensures limit { O.limit out.new ≡ O.limit out.old }
         ensures device { device_at self.new ≡ device_at self.old }
         ensures block { self.new.block ≡ self.old.block }

@@ -13,7 +13,7 @@ ghost use Rattle.board.specs.declared.pause.Turn.{Turn};
 ghost use Rattle.board.specs.declared.reply.Reply.{Reply};
 ghost use Rattle.board.specs.Image.{Tells, bytes_of, health_of};
 ghost use Rattle.mmio_window.specs.Pieces.{IsRefusedAt, ServesTo};
-ghost use Rattle.board.specs.Pausing.{ComesTo, HasLimit, ServesTurn};
+ghost use Rattle.board.specs.Pausing.{ComesTo, PausesByLimit, ServesTurn};
 ghost use Rattle.board.specs.Slot.{IsUnnoted, state_of};
 ghost use Rattle.board.specs.Within.{PieceWithin};
 ghost use Rattle.board.specs.World.{HasBytesToPutOut};
@@ -51,7 +51,7 @@ impl<A: Allocator + Copy> Slot<A> {
         ensures touches { TouchesExtent I.moment I.may_leave I.left_since self.old.extent cache.old cache.new }
         ensures no_memory { result.turn ≡ Turn.Answered Reply.NoMemory → stage ≡ Stage.First →
             (pause.service ≡ Service.Transmit) × HasBytesToPutOut self.old.memory self.old.console }
-        ensures limited { (next : Pause) → result.turn ≡ Turn.More next → HasLimit budget }
+        ensures limited { PausesByLimit budget result.turn }
         ensures there { result.turn ≢ Turn.Answered Reply.BadSlot }
         ensures in_range { result.turn ≢ Turn.Answered Reply.BadRange }
     {

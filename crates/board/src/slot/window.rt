@@ -9,7 +9,7 @@ ghost use Rattle.board.specs.declared.pause.Turn.{Turn};
 ghost use Rattle.board.specs.declared.reply.Reply.{Reply};
 ghost use Rattle.board.specs.Image.{Tells, bytes_of, health_of, sectors_of};
 ghost use Rattle.board.specs.Machine.{register, task_at, window_of, with_write};
-ghost use Rattle.board.specs.Pausing.{Begins, HasLimit, ServesTurn, duty_of};
+ghost use Rattle.board.specs.Pausing.{Begins, PausesByLimit, ServesTurn, duty_of};
 ghost use Rattle.board.specs.Slot.{IsUnnoted, state_of};
 ghost use Rattle.board.specs.Task.{task_of};
 ghost use Rattle.board.specs.Within.{BeginsWithin};
@@ -81,7 +81,7 @@ impl<A: Allocator + Copy> Slot<A> {
         ensures limit { O.limit out.new ≡ O.limit out.old }
         ensures unnoted { IsUnnoted self.old self.new (I.disk cache.old) (I.disk cache.new) result.failed }
         ensures touches { TouchesExtent I.moment I.may_leave I.left_since self.old.extent cache.old cache.new }
-        ensures limited { (next : Pause) → result.turn ≡ Turn.More next → HasLimit budget }
+        ensures limited { PausesByLimit budget result.turn }
         ensures there { result.turn ≢ Turn.Answered Reply.BadSlot }
         ensures in_range { result.turn ≢ Turn.Answered Reply.BadRange }
         ensures no_memory { result.turn ≡ Turn.Answered Reply.NoMemory → (image : List ℕ) →

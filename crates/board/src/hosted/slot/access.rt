@@ -8,18 +8,35 @@ ghost use Rattle.board.specs.declared.event.EventKind.{EventKind};
 ghost use Rattle.board.specs.declared.reply.Reply.{Reply};
 ghost use Rattle.board.specs.Hosting.{TakesHosted, device_at, hosted_slot};
 ghost use Rattle.board.specs.HostedLine.{with_bytes, with_memory};
+ghost use Rattle.board.specs.Machine.{block_irq, console_irq};
+ghost use Rattle.board.specs.Slot.{AreInterruptWords};
 ghost use Rattle.board.specs.Task.{device_of};
 ghost use Rattle.board.specs.contracts.hosted.slot.HostedSlot.{the_row};
 
 use crate::hosted::slot::HostedSlot;
 use crate::pause::Turn;
-use crate::reply::Reply;
+use crate::reply::{Handled, Reply};
 use crate::slot::Slot;
 use chain::Budget;
 use guest_memory::GuestMemory;
 use std::alloc::Allocator;
 
 impl<A: Allocator> HostedSlot<A> {
+    /// What an event of the slot came to: this reply, with both interrupt words as they stand.
+    pub(crate) fn handled(&self, reply: Reply<A>) -> Handled<A>
+        ensures reply { result.reply ≡ reply }
+        ensures block { result.block_irq ≡ block_irq self.now.slot }
+        ensures console { result.console_irq ≡ console_irq self.now.slot }
+        ensures words { AreInterruptWords result.block_irq result.console_irq }
+    {
+        let (block_irq, console_irq) = self.interrupts();
+        Handled {
+            reply,
+            block_irq,
+            console_irq,
+        }
+    }
+
     /// The guest's memory and devices, beside what is in flight.
     pub(crate) fn devices(&self) -> &Slot<A>
         ensures slot { hosted_slot result.now ≡ self.now.slot }

@@ -23,7 +23,7 @@ returns-clause-takes g c tells below =
     (takes _ c.self.inside.slots.items disk disk c.args.slot c.in-Some.slot.now c.input-turn.new.self c.input-turn.result _ _ [] []
     c.self.invariant.apart (there g c) c.input-turn.ensures.extent (unmet_turn c.in-Some.slot.now c.input-turn.new.self c.input-turn.result disk.failures c.input-turn.ensures.disturbed c.input-turn.ensures.took) refl
     (record { output = []; comes = c.input-turn.ensures.comes (bytes_of disk) (health_of disk); appended = refl })
-    c.after.ensures.words)
+    c.after.ensures.shown)
 
 pub returns-clause-extents : goal.returns-clause-extents
 returns-clause-extents g c = extents_of-set c.self.inside.slots.items c.args.slot c.in-Some.slot.now c.input-turn.new.self (there g c) c.input-turn.ensures.extent ∙ ap (λ b. extents_of b.slots) c.self.view_is

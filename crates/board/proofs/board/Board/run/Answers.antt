@@ -29,7 +29,7 @@ loop-done-preserved g c =
           (omega arith) c.index-events-done.is (c.loop-done.invariant.reached tells)
           (rw c.new-output.ensures.items at (c.handle-handled.ensures.handles (c.loop-done.invariant.stays.told tells)))
           (rw (c.reserve.ensures.items, c.from.ensures) at c.put.ensures);
-      words = λ before. words_more c.loop-done.records.items c.put.new.records.items _ (rw (c.reserve.ensures.items, c.from.ensures) at c.put.ensures) (c.loop-done.invariant.words before) c.handle-handled.ensures.block_word c.handle-handled.ensures.console_word;
+      words = λ before. words_more c.loop-done.records.items c.put.new.records.items _ (rw (c.reserve.ensures.items, c.from.ensures) at c.put.ensures) (c.loop-done.invariant.words before) c.handle-handled.ensures.words;
       missing = λ before. missing_more c.args.self.now.slots c.loop-done.self.slots c.loop-done.records.items c.put.new.records.items c.index-events-done.result.slot
           handled.reply c.handle-handled.new.out.items handled.block_irq handled.console_irq (rw (c.reserve.ensures.items, c.from.ensures) at c.put.ensures)
           c.loop-done.invariant.stays.extents (c.loop-done.invariant.missing before) c.handle-handled.ensures.bad_slot.1 (rw c.new-output.ensures.items at c.handle-handled.ensures.missing);

@@ -16,7 +16,7 @@ there g c = slice_get_read c.self.inside.slots.items (length c.self.inside.slots
 
 pub returns-clause-takes : goal.returns-clause-takes
 returns-clause-takes g c =
-    rw (← c.self.view_is, c.after.ensures.reply, c.after.ensures.block, c.after.ensures.console)
+    rw (← c.self.view_is, c.handled.ensures.reply, c.handled.ensures.block, c.handled.ensures.console)
     (λ limit waiting.
     calls_there c.self.inside.slots.items c.args.slot c.in-Some.found.now _ limit c.complete-reply.new.self c.complete-reply.result waiting waiting (there g c)
     (c.complete-reply.ensures waiting) (λ n is. tt))

@@ -16,7 +16,7 @@ there g c = slice_get_read c.self.inside.slots.items (length c.self.inside.slots
 
 pub returns-clause-takes : goal.returns-clause-takes
 returns-clause-takes g c =
-    rw (← c.self.view_is, c.after.ensures.reply, c.after.ensures.block, c.after.ensures.console)
+    rw (← c.self.view_is, c.handled.ensures.reply, c.handled.ensures.block, c.handled.ensures.console)
     (calls_there c.self.inside.slots.items c.args.slot c.in-Some.found.now _ _ c.step-reply.new.self c.step-reply.result _ _ (there g c) c.step-reply.ensures.takes c.step-reply.ensures.within)
 
 pub returns-clause-others : goal.returns-clause-others
