@@ -1,6 +1,6 @@
 //! The session: a board over an image in memory, and what its consoles put out.
 
-ghost use Rattle.std.specs.Prelude.{◌≡◌, ◌≢◌, ◌⊎◌, ◌↔◌, ◌%◌, ◌/◌, ℕ, None, map, length, replicate, IsFalse, IfOk, OnOk, IfErr, OnErr, IsErrAnd, IsErrOf};
+ghost use Rattle.std.specs.Prelude.{◌≡◌, ◌≢◌, ◌⊎◌, ◌↔◌, ◌%◌, ◌/◌, ℕ, None, map, length, replicate, IsFalse, IfNone, IfOk, IfSome, OnOk, IfErr, OnErr, IsErrAnd, IsErrOf};
 ghost use Rattle.std.specs.Vec.{vec_items};
 ghost use Rattle.chain.specs.Budget.{IsSpent};
 ghost use Rattle.board.specs.declared.fault.BoardFault.{BoardFault};
@@ -89,7 +89,7 @@ impl<A: Allocator + Copy> Session<A> {
             IsErrAnd result (λ why. (why ≡ SessionFault.Board fault) ⊎ (why ≡ SessionFault.NoMemory)) }
     {
         judge(guests, image, budget)?;
-        let board = board_of(alloc, guests, image, cache, budget)?;
+        let board = board_of(alloc, guests, None, image, cache, budget)?;
         Session::of_board(alloc, guests, board, budget)
     }
 
@@ -120,7 +120,7 @@ impl<A: Allocator + Copy> Session<A> {
             return Err(SessionFault::BadLoan);
         }
         judge(guests, image, budget)?;
-        let board = lent_board_of(alloc, guests, bytes, image, cache, budget)?;
+        let board = board_of(alloc, guests, Some(bytes), image, cache, budget)?;
         Session::of_board(alloc, guests, board, budget)
     }
 
@@ -212,16 +212,21 @@ fn judge(guests: &[GuestSpec], image: &[u8], budget: Budget) -> Result<(), Sessi
     Ok(())
 }
 
-// The board of the guests' slots, over a copy of these bytes.
+// The board of the guests' slots over a copy of the image's bytes. Their memories are over bytes that a host lends, if it
+// does.
 fn board_of<A: Allocator + Copy>(
     alloc: A,
     guests: &[GuestSpec],
+    lent: Option<Vec<Vec<u8, Lodged>, A>>,
     image: &[u8],
     cache: u32,
     budget: Budget,
 ) -> Result<Board<MemoryImage<A>, A>, SessionFault>
+    requires lent { IfSome lent (λ bytes. AreBytesOf (slots_of guests.now) (map vec_items bytes.items)) }
     requires judged { IsJudged guests.now image.now budget }
-    ensures slots { IfOk result (λ board. board.slots ≡ map opened (slots_of guests.now)) }
+    ensures slots { IfNone lent (IfOk result (λ board. board.slots ≡ map opened (slots_of guests.now))) }
+    ensures lent_slots { IfSome lent (λ bytes. IfOk result (λ board.
+        board.slots ≡ made_over opened_over (slots_of guests.now) (map vec_items bytes.items))) }
     ensures image { IfOk result (λ board. disk_of board.image ≡ new_disk image.now) }
     ensures accepted { OnOk result (IsAccepted (length image.now / 512) (slots_of guests.now) cache) }
     ensures fault { IfErr result (λ why. IsRefusedFor guests.now image.now cache budget why) }
@@ -233,39 +238,15 @@ fn board_of<A: Allocator + Copy>(
         return Err(SessionFault::NoMemory);
     };
     let image = image_of(alloc, image)?;
-    match Board::new(alloc, &slots, image, cache) {
-        Ok(board) => Ok(board),
-        Err(Refused { image: _, why }) => Err(why_not(why)),
-    }
-}
-
-// The board of the guests' slots over bytes that a host lends, and over a copy of the image's.
-fn lent_board_of<A: Allocator + Copy>(
-    alloc: A,
-    guests: &[GuestSpec],
-    bytes: Vec<Vec<u8, Lodged>, A>,
-    image: &[u8],
-    cache: u32,
-    budget: Budget,
-) -> Result<Board<MemoryImage<A>, A>, SessionFault>
-    requires lent { AreBytesOf (slots_of guests.now) (map vec_items bytes.items) }
-    requires judged { IsJudged guests.now image.now budget }
-    ensures slots { IfOk result (λ board.
-        board.slots ≡ made_over opened_over (slots_of guests.now) (map vec_items bytes.items)) }
-    ensures image { IfOk result (λ board. disk_of board.image ≡ new_disk image.now) }
-    ensures accepted { OnOk result (IsAccepted (length image.now / 512) (slots_of guests.now) cache) }
-    ensures fault { IfErr result (λ why. IsRefusedFor guests.now image.now cache budget why) }
-    ensures bad_board { (fault : BoardFault) → fault ≢ BoardFault.NoMemory →
-        Refuses (length image.now / 512) (slots_of guests.now) cache fault →
-        IsErrAnd result (λ why. (why ≡ SessionFault.Board fault) ⊎ (why ≡ SessionFault.NoMemory)) }
-{
-    let Ok(slots) = slots(alloc, guests) else {
-        return Err(SessionFault::NoMemory);
-    };
-    let image = image_of(alloc, image)?;
-    match Board::over_lent(alloc, &slots, bytes, image, cache) {
-        Ok(board) => Ok(board),
-        Err(Refused { image: _, why }) => Err(why_not(why)),
+    match lent {
+        None => match Board::new(alloc, &slots, image, cache) {
+            Ok(board) => Ok(board),
+            Err(Refused { image: _, why }) => Err(why_not(why)),
+        },
+        Some(bytes) => match Board::over_lent(alloc, &slots, bytes, image, cache) {
+            Ok(board) => Ok(board),
+            Err(Refused { image: _, why }) => Err(why_not(why)),
+        },
     }
 }
 
