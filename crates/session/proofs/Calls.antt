@@ -13,8 +13,6 @@ use Rattle.board.specs.declared.reply.Reply.{Reply}
 use Rattle.board.specs.declared.reply.Reply.TheVariants.{BadSlot, BadRange}
 use Rattle.board.specs.Pausing.{asked}
 use Rattle.board.specs.Slot.{SlotState, BoardSlot, state_of}
-use Rattle.board.specs.World.{bad_slot}
-use Rattle.board.proofs.Runs.{answered}
 use Rattle.session.specs.declared.response.Response.{Response}
 use Rattle.session.specs.declared.response.Response.TheVariants.{Answered, Busy}
 use Rattle.session.specs.Pacing.{Call, GoOn, Handle, PacedWorld, Responds, paused_by, slot_in}

@@ -1,6 +1,7 @@
 pub mod Midway
 pub mod PacedAlone
 pub mod Turns
+pub mod PacedCalls
 pub mod Access
 pub mod Noted
 pub mod Places
@@ -11,6 +12,7 @@ pub mod Steps
 pub mod Ranges
 pub mod Calls
 pub mod Quiet
+pub mod SessionTurns
 pub mod Restoring
 pub mod Courses
 pub mod PacedCourses

@@ -13,8 +13,7 @@ use Rattle.board.specs.declared.reply.Reply.{Reply}
 use Rattle.board.specs.declared.reply.Reply.TheVariants.{Done, Bytes, BadSlot, BadRange}
 use Rattle.board.specs.Outcome.{replies}
 use Rattle.board.specs.Slot.{BoardSlot, state_of}
-use Rattle.board.specs.World.{World, Answers, bad_slot}
-use Rattle.board.proofs.Runs.{answered}
+use Rattle.board.specs.World.{World, Answers}
 use Rattle.board.proofs.Seats.{extents_of-set, others_kept}
 use Rattle.session.specs.Session.{IsStep, SessionState, Waiting, world_of}
 use Rattle.session.proofs.Places.{not_true}

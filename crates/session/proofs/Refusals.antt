@@ -58,6 +58,11 @@ length-made_over made (spec ∷ slots) bytes = ap suc (length-made_over made slo
 pub lent : (guests : List GuestSpec) (seen runs : List Run) → seen ≡ runs → AreBytesOf (slots_of guests) (map vec_items seen) → AreBytesOf (slots_of guests) (map vec_items runs)
 lent guests seen runs same are = subst (λ (some : List Run). AreBytesOf (slots_of guests) (map vec_items some)) same are
 
+-- what a board is refused for, by the slots and the sectors that it was asked for
+pub asked : (slots specs : List SlotSpec) (sectors count cache : ℕ) (fault : BoardFault) → slots ≡ specs → sectors ≡ count
+    → Refuses count specs cache fault → Refuses sectors slots cache fault
+asked slots specs sectors count cache fault p q h = rw (p, q) h
+
 module _ (guests : List GuestSpec) (image : List ℕ) (cache : ℕ) (budget : Budget) where
   abbrev Refused : SessionFault → Type 0
   Refused = IsRefusedFor guests image cache budget

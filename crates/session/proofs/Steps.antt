@@ -4,7 +4,6 @@ use Rattle.std.specs.Prelude.{slice_set, IsSomeAnd, unwrap_or}
 use Rattle.std.specs.List.{slice_get}
 use Rattle.std.proofs.lemmas.List.{length-map}
 use Rattle.std.proofs.lemmas.Option.{slice_get_within, same_Some}
-use Rattle.guest_memory.specs.Memory.{put}
 use Rattle.chain.specs.declared.budget.Budget.{Budget}
 use Rattle.sector_cache.specs.Disk.{Disk}
 use Rattle.block_device.specs.declared.extent.Extent.{Extent}
@@ -22,7 +21,7 @@ use Rattle.board.specs.Machine.{task_at, with_write}
 use Rattle.board.specs.Pausing.{Begins, GoesOn, HasLimit}
 use Rattle.board.specs.Slot.{SlotState, BoardSlot, state_of}
 use Rattle.board.specs.Task.{Task, Nothing, ServeBlock, ServeReceive, ServeTransmit, PutOut}
-use Rattle.board.specs.World.{World, Answers, KeepsOthers, MayLackMemory, bad_slot, TakesMemory, extents_of}
+use Rattle.board.specs.World.{World, Answers, KeepsOthers, MayLackMemory, TakesMemory, extents_of}
 use Rattle.board.specs.Within.{BeginsWithin, GoesOnWithin, IsPuttingOut, MayPutOut, TakesWithin}
 use Rattle.board.proofs.Answered.{ended_within, handled}
 use Rattle.board.proofs.Runs.{answered}

@@ -4,7 +4,7 @@ use Rattle.std.specs.Prelude.{slice_set}
 use Rattle.std.specs.List.{slice_get}
 use Rattle.chain.specs.declared.budget.Budget.{Budget}
 use Rattle.mmio_window.specs.declared.stage.Stage.{Stage}
-use Rattle.mmio_window.specs.declared.stage.Stage.TheVariants.{First}
+use Rattle.mmio_window.specs.declared.stage.Stage.TheVariants.{First, Next}
 use Rattle.sector_cache.specs.Disk.{Disk}
 use Rattle.board.specs.declared.event.Event.{Event}
 use Rattle.board.specs.declared.event.EventKind.{EventKind}
@@ -17,7 +17,7 @@ use Rattle.board.specs.declared.reply.Reply.{Reply}
 use Rattle.board.specs.Image.{Health}
 use Rattle.board.specs.Pausing.{Begins, GoesOn, TakesTurn, asked, readied}
 use Rattle.board.specs.Slot.{SlotState}
-use Rattle.board.specs.Within.{BeginsWithin, PieceBy, TurnWithin}
+use Rattle.board.specs.Within.{BeginsWithin, GoesOnWithin, PieceBy, TurnWithin}
 use Rattle.board.specs.World.{BoardState, world_of}
 use Rattle.session.specs.declared.response.Response.{Response}
 use Rattle.session.specs.Pacing.{Call, ComesTo, GoOn, Handle, IsTurn, PacedState, PacedWorld, Responds, paced_world, paused_by, response_to, slot_in}
@@ -71,10 +71,25 @@ turn_by : {A : Type 0} (asks : Option Pause) (limit : ℕ) (what : EventKind A) 
 turn_by None limit what budget old new waiting left p q h = tt
 turn_by {A} (Some pause) limit what budget old new waiting left p q h = piece_by A pause.service limit pause First budget (readied what old) new waiting left p q h
 
-pub told_within : {A : Type 0} (limit : ℕ) (what : EventKind A) (budget : Budget) (old new : SlotState) (waiting left : List ℕ) (response : Response A) (t t' : Turn A)
-    → response ≡ response_to t → response ≡ response_to t' → BeginsWithin limit what budget old new waiting left t → BeginsWithin limit what budget old new waiting left t'
-told_within {A} limit what budget old new waiting left response (turn.Answered r) (turn.Answered r') told told' h =
-    let is : r ≡ r' = cc (told, told') in subst (λ (a : Reply A). BeginsWithin limit what budget old new waiting left (turn.Answered a)) is h
-told_within limit what budget old new waiting left response (turn.More p) (turn.More q) told told' h = turn_by (asked what old) limit what budget old new waiting left p q h
-told_within limit what budget old new waiting left response (turn.Answered r) (turn.More q) told told' h = absurd (cc (told, told'))
-told_within limit what budget old new waiting left response (turn.More p) (turn.Answered r) told told' h = absurd (cc (told, told'))
+-- what is said of a turn by what the caller is told of it
+same_told : {A : Type 0} (P : Turn A → Type 0) (t t' : Turn A) → ((p q : Pause) → P (turn.More p) → P (turn.More q))
+    → response_to t ≡ response_to t' → P t → P t'
+same_told {A} P (turn.Answered r) (turn.Answered r') more same h =
+    let is : r ≡ r' = cc (same) in subst (λ (a : Reply A). P (turn.Answered a)) is h
+same_told P (turn.More p) (turn.More q) more same h = more p q h
+same_told P (turn.Answered r) (turn.More q) more same h = absurd (cc (same))
+same_told P (turn.More p) (turn.Answered r) more same h = absurd (cc (same))
+
+pub begun_within : {A : Type 0} (limit : ℕ) (what : EventKind A) (budget : Budget) (old new : SlotState)
+    (waiting left : List ℕ) (t t' : Turn A) → response_to t ≡ response_to t'
+    → BeginsWithin limit what budget old new waiting left t → BeginsWithin limit what budget old new waiting left t'
+begun_within limit what budget old new waiting left t t' same h =
+    same_told (λ turn. BeginsWithin limit what budget old new waiting left turn) t t'
+    (λ p q. turn_by (asked what old) limit what budget old new waiting left p q) same h
+
+pub gone_within : {A : Type 0} (limit : ℕ) (pause : Pause) (budget : Budget) (old new : SlotState)
+    (waiting left : List ℕ) (t t' : Turn A) → response_to t ≡ response_to t'
+    → GoesOnWithin limit pause budget old new waiting left t → GoesOnWithin limit pause budget old new waiting left t'
+gone_within {A} limit pause budget old new waiting left t t' same h =
+    same_told (λ turn. GoesOnWithin limit pause budget old new waiting left turn) t t'
+    (λ p q. piece_by A pause.service limit pause Next budget old new waiting left p q) same h

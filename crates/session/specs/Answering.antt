@@ -6,6 +6,8 @@ use Rattle.board.specs.declared.event.EventKind.{EventKind}
 use Rattle.board.specs.declared.event.EventKind.TheVariants.{Read, Write, MemRead, MemWrite, Input, Resize, Restore, Complete}
 use Rattle.board.specs.declared.reply.Reply.{Reply}
 use Rattle.board.specs.declared.reply.Reply.TheVariants as reply
+use Rattle.session.specs.declared.paced.turn_kind.TurnKind.{TurnKind}
+use Rattle.session.specs.declared.paced.turn_kind.TurnKind.TheVariants.{Begin, Resume}
 use Rattle.session.specs.declared.response.Response.{Response}
 use Rattle.session.specs.declared.response.Response.TheVariants as response
 use Rattle.session.specs.declared.refusal.Refusal.{Refusal}
@@ -93,3 +95,8 @@ SuitsCall (Input bytes) response.More = ⊤
 SuitsCall what response.More = ⊥
 SuitsCall what response.Busy = ⊤
 SuitsCall what response.Idle = ⊥
+
+-- and those to a turn
+abbrev pub SuitsTurn : {A : Type 0} → TurnKind A → Response A → Type 0
+SuitsTurn (Begin what) response = SuitsCall what.now response
+SuitsTurn Resume response = ⊤

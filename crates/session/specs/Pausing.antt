@@ -68,6 +68,10 @@ abbrev pub IsWhole : {A : Type 0} → SessionState → Event A → Response A �
 IsWhole old event (Answered reply) new = IsStep old event reply new
 IsWhole old event response new = ⊤
 
+abbrev pub IsWholeCall : {A : Type 0} → SessionState → Call A → Response A → SessionState → Type 0
+IsWholeCall old (Handle event) response new = IsWhole old event response new
+IsWholeCall old (GoOn slot) response new = ⊤
+
 -- The service of a slot goes on, and this is told of it.
 pub record WentOn (A : Type 0) (old : SessionState) (slot : ℕ) (result : Result Progress Refusal) (new : SessionState) : Type 0 where
   pub response : Response A

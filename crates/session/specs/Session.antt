@@ -18,6 +18,8 @@ use Rattle.board.specs.World.{World, Answers, KeepsOthers, MayLackMemory, extent
 use Rattle.board.specs.Within.{MayPutOut, TakesWithin}
 use Rattle.session.specs.Pacing.{paused_at}
 use Rattle.session.specs.declared.guest.GuestSpec.{GuestSpec}
+use Rattle.session.specs.declared.paced.turn_kind.TurnKind.{TurnKind}
+use Rattle.session.specs.declared.paced.turn_kind.TurnKind.TheVariants.{Begin, Resume}
 
 -- What a slot's console put out and nobody has taken yet, and how many bytes of it may wait.
 pub record Waiting : Type 0 where
@@ -137,3 +139,8 @@ with_slot_bytes slot addr session bytes = record session {
 abbrev pub HasNoRead : {A : Type 0} → EventKind A → Type 0
 HasNoRead (MemRead addr len) = ⊥
 HasNoRead what = ⊤
+
+-- a turn that reads no memory
+abbrev pub BeginsNoRead : {A : Type 0} → TurnKind A → Type 0
+BeginsNoRead (Begin what) = HasNoRead what.now
+BeginsNoRead Resume = ⊤

@@ -4,7 +4,7 @@
 //! A module for each kind of call: `registers`, `disk`, `memory`, `console` and `saved`. `progress` is what a write or a
 //! completion came to, and `laws` has what holds of all calls, whatever their order.
 
-ghost use Rattle.std.specs.Prelude.{◌≡◌, ◌≢◌, ◌⊎◌, ◌↔◌, length, map, IfOk, OnOk, IfErr, IsErrAnd, IsErrOf};
+ghost use Rattle.std.specs.Prelude.{◌≡◌, ◌≢◌, ◌⊎◌, ◌↔◌, length, map, IfNone, IfOk, IfSome, OnOk, IfErr, IsErrAnd, IsErrOf};
 ghost use Rattle.std.specs.Vec.{vec_items};
 ghost use Rattle.board.specs.declared.event.EventKind.{EventKind};
 ghost use Rattle.board.specs.declared.fault.BoardFault.{BoardFault};
@@ -74,7 +74,7 @@ impl<A: Allocator + Copy> HostedSession<A> {
         if !are_outlets(guests) {
             return Err(SessionFault::BadOutlet);
         }
-        let board = board_of(alloc, guests)?;
+        let board = board_of(alloc, guests, None)?;
         HostedSession::of_board(alloc, guests, board)
     }
 
@@ -103,7 +103,7 @@ impl<A: Allocator + Copy> HostedSession<A> {
         if !are_outlets(guests) {
             return Err(SessionFault::BadOutlet);
         }
-        let board = lent_board_of(alloc, guests, bytes)?;
+        let board = board_of(alloc, guests, Some(bytes))?;
         HostedSession::of_board(alloc, guests, board)
     }
 
@@ -149,13 +149,17 @@ impl<A: Allocator> HostedSession<A> {
     }
 }
 
-// The board of the guests' slots.
+// The board of the guests' slots. Their memories are over bytes that a host lends, if it does.
 fn board_of<A: Allocator + Copy>(
     alloc: A,
     guests: &[GuestSpec],
+    lent: Option<Vec<Vec<u8, Lodged>, A>>,
 ) -> Result<HostedBoard<A>, SessionFault>
+    requires lent { IfSome lent (λ bytes. AreBytesOf (slots_of guests.now) (map vec_items bytes.items)) }
     requires outlets { AreOutlets guests.now }
-    ensures made { IfOk result (λ board. board ≡ map hosted_opened (slots_of guests.now)) }
+    ensures made { IfNone lent (IfOk result (λ board. board ≡ map hosted_opened (slots_of guests.now))) }
+    ensures made_over { IfSome lent (λ bytes. IfOk result (λ board.
+        board ≡ made_over hosted_over (slots_of guests.now) (map vec_items bytes.items))) }
     ensures accepted { OnOk result (AreGoodHosted (slots_of guests.now)) }
     ensures fault { IfErr result (IsHostedRefusedFor guests.now) }
     ensures bad_board { (fault : BoardFault) → IsHostedBoardFault guests.now fault →
@@ -164,32 +168,14 @@ fn board_of<A: Allocator + Copy>(
     let Ok(slots) = slots(alloc, guests) else {
         return Err(SessionFault::NoMemory);
     };
-    match HostedBoard::new(alloc, &slots) {
-        Ok(board) => Ok(board),
-        Err(why) => Err(why_not(why)),
-    }
-}
-
-// The board of the guests' slots over bytes that a host lends.
-fn lent_board_of<A: Allocator + Copy>(
-    alloc: A,
-    guests: &[GuestSpec],
-    bytes: Vec<Vec<u8, Lodged>, A>,
-) -> Result<HostedBoard<A>, SessionFault>
-    requires lent { AreBytesOf (slots_of guests.now) (map vec_items bytes.items) }
-    requires outlets { AreOutlets guests.now }
-    ensures made { IfOk result (λ board.
-        board ≡ made_over hosted_over (slots_of guests.now) (map vec_items bytes.items)) }
-    ensures accepted { OnOk result (AreGoodHosted (slots_of guests.now)) }
-    ensures fault { IfErr result (IsHostedRefusedFor guests.now) }
-    ensures bad_board { (fault : BoardFault) → IsHostedBoardFault guests.now fault →
-        IsErrAnd result (λ why. (why ≡ SessionFault.Board fault) ⊎ (why ≡ SessionFault.NoMemory)) }
-{
-    let Ok(slots) = slots(alloc, guests) else {
-        return Err(SessionFault::NoMemory);
-    };
-    match HostedBoard::over_lent(alloc, &slots, bytes) {
-        Ok(board) => Ok(board),
-        Err(why) => Err(why_not(why)),
+    match lent {
+        None => match HostedBoard::new(alloc, &slots) {
+            Ok(board) => Ok(board),
+            Err(why) => Err(why_not(why)),
+        },
+        Some(bytes) => match HostedBoard::over_lent(alloc, &slots, bytes) {
+            Ok(board) => Ok(board),
+            Err(why) => Err(why_not(why)),
+        },
     }
 }

@@ -22,9 +22,11 @@ ghost use Rattle.session.specs.Session.{IsStep, SessionState, limit_of, new_sess
 
 use std::alloc::Allocator;
 
-/// Whatever is called of a session, in which order, and however the services of other guests pause: each guest whose own
-/// services never pause sees what it would see in a session of its own over its part of the image, where the same is asked
-/// for it. No premise says that nothing was refused.
+/// A guest whose own services never pause sees exactly what it would see in a session of its own over its part of the
+/// image, whatever other guests do.
+///
+/// It may be refused for want of room. Nothing is said of a guest that both pauses and is refused so; of one that pauses
+/// and isn't, `a_guest_with_room_runs_alone` says it.
 pub fn each_guest_is_alone<A: Allocator>()
     ensures alone { (g : ℕ) (guests : List GuestSpec) (guest : GuestSpec) (image : List ℕ)
         (budget budget' : Budget) (steps more : List (SessionStep A)) (new last : SessionState) → slice_get guests g ≡ Some guest →
@@ -66,9 +68,11 @@ pub fn the_outlet_decides<A: Allocator>()
         (answers ≡ answers') × (one ≡ other) }
 {}
 
-/// A guest that was never refused for want of room is answered what the one-slot machine gives, and what its console
-/// puts out, taken in whatever pieces or waiting still, is what that machine puts out, whatever is called for others between
-/// the pieces of its services: an event counts where it begins, and its reply where it ends.
+/// A guest that is never refused for want of room gets the replies and puts out the bytes that it would if it were alone
+/// and never paused, whatever other guests do between the pieces of its services.
+///
+/// An event counts where it begins, and its reply where it ends. A guest that both pauses and is refused for want of room
+/// is the one exception, of which nothing is said.
 pub fn a_guest_with_room_runs_alone<A: Allocator>()
     ensures within { (g : ℕ) (old new : SessionState) (steps : List (SessionStep A)) (state : SlotState) →
         IsCourse old steps new → HadRoom g steps →

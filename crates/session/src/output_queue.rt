@@ -1,23 +1,14 @@
 //! What a console put out, until it is taken.
 
-ghost use Rattle.std.specs.Prelude.{◌≡◌, ◌≢◌, ◌++◌, ◌+◌, ◌-◌, ◌≤◌, ◌↔◌, ℕ, List, Some, length, vec_capacity, min, take, drop, IfOk, IsSomeAnd};
-ghost use Rattle.std.specs.List.{slice_get};
+ghost use Rattle.std.specs.Prelude.{◌≡◌, ◌++◌, ◌-◌, ◌≤◌, Some, length, vec_capacity, min, take, drop, IfOk};
 ghost use Rattle.sector_cache.specs.MemoryImage.{disk_of};
-ghost use Rattle.board.specs.declared.pause.Pause.{Pause};
-ghost use Rattle.board.specs.declared.pause.Turn.{Turn};
-ghost use Rattle.board.specs.declared.reply.Reply.{Reply};
 ghost use Rattle.board.specs.HostedLine.{KeepsOtherGuests, TakesCall};
-ghost use Rattle.board.specs.Image.{bytes_of};
-ghost use Rattle.board.specs.Pausing.{HasLimit};
-ghost use Rattle.board.specs.Slot.{BoardSlot, state_of};
-ghost use Rattle.board.specs.Within.{BeginsWithin, GoesOnWithin};
-ghost use Rattle.board.specs.World.{KeepsOthers, MayLackMemory, extents_of};
-ghost use Rattle.session.specs.Pacing.{Handle, GoOn, Responds, paced_world, response_to};
+ghost use Rattle.session.specs.Pacing.{IsPacedCall, call_of};
 ghost use Rattle.session.specs.Session.{none_waiting};
 
-use crate::paced::Paced;
+use crate::paced::{Paced, TurnKind};
 use crate::response::Response;
-use board::{Event, EventKind, HostedBoard, HostedTaken, MemoryImage};
+use board::{EventKind, Handled, HostedBoard, MemoryImage};
 use console_device::{NoMemory, Outlet};
 use std::alloc::{AllocError, Allocator, Global};
 use std::marker::Model;
@@ -135,35 +126,18 @@ impl<A: Allocator> Outlet for OutputQueue<A> {
 }
 
 impl<A: Allocator + Copy> OutputQueue<A> {
-    /// Handles an event of the board, and keeps what is put out behind what waits.
-    pub(crate) fn step(
+    /// A slot of the board takes a turn, and what is put out is kept behind what waits.
+    pub(crate) fn turn(
         &mut self,
         paced: &mut Paced<MemoryImage<A>, A>,
-        event: &Event<A>,
+        slot: u8,
+        kind: TurnKind<'_, A>,
     ) -> Response<A>
-        ensures responds { Responds paced.old.budget (paced_world disk_of paced.old) (Handle event.now) result
-            self.old.bytes self.new.bytes (paced_world disk_of paced.new) }
-        ensures within { (found after : BoardSlot) →
-            slice_get paced.old.board.slots event.now.slot ≡ Some found →
-            slice_get paced.new.board.slots event.now.slot ≡ Some after →
-            (turn : Turn A) → result ≡ response_to turn →
-            BeginsWithin self.old.limit event.now.what paced.old.budget
-            (state_of (bytes_of (disk_of paced.old.board.image)) found)
-            (state_of (bytes_of (disk_of paced.new.board.image)) after) self.old.bytes self.new.bytes turn }
+        ensures call { IsPacedCall disk_of (Some self.old.limit) paced.old (call_of slot kind.entry) result
+            self.old.bytes self.new.bytes paced.new }
         ensures limit { self.new.limit ≡ self.old.limit }
-        ensures budget { paced.new.budget ≡ paced.old.budget }
-        ensures busy { result ≡ Response.Busy → paced.new ≡ paced.old }
-        ensures not_idle { result ≡ Response.Idle → ⊥ }
-        ensures extents { extents_of paced.new.board.slots ≡ extents_of paced.old.board.slots }
-        ensures others { KeepsOthers event.now.slot paced.old.board.slots paced.new.board.slots }
-        ensures limited { result ≡ Response.More → HasLimit paced.old.budget }
-        ensures bad_slot { (result ≡ Response.Answered Reply.BadSlot) ↔ (length paced.old.board.slots ≤ event.now.slot) }
-        ensures bad_range_keeps { result ≡ Response.Answered Reply.BadRange → paced.new.board ≡ paced.old.board }
-        ensures no_memory { result ≡ Response.Answered Reply.NoMemory →
-            IsSomeAnd (slice_get paced.old.board.slots event.now.slot)
-            (λ slot. (image : List ℕ) → MayLackMemory (state_of image slot) event.now.what) }
     {
-        paced.step(event, self)
+        paced.turn(slot, kind, self)
     }
 
     /// Handles an event of a board whose disks the host serves, and keeps what is put out behind what waits.
@@ -172,34 +146,12 @@ impl<A: Allocator + Copy> OutputQueue<A> {
         board: &mut HostedBoard<A>,
         slot: u8,
         what: &EventKind<A>,
-    ) -> HostedTaken<A>
+    ) -> Handled<A>
         ensures takes { TakesCall board.old slot what.now (Some self.old.limit) result.reply
             result.block_irq result.console_irq self.old.bytes self.new.bytes board.new }
         ensures others { KeepsOtherGuests slot board.old board.new }
         ensures limit { self.new.limit ≡ self.old.limit }
     {
         board.step(slot, what, self)
-    }
-
-    /// Goes on with the service of a slot of the board, and keeps what is put out behind what waits.
-    pub(crate) fn go_on(&mut self, paced: &mut Paced<MemoryImage<A>, A>, slot: u8) -> Response<A>
-        ensures responds { Responds paced.old.budget (paced_world disk_of paced.old) (GoOn slot) result
-            self.old.bytes self.new.bytes (paced_world disk_of paced.new) }
-        ensures within { (found after : BoardSlot) →
-            slice_get paced.old.board.slots slot ≡ Some found →
-            slice_get paced.new.board.slots slot ≡ Some after →
-            (pause : Pause) → slice_get paced.old.paused slot ≡ Some (Some pause) →
-            (turn : Turn A) → result ≡ response_to turn →
-            GoesOnWithin self.old.limit pause paced.old.budget
-            (state_of (bytes_of (disk_of paced.old.board.image)) found)
-            (state_of (bytes_of (disk_of paced.new.board.image)) after) self.old.bytes self.new.bytes turn }
-        ensures limit { self.new.limit ≡ self.old.limit }
-        ensures budget { paced.new.budget ≡ paced.old.budget }
-        ensures idle { result ≡ Response.Idle → paced.new ≡ paced.old }
-        ensures not_busy { result ≡ Response.Busy → ⊥ }
-        ensures extents { extents_of paced.new.board.slots ≡ extents_of paced.old.board.slots }
-        ensures others { KeepsOthers slot paced.old.board.slots paced.new.board.slots }
-    {
-        paced.go_on(slot, self)
     }
 }

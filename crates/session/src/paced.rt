@@ -1,28 +1,21 @@
 //! The board with what is paused of each slot.
 
-ghost use Rattle.std.specs.Prelude.{◌≡◌, ◌↔◌, ◌<◌, ◌≤◌, ℕ, List, length, replicate, slice_set, Some, None, IfOk, IfErr, OnOk, IsErrAnd, IsSomeAnd};
+ghost use Rattle.std.specs.Prelude.{◌≡◌, ◌↔◌, ◌<◌, length, replicate, slice_set, None, IfOk, IfErr, IsErrAnd};
 ghost use Rattle.std.specs.List.{slice_get};
-ghost use Rattle.std.specs.Option.{option_map, is_some};
 ghost use Rattle.chain.specs.Budget.{IsSpent};
-ghost use Rattle.board.specs.declared.pause.Pause.{Pause};
-ghost use Rattle.board.specs.declared.pause.Turn.{Turn};
-ghost use Rattle.board.specs.declared.reply.Reply.{Reply};
-ghost use Rattle.board.specs.Image.{Tells, bytes_of};
-ghost use Rattle.board.specs.Pausing.{HasLimit};
-ghost use Rattle.board.specs.Slot.{BoardSlot, state_of};
-ghost use Rattle.board.specs.Within.{BeginsWithin, GoesOnWithin};
-ghost use Rattle.board.specs.World.{KeepsOthers, MayLackMemory, extents_of};
 ghost use Rattle.session.specs.declared.paced.fault.PacedFault.{PacedFault};
-ghost use Rattle.session.specs.Pacing.{Handle, GoOn, Responds, paced_world, paused_at, paused_by, response_to};
+ghost use Rattle.session.specs.Pacing.{Handle, GoOn, IsPacedCall, call_of, paused_at, paused_by, response_to};
 
 mod access;
 mod fault;
 mod laws;
+mod turn_kind;
 
 pub use crate::paced::fault::PacedFault;
 pub use crate::paced::laws::{each_paced_guest_is_alone, refusals_are_noted};
+pub(crate) use crate::paced::turn_kind::TurnKind;
 use crate::response::Response;
-use board::{Board, Budget, Event, Image, Outlet, Pause, Refused, Reply, Turn};
+use board::{Board, Budget, Event, Image, Outlet, Pause, Refused, Turn};
 use std::alloc::{AllocError, Allocator, Global};
 use std::marker::Model;
 
@@ -83,79 +76,40 @@ impl<I: Image, A: Allocator + Copy> Paced<I, A> {
 
     /// Handles one event, whose service may pause. What the slot's console puts out is appended to `out`.
     pub fn step<O: Outlet>(&mut self, event: &Event<A>, out: &mut O) -> Response<A>
-        ensures responds { Tells (I.disk self.old.board.image) →
-            Responds self.old.budget (paced_world I.disk self.old) (Handle event.now) result (O.bytes out.old)
-            (O.bytes out.new) (paced_world I.disk self.new) }
-
-        // the image goes on telling its bytes
-        ensures image { Tells (I.disk self.old.board.image) → Tells (I.disk self.new.board.image) }
-        ensures budget { self.new.budget ≡ self.old.budget }
-        ensures busy { result ≡ Response.Busy → self.new ≡ self.old }
-        ensures not_idle { result ≡ Response.Idle → ⊥ }
-
-        // by an outlet with a limit, what waits in it decides what is put out
-        ensures within { (limit : ℕ) → O.limit out.old ≡ Some limit → (found after : BoardSlot) →
-            slice_get self.old.board.slots event.now.slot ≡ Some found →
-            slice_get self.new.board.slots event.now.slot ≡ Some after →
-            (turn : Turn A) → result ≡ response_to turn →
-            BeginsWithin limit event.now.what self.old.budget
-            (state_of (bytes_of (I.disk self.old.board.image)) found)
-            (state_of (bytes_of (I.disk self.new.board.image)) after) (O.bytes out.old) (O.bytes out.new) turn }
+        ensures call { IsPacedCall I.disk (O.limit out.old) self.old (Handle event.now) result
+            (O.bytes out.old) (O.bytes out.new) self.new }
         ensures limit { O.limit out.new ≡ O.limit out.old }
-        ensures extents { extents_of self.new.board.slots ≡ extents_of self.old.board.slots }
-        ensures others { KeepsOthers event.now.slot self.old.board.slots self.new.board.slots }
-
-        // without a limit nothing pauses
-        ensures limited { result ≡ Response.More → HasLimit self.old.budget }
-        ensures bad_slot { (result ≡ Response.Answered Reply.BadSlot) ↔ (length self.old.board.slots ≤ event.now.slot) }
-        ensures bad_range_keeps { result ≡ Response.Answered Reply.BadRange → self.new.board ≡ self.old.board }
-        ensures no_memory { result ≡ Response.Answered Reply.NoMemory →
-            IsSomeAnd (slice_get self.old.board.slots event.now.slot)
-            (λ found. (image : List ℕ) → MayLackMemory (state_of image found) event.now.what) }
     {
-        match self.waiting(event.slot) {
-            None => Response::Answered(Reply::BadSlot),
-            Some(Some(_)) => Response::Busy,
-            Some(None) => {
-                let taken = self.board.begin(event.slot, &event.what, self.budget, out);
-                self.note(event.slot, taken.turn)
-            }
-        }
+        self.turn(event.slot, TurnKind::Begin(&event.what), out)
     }
 
     /// Goes on with the service of a slot that is paused.
-    pub fn go_on<O: Outlet>(&mut self, slot: u8, out: &mut O) -> Response<A>
-        ensures responds { Tells (I.disk self.old.board.image) →
-            Responds self.old.budget (paced_world I.disk self.old) (GoOn slot) result (O.bytes out.old)
-            (O.bytes out.new) (paced_world I.disk self.new) }
-
-        // the image goes on telling its bytes
-        ensures image { Tells (I.disk self.old.board.image) → Tells (I.disk self.new.board.image) }
-        ensures budget { self.new.budget ≡ self.old.budget }
-        ensures idle { result ≡ Response.Idle → self.new ≡ self.old }
-        ensures not_busy { result ≡ Response.Busy → ⊥ }
-
-        // by an outlet with a limit, what waits in it decides what is put out
-        ensures within { (limit : ℕ) → O.limit out.old ≡ Some limit → (found after : BoardSlot) →
-            slice_get self.old.board.slots slot ≡ Some found → slice_get self.new.board.slots slot ≡ Some after →
-            (pause : Pause) → slice_get self.old.paused slot ≡ Some (Some pause) →
-            (turn : Turn A) → result ≡ response_to turn →
-            GoesOnWithin limit pause self.old.budget (state_of (bytes_of (I.disk self.old.board.image)) found)
-            (state_of (bytes_of (I.disk self.new.board.image)) after) (O.bytes out.old) (O.bytes out.new) turn }
+    pub fn go_on<'s, O: Outlet>(&'s mut self, slot: u8, out: &mut O) -> Response<A>
+        ensures call { IsPacedCall I.disk (O.limit out.old) self.old (GoOn slot) result
+            (O.bytes out.old) (O.bytes out.new) self.new }
         ensures limit { O.limit out.new ≡ O.limit out.old }
-        ensures extents { extents_of self.new.board.slots ≡ extents_of self.old.board.slots }
-        ensures others { KeepsOthers slot self.old.board.slots self.new.board.slots }
-        ensures limited { result ≡ Response.More → HasLimit self.old.budget }
-        ensures bad_slot { (result ≡ Response.Answered Reply.BadSlot) ↔ (length self.old.board.slots ≤ slot) }
-        ensures bad_slot_keeps { result ≡ Response.Answered Reply.BadSlot → self.new ≡ self.old }
     {
-        match self.waiting(slot) {
-            None => Response::Answered(Reply::BadSlot),
-            Some(None) => Response::Idle,
-            Some(Some(pause)) => {
-                let taken = self.board.go_on(slot, pause, self.budget, out);
+        let kind: TurnKind<'s, A> = TurnKind::Resume;
+        self.turn(slot, kind, out)
+    }
+
+    /// A slot takes a turn of either kind, where what is paused of it lets it.
+    pub(crate) fn turn<O: Outlet>(
+        &mut self,
+        slot: u8,
+        kind: TurnKind<'_, A>,
+        out: &mut O,
+    ) -> Response<A>
+        ensures call { IsPacedCall I.disk (O.limit out.old) self.old (call_of slot kind.entry) result
+            (O.bytes out.old) (O.bytes out.new) self.new }
+        ensures limit { O.limit out.new ≡ O.limit out.old }
+    {
+        match kind.work(self.waiting(slot)) {
+            Ok(work) => {
+                let taken = self.board.turn(slot, work, self.budget, out);
                 self.note(slot, taken.turn)
             }
+            Err(response) => response,
         }
     }
 

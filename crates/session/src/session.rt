@@ -1,6 +1,6 @@
 //! The session: a board over an image in memory, and what its consoles put out.
 
-ghost use Rattle.std.specs.Prelude.{◌≡◌, ◌≢◌, ◌⊎◌, ◌↔◌, ◌%◌, ◌/◌, ℕ, None, map, length, replicate, IsFalse, IfOk, OnOk, IfErr, OnErr, IsErrAnd, IsErrOf};
+ghost use Rattle.std.specs.Prelude.{◌≡◌, ◌≢◌, ◌⊎◌, ◌↔◌, ◌%◌, ◌/◌, ℕ, None, map, length, replicate, IsFalse, IfNone, IfOk, IfSome, OnOk, IfErr, OnErr, IsErrAnd, IsErrOf};
 ghost use Rattle.std.specs.Vec.{vec_items};
 ghost use Rattle.chain.specs.Budget.{IsSpent};
 ghost use Rattle.board.specs.declared.fault.BoardFault.{BoardFault};
@@ -12,10 +12,10 @@ ghost use Rattle.board.specs.Lent.{AreBytesOf, made_over, opened_over};
 ghost use Rattle.board.specs.Slot.{opened};
 ghost use Rattle.session.specs.declared.fault.SessionFault.{SessionFault};
 ghost use Rattle.board.specs.declared.event.EventKind.{EventKind};
-ghost use Rattle.session.specs.Pacing.{GoOn, Handle};
-ghost use Rattle.session.specs.Answering.{SuitsCall};
-ghost use Rattle.session.specs.Pausing.{IsCall, IsWhole};
-ghost use Rattle.session.specs.Session.{HasNoRead, IsIdle, new_session, new_session_over, none_waiting, slots_of};
+ghost use Rattle.session.specs.Pacing.{Handle, call_of};
+ghost use Rattle.session.specs.Answering.{SuitsCall, SuitsTurn};
+ghost use Rattle.session.specs.Pausing.{IsCall, IsWhole, IsWholeCall};
+ghost use Rattle.session.specs.Session.{BeginsNoRead, IsIdle, new_session, new_session_over, none_waiting, slots_of};
 ghost use Rattle.session.specs.Refusing.{AreOutlets, IsBoardFault, IsJudged, IsLentRefusedFor, IsRefusedFor};
 
 mod console;
@@ -27,9 +27,9 @@ mod saved;
 use crate::fault::{SessionFault, why_not};
 use crate::guest::{GuestSpec, are_bytes_of, are_outlets, outputs, slots};
 use crate::output_queue::OutputQueue;
-use crate::paced::Paced;
+use crate::paced::{Paced, TurnKind};
 use crate::response::Response;
-use board::{Board, Budget, Event, MemoryImage, Refused, Reply};
+use board::{Board, Budget, MemoryImage, Refused, Reply};
 use sector_cache::are_whole_sectors;
 use std::alloc::{AllocError, Allocator, Global};
 use std::marker::Model;
@@ -89,7 +89,7 @@ impl<A: Allocator + Copy> Session<A> {
             IsErrAnd result (λ why. (why ≡ SessionFault.Board fault) ⊎ (why ≡ SessionFault.NoMemory)) }
     {
         judge(guests, image, budget)?;
-        let board = board_of(alloc, guests, image, cache, budget)?;
+        let board = board_of(alloc, guests, None, image, cache, budget)?;
         Session::of_board(alloc, guests, board, budget)
     }
 
@@ -120,7 +120,7 @@ impl<A: Allocator + Copy> Session<A> {
             return Err(SessionFault::BadLoan);
         }
         judge(guests, image, budget)?;
-        let board = lent_board_of(alloc, guests, bytes, image, cache, budget)?;
+        let board = board_of(alloc, guests, Some(bytes), image, cache, budget)?;
         Session::of_board(alloc, guests, board, budget)
     }
 
@@ -151,17 +151,17 @@ impl<A: Allocator + Copy> Session<A> {
         }
     }
 
-    // Handles an event, to its end or up to a pause.
-    fn step(&mut self, event: &Event<A>) -> Response<A>
-        requires { HasNoRead event.now.what }
-        ensures call { IsCall self.old (Handle event.now) result self.new }
-        ensures whole { IsWhole self.old event.now result self.new }
-        ensures suits { SuitsCall event.now.what result }
+    // A slot takes a turn: an event begins, to its end or up to a pause, or its paused service goes on.
+    fn turn(&mut self, slot: u8, kind: TurnKind<'_, A>) -> Response<A>
+        requires { BeginsNoRead kind }
+        ensures call { IsCall self.old (call_of slot kind.entry) result self.new }
+        ensures whole { IsWholeCall self.old (call_of slot kind.entry) result self.new }
+        ensures suits { SuitsTurn kind.entry result }
     {
-        let Some(output) = self.outputs.get_mut(event.slot as usize) else {
+        let Some(output) = self.outputs.get_mut(slot as usize) else {
             return Response::Answered(Reply::BadSlot);
         };
-        output.step(&mut self.paced, event)
+        output.turn(&mut self.paced, slot, kind)
     }
 
     // Types to a slot's console.
@@ -171,16 +171,6 @@ impl<A: Allocator + Copy> Session<A> {
         ensures suits { SuitsCall (EventKind.Input bytes.now) result }
     {
         self.paced.input(slot, bytes)
-    }
-
-    // Goes on with a slot's service.
-    fn serve_on(&mut self, slot: u8) -> Response<A>
-        ensures call { IsCall self.old (GoOn slot) result self.new }
-    {
-        let Some(output) = self.outputs.get_mut(slot as usize) else {
-            return Response::Answered(Reply::BadSlot);
-        };
-        output.go_on(&mut self.paced, slot)
     }
 }
 
@@ -222,16 +212,21 @@ fn judge(guests: &[GuestSpec], image: &[u8], budget: Budget) -> Result<(), Sessi
     Ok(())
 }
 
-// The board of the guests' slots, over a copy of these bytes.
+// The board of the guests' slots over a copy of the image's bytes. Their memories are over bytes that a host lends, if it
+// does.
 fn board_of<A: Allocator + Copy>(
     alloc: A,
     guests: &[GuestSpec],
+    lent: Option<Vec<Vec<u8, Lodged>, A>>,
     image: &[u8],
     cache: u32,
     budget: Budget,
 ) -> Result<Board<MemoryImage<A>, A>, SessionFault>
+    requires lent { IfSome lent (λ bytes. AreBytesOf (slots_of guests.now) (map vec_items bytes.items)) }
     requires judged { IsJudged guests.now image.now budget }
-    ensures slots { IfOk result (λ board. board.slots ≡ map opened (slots_of guests.now)) }
+    ensures slots { IfNone lent (IfOk result (λ board. board.slots ≡ map opened (slots_of guests.now))) }
+    ensures lent_slots { IfSome lent (λ bytes. IfOk result (λ board.
+        board.slots ≡ made_over opened_over (slots_of guests.now) (map vec_items bytes.items))) }
     ensures image { IfOk result (λ board. disk_of board.image ≡ new_disk image.now) }
     ensures accepted { OnOk result (IsAccepted (length image.now / 512) (slots_of guests.now) cache) }
     ensures fault { IfErr result (λ why. IsRefusedFor guests.now image.now cache budget why) }
@@ -243,39 +238,15 @@ fn board_of<A: Allocator + Copy>(
         return Err(SessionFault::NoMemory);
     };
     let image = image_of(alloc, image)?;
-    match Board::new(alloc, &slots, image, cache) {
-        Ok(board) => Ok(board),
-        Err(Refused { image: _, why }) => Err(why_not(why)),
-    }
-}
-
-// The board of the guests' slots over bytes that a host lends, and over a copy of the image's.
-fn lent_board_of<A: Allocator + Copy>(
-    alloc: A,
-    guests: &[GuestSpec],
-    bytes: Vec<Vec<u8, Lodged>, A>,
-    image: &[u8],
-    cache: u32,
-    budget: Budget,
-) -> Result<Board<MemoryImage<A>, A>, SessionFault>
-    requires lent { AreBytesOf (slots_of guests.now) (map vec_items bytes.items) }
-    requires judged { IsJudged guests.now image.now budget }
-    ensures slots { IfOk result (λ board.
-        board.slots ≡ made_over opened_over (slots_of guests.now) (map vec_items bytes.items)) }
-    ensures image { IfOk result (λ board. disk_of board.image ≡ new_disk image.now) }
-    ensures accepted { OnOk result (IsAccepted (length image.now / 512) (slots_of guests.now) cache) }
-    ensures fault { IfErr result (λ why. IsRefusedFor guests.now image.now cache budget why) }
-    ensures bad_board { (fault : BoardFault) → fault ≢ BoardFault.NoMemory →
-        Refuses (length image.now / 512) (slots_of guests.now) cache fault →
-        IsErrAnd result (λ why. (why ≡ SessionFault.Board fault) ⊎ (why ≡ SessionFault.NoMemory)) }
-{
-    let Ok(slots) = slots(alloc, guests) else {
-        return Err(SessionFault::NoMemory);
-    };
-    let image = image_of(alloc, image)?;
-    match Board::over_lent(alloc, &slots, bytes, image, cache) {
-        Ok(board) => Ok(board),
-        Err(Refused { image: _, why }) => Err(why_not(why)),
+    match lent {
+        None => match Board::new(alloc, &slots, image, cache) {
+            Ok(board) => Ok(board),
+            Err(Refused { image: _, why }) => Err(why_not(why)),
+        },
+        Some(bytes) => match Board::over_lent(alloc, &slots, bytes, image, cache) {
+            Ok(board) => Ok(board),
+            Err(Refused { image: _, why }) => Err(why_not(why)),
+        },
     }
 }
 

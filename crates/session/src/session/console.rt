@@ -10,11 +10,12 @@ ghost use Rattle.session.specs.Course.{IsTaken};
 ghost use Rattle.session.specs.Pausing.{IsCall, IsWhole, taken_at};
 ghost use Rattle.session.specs.Session.{output_of};
 
+use crate::paced::TurnKind;
 use crate::refusal::Refusal;
 use crate::response::Response;
 use crate::session::Session;
 use crate::typed::Typed;
-use board::{Event, EventKind, Pause, Reply};
+use board::{EventKind, Pause, Reply};
 use chain::Progress;
 use std::alloc::Allocator;
 
@@ -68,7 +69,7 @@ impl<A: Allocator + Copy> Session<A> {
             (done_response result) self.new }
     {
         let what = EventKind::Resize { cols, rows };
-        match self.step(&Event { slot, what }) {
+        match self.turn(slot, TurnKind::Begin(&what)) {
             Response::Answered(Reply::Done) => Ok(()),
             response => Err(Refusal::of(&response)),
         }

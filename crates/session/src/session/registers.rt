@@ -9,10 +9,11 @@ ghost use Rattle.session.specs.Pacing.{Handle};
 ghost use Rattle.session.specs.Answering.{served_response, value_response};
 ghost use Rattle.session.specs.Pausing.{IsCall, IsWhole, WentOn};
 
+use crate::paced::TurnKind;
 use crate::refusal::Refusal;
 use crate::response::Response;
 use crate::session::Session;
-use board::{Counters, DeviceKind, Event, EventKind, Reply};
+use board::{Counters, DeviceKind, EventKind, Reply};
 use chain::Progress;
 use std::alloc::Allocator;
 
@@ -38,7 +39,7 @@ impl<A: Allocator + Copy> Session<A> {
             offset,
             width,
         };
-        match self.step(&Event { slot, what }) {
+        match self.turn(slot, TurnKind::Begin(&what)) {
             Response::Answered(Reply::Value(value)) => Ok(value),
             response => Err(Refusal::of(&response)),
         }
@@ -68,7 +69,7 @@ impl<A: Allocator + Copy> Session<A> {
             width,
             value,
         };
-        match self.step(&Event { slot, what }) {
+        match self.turn(slot, TurnKind::Begin(&what)) {
             Response::Answered(Reply::Done) => Ok(Progress::Done),
             Response::More => Ok(Progress::More),
             response => Err(Refusal::of(&response)),
@@ -77,10 +78,11 @@ impl<A: Allocator + Copy> Session<A> {
 
     /// Goes on with the service of a slot that is paused, within the budget of one call, and answers as the write did
     /// that it serves. Where none is paused there is nothing left to do.
-    pub fn go_on(&mut self, slot: u8) -> Result<Progress, Refusal>
+    pub fn go_on<'s>(&'s mut self, slot: u8) -> Result<Progress, Refusal>
         ensures call { WentOn A self.old slot result self.new }
     {
-        match self.serve_on(slot) {
+        let kind: TurnKind<'s, A> = TurnKind::Resume;
+        match self.turn(slot, kind) {
             Response::Answered(Reply::BadSlot) => Err(Refusal::BadSlot),
             Response::Answered(Reply::NoMemory) => Err(Refusal::NoRoom),
             Response::Answered(_) | Response::Idle => Ok(Progress::Done),

@@ -11,7 +11,7 @@ use Rattle.session.proofs.hosted.HostedSession.over_lent.Goals as goal
 
 pub of_board-requires : goal.of_board-requires
 of_board-requires g c =
-    ap length c.in_ok-board.ensures.made ∙ length-made_over hosted_over (slots_of c.args.guests.now) (map vec_items c.args.bytes.items)
+    ap length c.in_ok-board.ensures.made_over ∙ length-made_over hosted_over (slots_of c.args.guests.now) (map vec_items c.args.bytes.items)
     ∙ length-map c.args.guests.now (λ guest. guest.slot)
 
 pub returns-clause-made : goal.returns-clause-made
@@ -19,7 +19,7 @@ returns-clause-made g c =
     subst (λ (slots : List HostedState). IfOk c.of_board.result (λ session. session ≡ record {
       slots = slots;
       outputs = map (λ guest. none_waiting guest.outlet) c.args.guests.now;
-    })) c.in_ok-board.ensures.made c.of_board.ensures.made
+    })) c.in_ok-board.ensures.made_over c.of_board.ensures.made
 
 pub returns-clause-lent : goal.returns-clause-lent
 returns-clause-lent g c =

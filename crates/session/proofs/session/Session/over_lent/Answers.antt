@@ -22,7 +22,7 @@ returns-in_err-judge-clause-exact g c = λ why other refused.
 
 pub of_board-requires : goal.of_board-requires
 of_board-requires g c =
-    ap length c.in_ok-board.ensures.slots ∙ length-made_over opened_over (slots_of c.args.guests.now) (map vec_items c.args.bytes.items)
+    ap length c.in_ok-board.ensures.lent_slots ∙ length-made_over opened_over (slots_of c.args.guests.now) (map vec_items c.args.bytes.items)
     ∙ length-map c.args.guests.now (λ guest. guest.slot)
 
 pub returns-clause-lasts : goal.returns-clause-lasts

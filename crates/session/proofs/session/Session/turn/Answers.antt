@@ -1,0 +1,70 @@
+-- What the board comes to is what the session does.
+use Rattle.std.proofs.Common.{◌≡◌, ◌≤◌, length, refl, sym, ◌∙◌, arith, Some}
+use Rattle.std.specs.List.{slice_get}
+use Rattle.std.proofs.lemmas.Option.{slice_get_read}
+use Rattle.std.proofs.lemmas.List.{length-set}
+use Rattle.session.proofs.SessionTurns.{Turned, as_many_paused, now, suits_past, turn_past, turned, was}
+use Rattle.session.proofs.Steps.{as_many}
+use Rattle.session.proofs.session.Session.turn.Goals as goal
+
+pub returns-in_default-clause-call : goal.returns-in_default-clause-call
+returns-in_default-clause-call g c =
+    let past : length c.self.inside.paced.board.slots ≤ c.args.slot =
+    grind (arith, c.self.invariant.0, c.in_default.is, c.in_default.ensures.variant) in
+    let far : length c.self.inside.paced.paused ≤ c.args.slot = omega (arith, c.self.invariant.1, past) in
+    rw (← c.self.view_is) (turn_past _ c.args.slot c.args.kind far past).call
+
+pub returns-in_default-clause-whole : goal.returns-in_default-clause-whole
+returns-in_default-clause-whole g c =
+    let past : length c.self.inside.paced.board.slots ≤ c.args.slot =
+    grind (arith, c.self.invariant.0, c.in_default.is, c.in_default.ensures.variant) in
+    let far : length c.self.inside.paced.paused ≤ c.args.slot = omega (arith, c.self.invariant.1, past) in
+    rw (← c.self.view_is) (turn_past _ c.args.slot c.args.kind far past).whole
+
+pub returns-in_default-clause-suits : goal.returns-in_default-clause-suits
+returns-in_default-clause-suits g c = suits_past c.args.kind
+
+-- the output of that number
+there : (g : _) (c : goal.After-self-2-1 g)
+    → slice_get c.self.inside.outputs.items c.args.slot ≡ Some c.in-Some.output.now
+there g c =
+    slice_get_read c.self.inside.outputs.items (length c.self.inside.outputs.items) c.args.slot
+    c.in-Some.output.now refl
+    (omega (arith, c.in-Some.ensures.variant.0 refl)) c.in-Some.ensures.value
+
+-- the turn of the board is one of the session
+taken : (g : _) (c : goal.After-self-2-1 g)
+    → Turned
+    (was c.self.inside.paced c.turn.new.paced c.self.inside.outputs.items c.args.slot c.in-Some.output.now
+    c.turn.new.self c.turn.result (there g c) (c.self.invariant.1 ∙ sym c.self.invariant.0) c.self.invariant.0
+    c.turn.ensures.limit) c.args.slot c.args.kind c.turn.result
+    (now c.self.inside.paced c.turn.new.paced c.self.inside.outputs.items c.args.slot c.in-Some.output.now
+    c.turn.new.self c.turn.result (there g c) (c.self.invariant.1 ∙ sym c.self.invariant.0) c.self.invariant.0
+    c.turn.ensures.limit c.turn.new.paced.budget)
+taken g c =
+    turned c.self.inside.paced c.turn.new.paced c.self.inside.outputs.items c.args.slot c.in-Some.output.now
+    c.turn.new.self
+    c.turn.result (there g c) (c.self.invariant.1 ∙ sym c.self.invariant.0) c.self.invariant.0
+    c.turn.ensures.limit
+    c.args.kind c.requires c.turn.ensures.call
+
+pub invariant_of-self-2 : goal.invariant_of-self-2
+invariant_of-self-2 g c =
+    let many = sym (as_many c.self.inside.paced.board.slots c.turn.new.paced.board.slots
+    c.turn.ensures.call.extents) in (
+      length-set c.self.inside.outputs.items c.args.slot c.turn.new.self ∙ (c.self.invariant.0 ∙ many),
+      (as_many_paused c.self.inside.paced c.turn.new.paced c.self.inside.outputs.items c.args.slot
+          c.in-Some.output.now c.turn.new.self
+          c.turn.result (there g c) (c.self.invariant.1 ∙ sym c.self.invariant.0) c.self.invariant.0
+          c.turn.ensures.limit
+          c.args.kind c.turn.ensures.call ∙ c.self.invariant.1) ∙ many,
+    )
+
+pub returns-clause-call : goal.returns-clause-call
+returns-clause-call g c = rw (← c.self.view_is) (taken g c).call
+
+pub returns-clause-whole : goal.returns-clause-whole
+returns-clause-whole g c = rw (← c.self.view_is) (taken g c).whole
+
+pub returns-clause-suits : goal.returns-clause-suits
+returns-clause-suits g c = (taken g c).suits
