@@ -17,14 +17,29 @@ pub fn digits_len(text: &[u8]) -> usize
     ensures all { result < length text.now → ¬ IsDigit (slice_index_or text.now result 0) }
 {
     let mut n = 0;
+    while n < LONG_BLOCK && text.len() - n >= SHORT_BLOCK && are_digits(&text[n..n + SHORT_BLOCK]) {
+        n += SHORT_BLOCK;
+    }
+    if n == LONG_BLOCK {
+        n = long_digits_len(text);
+    }
+    while n < text.len() && is_digit(text[n]) {
+        n += 1;
+    }
+    n
+}
+
+// How many digits stand at the front of a text, but for the last of them: fewer than a block are left out.
+fn long_digits_len(text: &[u8]) -> usize
+    ensures within { result ≤ length text.now }
+    ensures digits { All IsDigit (take result text.now) }
+{
+    let mut n = 0;
     while text.len() - n >= LONG_BLOCK && are_digits(&text[n..n + LONG_BLOCK]) {
         n += LONG_BLOCK;
     }
     while text.len() - n >= SHORT_BLOCK && are_digits(&text[n..n + SHORT_BLOCK]) {
         n += SHORT_BLOCK;
-    }
-    while n < text.len() && is_digit(text[n]) {
-        n += 1;
     }
     n
 }

@@ -10,15 +10,8 @@ overflow_sub-text c = c.loop-n.invariant.within
 
 pub loop-n-preserved : goal.loop-n-preserved
 loop-n-preserved c =
-    block_more c.args.text.now c.loop-n.n 64 c.are_digits.result c.loop-n.invariant (omega arith) c.if-are_digits.true c.are_digits.ensures
-
-pub overflow_sub-text-in-loop-n-2 : goal.overflow_sub-text-in-loop-n-2
-overflow_sub-text-in-loop-n-2 c = c.loop-n-2.invariant.within
+    block_more c.args.text.now c.loop-n.n 16 c.are_digits.result c.loop-n.invariant (omega arith) c.if-are_digits.true c.are_digits.ensures
 
 pub loop-n-2-preserved : goal.loop-n-2-preserved
 loop-n-2-preserved c =
-    block_more c.args.text.now c.loop-n-2.n 16 c.are_digits-in-loop-n-2.result c.loop-n-2.invariant (omega arith) c.if-are_digits-2.true c.are_digits-in-loop-n-2.ensures
-
-pub loop-n-3-preserved : goal.loop-n-3-preserved
-loop-n-3-preserved c =
-    one_more c.args.text.now c.loop-n-3.n c.is_digit.result c.loop-n-3.invariant c.loop-n-3-test.true c.if-is_digit.true c.is_digit.ensures
+    one_more c.args.text.now c.loop-n-2.n c.is_digit.result c.loop-n-2.invariant c.loop-n-2-test.true c.if-is_digit.true c.is_digit.ensures
