@@ -1,6 +1,6 @@
 use Rattle.std.proofs.Common.{length, ◌-◌}
 use Rattle.hexadecimal.proofs.Judging.{DigitsBefore}
-use Rattle.hexadecimal.proofs.byte_field.long_digits_len.Given as goal
+use Rattle.hexadecimal.proofs.byte_field.past_blocks.Given as goal
 
 -- the bytes so far are digits
 abbrev pub invariant-loop-n : goal.invariant-loop-n
@@ -8,9 +8,3 @@ invariant-loop-n l = DigitsBefore l.text l.n
 
 abbrev pub decreases-loop-n : goal.decreases-loop-n
 decreases-loop-n l = length l.text - l.n
-
-abbrev pub invariant-loop-n-2 : goal.invariant-loop-n-2
-invariant-loop-n-2 l = DigitsBefore l.text l.n
-
-abbrev pub decreases-loop-n-2 : goal.decreases-loop-n-2
-decreases-loop-n-2 l = length l.text - l.n
