@@ -51,3 +51,7 @@ same_digit a b la lb e =
 -- a digit is a letter or a figure, so no sign that cuts a text
 pub digit_above : (d : ℕ) → d < 16 → 48 ≤ digit d
 digit_above d lt = elim (digit_cases d lt) [ inl x ↦ omega (arith, x) | inr x ↦ omega (arith, x) ]
+
+-- it is a byte
+pub digit_small : (d : ℕ) → d < 16 → digit d < 256
+digit_small d lt = elim (digit_cases d lt) [ inl x ↦ omega (arith, x) | inr x ↦ omega (arith, x) ]

@@ -1,12 +1,9 @@
 -- A number of 32 bits by its eight digits, from the pairs of them that its bytes have.
-use Rattle.std.proofs.Common.{◌≡◌, ℕ, zero, suc, ◌+◌, ◌*◌, ◌/◌, ◌%◌, ◌^◌, ◌<◌, List, [], ◌∷◌, get_or, refl, sym, ◌∙◌, arith, inl, inr}
+use Rattle.std.proofs.Common.{◌≡◌, ℕ, zero, suc, ◌+◌, ◌*◌, ◌/◌, ◌%◌, ◌^◌, ◌<◌, List, [], ◌∷◌, get_or, refl, sym, ◌∙◌, arith}
 use Rattle.std.specs.Int.{to_le_bytes, w64}
 use Rattle.std.proofs.lemmas.Nat.{le_bytes_8}
 use Rattle.hexadecimal.specs.Spelling.{digit, fixed}
-use Rattle.hexadecimal.proofs.Digits.{digit_cases}
-
-digit_small : (d : ℕ) → d < 16 → digit d < 256
-digit_small d lt = elim (digit_cases d lt) [ inl x ↦ omega (arith, x) | inr x ↦ omega (arith, x) ]
+use Rattle.hexadecimal.proofs.Digits.{digit_small}
 
 eight_small : (a b c d e f g h : ℕ) → a < 256 → b < 256 → c < 256 → d < 256 → e < 256 → f < 256 → g < 256 → h < 256
     → (i : ℕ) → get_or (a ∷ b ∷ c ∷ d ∷ e ∷ f ∷ g ∷ h ∷ []) i 0 < 256

@@ -88,15 +88,3 @@ read_spelled field out i all whole so_far = let e = so_far.spelled in rw (take_a
 
 pub read_fits : (field out : List ℕ) (i : ℕ) → length out ≤ i → AreRead field out i → All (λ b. b < 2 ^ 8) out
 read_fits field out i all so_far = subst (All (λ b. b < 2 ^ 8)) (take_all i out all) so_far.fits
-
--- a digit is a figure or a letter
-pub figure : (c : ℕ) → IsDigit c → c ≤ 57 → 48 ≤ c
-figure c h le =
-    let is = h.is in
-    elim (digit_cases h.value h.small) [ inl x ↦ omega (arith, x, is) | inr x ↦ omega (arith, x, is) ]
-
-pub letter : (c : ℕ) → IsDigit c → 58 ≤ c → (97 ≤ c) × (c ≤ 102)
-letter c h le =
-    let is = h.is in
-    let small = h.small in
-    elim (digit_cases h.value h.small) [ inl x ↦ absurd (omega (arith, x, is)) | inr x ↦ (omega (arith, x, is), omega (arith, x, is, small)) ]

@@ -16,15 +16,30 @@ pub fn digits_len(text: &[u8]) -> usize
     ensures digits { All IsDigit (take result text.now) }
     ensures all { result < length text.now → ¬ IsDigit (slice_index_or text.now result 0) }
 {
-    let mut n = 0;
-    while text.len() - n >= LONG_BLOCK && are_digits(&text[n..n + LONG_BLOCK]) {
-        n += LONG_BLOCK;
-    }
-    while text.len() - n >= SHORT_BLOCK && are_digits(&text[n..n + SHORT_BLOCK]) {
-        n += SHORT_BLOCK;
+    let mut n = past_blocks(text, 0, SHORT_BLOCK, LONG_BLOCK);
+    if n == LONG_BLOCK {
+        let past = past_blocks(text, n, LONG_BLOCK, usize::MAX);
+        n = past_blocks(text, past, SHORT_BLOCK, usize::MAX);
     }
     while n < text.len() && is_digit(text[n]) {
         n += 1;
+    }
+    n
+}
+
+// Where the digits end that stand in whole blocks from here on, or the first end of a block from `most` on. It is read into its
+// caller, who knows how long a block is.
+#[inline(always)]
+fn past_blocks(text: &[u8], from: usize, block: usize, most: usize) -> usize
+    requires some { 0 < block }
+    requires within { from ≤ length text.now }
+    requires digits { All IsDigit (take from text.now) }
+    ensures within { result ≤ length text.now }
+    ensures digits { All IsDigit (take result text.now) }
+{
+    let mut n = from;
+    while n < most && text.len() - n >= block && are_digits(&text[n..n + block]) {
+        n += block;
     }
     n
 }

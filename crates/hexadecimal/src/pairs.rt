@@ -1,7 +1,7 @@
 //! Bytes as pairs of digits, and back: few by `hex`, and many by loops without a branch in their bodies, so that many bytes
 //! are taken at once.
 
-ghost use Rattle.std.specs.Prelude.{◌≡◌, ◌*◌, ◌/◌, ◌%◌, ◌^◌, ◌<◌, All, length};
+ghost use Rattle.std.specs.Prelude.{◌≡◌, ◌+◌, ◌*◌, ◌/◌, ◌%◌, ◌^◌, ◌<◌, All, length};
 ghost use Rattle.hex.specs.Hex.{encode_lower};
 ghost use Rattle.hexadecimal.specs.Spelling.{digit};
 ghost use Rattle.hexadecimal.specs.Fields.{IsDigit};
@@ -41,19 +41,20 @@ fn spell_many(bytes: &[u8], digits: &mut [u8])
     ensures { digits.new ≡ encode_lower bytes.now }
 {
     for i in 0..bytes.len() {
-        let byte = bytes[i];
-        digits[2 * i] = computed(byte / 16);
-        digits[2 * i + 1] = computed(byte % 16);
+        let pair = computed_pair(bytes[i]);
+        digits[2 * i] = (pair % 256) as u8;
+        digits[2 * i + 1] = (pair / 256) as u8;
     }
 }
 
-// The digit of a value, without a table, so that many are taken at once.
-fn computed(d: u8) -> u8
-    requires { d < 16 }
-    ensures { result ≡ digit d }
+// The two digits of a byte as a number, whose lower byte is the first. It takes no table, so that many are made at once:
+// a letter is 39 above the figure that would stand in its place.
+fn computed_pair(byte: u8) -> u16
+    ensures { result ≡ digit (byte / 16) + 256 * digit (byte % 16) }
 {
-    let before = if d < 10 { b'0' } else { b'a' - 10 };
-    before + d
+    let values = u16::from(byte / 16) + 256 * u16::from(byte % 16);
+    let letters = (values + 0x0606) / 16 & 0x0101;
+    values + 0x3030 + 39 * letters
 }
 
 // The same of many bytes.
@@ -69,21 +70,14 @@ fn read_many(digits: &[u8], bytes: &mut [u8])
     }
 }
 
-// The byte of two digits, of which the first is the lower half of the pair.
+// The byte of two digits, of which the first is the lower half of the pair. Both values are found at once: a digit's lower
+// half is its value, and 9 less where it is a letter, whose byte is above 63.
 fn byte_of(pair: u16) -> u8
     requires high { IsDigit (pair % 256) }
     requires low { IsDigit (pair / 256) }
     ensures high { digit (result / 16) ≡ pair % 256 }
     ensures low { digit (result % 16) ≡ pair / 256 }
 {
-    (value_of_digit(pair % 256) * 16 + value_of_digit(pair / 256)) as u8
-}
-
-// The value of a byte that is a digit: `0` is 48, and `a` is 87 above its value.
-fn value_of_digit(c: u16) -> u16
-    requires { IsDigit c }
-    ensures small { result < 16 }
-    ensures is { digit result ≡ c }
-{
-    if c <= 57 { c - 48 } else { c - 87 }
+    let values = (pair & 0x0f0f) + 9 * (pair / 64 & 0x0101);
+    ((values * 16 + values / 256) % 256) as u8
 }

@@ -1,5 +1,5 @@
 -- The line of a record, put field after field.
-use Rattle.std.proofs.Common.{◌≡◌, ℕ, ◌/◌, ◌%◌, ◌<◌, ◌≤◌, List, [], ◌∷◌, ◌++◌, Option, codes, get_or, length, ◌+◌, ◌-◌, zero, suc, take, drop, refl, sym, ap, ◌∙◌, append_assoc, take-append-drop, arith}
+use Rattle.std.proofs.Common.{◌≡◌, ℕ, ◌/◌, ◌%◌, ◌<◌, ◌≤◌, List, [], ◌∷◌, ◌++◌, Option, codes, get_or, slice_set, length, ◌+◌, ◌-◌, zero, suc, take, drop, refl, sym, ap, ◌∙◌, append_assoc, take-append-drop, arith}
 use Rattle.hex.specs.Hex.{encode_lower}
 use Rattle.std.specs.List.{flat_map}
 use Rattle.std.proofs.lemmas.List.{append-nil, take_all}
@@ -37,6 +37,22 @@ two_digits n d e rest le lt p q =
     let small : n / 16 < 16 = omega arith in
     rw (p, q, num_split n le, num_digit (n / 16) small) refl
 
+-- a line that begins with both digits of a slot, of which the first may be left out
+pub numbered_one : (n : ℕ) (xs : List ℕ) → n < 16 → take 2 xs ≡ digit (n / 16) ∷ digit (n % 16) ∷ [] → take (length xs - 1) (drop 1 xs) ≡ num n ++ drop 2 xs
+numbered_one n [] lt is = absurd cc
+numbered_one n (x ∷ []) lt is = absurd cc
+numbered_one n (x ∷ y ∷ xs) lt is =
+    let last : y ≡ digit (n % 16) = cc in
+    take_all (length (x ∷ y ∷ xs) - 1) (y ∷ xs) (omega arith) ∙ one_digit n y xs lt last
+
+pub numbered_two : (n : ℕ) (xs : List ℕ) → 16 ≤ n → n < 256 → take 2 xs ≡ digit (n / 16) ∷ digit (n % 16) ∷ [] → xs ≡ num n ++ drop 2 xs
+numbered_two n [] le lt is = absurd cc
+numbered_two n (x ∷ []) le lt is = absurd cc
+numbered_two n (x ∷ y ∷ xs) le lt is =
+    let first : x ≡ digit (n / 16) = cc in
+    let last : y ≡ digit (n % 16) = cc in
+    two_digits n x y xs le lt first last
+
 -- the line of a record without output, by its bytes
 pub quiet_is : (slot : ℕ) (reply : List ℕ) (words : ℕ × ℕ) → num slot ++ 32 ∷ (reply ++ 32 ∷ 45 ∷ 32 ∷ digit words.0 ∷ 32 ∷ digit words.1 ∷ 10 ∷ []) ≡ ended (quiet_line slot reply words)
 unfolding quiet_line bytes
@@ -56,10 +72,11 @@ unfolding quiet_line record_line
 quiet_of slot reply [] words field none is = rw is refl
 quiet_of slot reply (x ∷ xs) words field none is = absurd cc
 
--- a value with its letter, byte by byte
-pub value_is : (xs rest : List ℕ) (value : ℕ) → xs ≡ codes "v:" ++ fixed 8 value → get_or xs 0 0 ∷ get_or xs 1 0 ∷ get_or xs 2 0 ∷ get_or xs 3 0 ∷ get_or xs 4 0 ∷ get_or xs 5 0 ∷ get_or xs 6 0 ∷ get_or xs 7 0 ∷ get_or xs 8 0 ∷ get_or xs 9 0 ∷ rest ≡ codes "v:" ++ (fixed 8 value ++ rest)
+-- the line of a value, made in a line of the same length
+pub value_line : (slot value x y : ℕ) (words : ℕ × ℕ) (digits : List ℕ) → digits ≡ fixed 8 value → x ≡ digit words.0 → y ≡ digit words.1
+    → num slot ++ 32 ∷ 118 ∷ 58 ∷ slice_set (slice_set (digits ++ 32 ∷ 45 ∷ 32 ∷ 48 ∷ 32 ∷ 48 ∷ 10 ∷ []) 11 x) 13 y ≡ ended (quiet_line slot (codes "v:" ++ fixed 8 value) words)
 unfolding fixed
-value_is xs rest value is = rw is refl
+value_line slot value x y words digits is p q = rw (is, p, q) (quiet_is slot (codes "v:" ++ fixed 8 value) words)
 
 -- some of the bytes were put, and these are left
 pub record PutFront (a b s t : Option (List ℕ)) (bytes rest : List ℕ) : Type 0 where

@@ -11,7 +11,7 @@ ghost use Rattle.trace.specs.Text.{ended, line};
 use crate::no_memory::NoMemory;
 use crate::print::buffer::{Buffer, Nowhere};
 use board::{Record, Reply};
-use hexadecimal::{digit_of, spell};
+use hexadecimal::{digit_of, eight_digits, spell};
 use std::alloc::Allocator;
 use std::io::Write;
 
@@ -121,20 +121,13 @@ fn put_value<W: Write, B: Allocator>(
     requires console { words.1 ≤ 3 }
     ensures { Sends (W.contents out.old) (W.contents out.new) (waiting buffer.old) (ended (quiet_line slot (codes "v:" ++ fixed 8 value) words)) (waiting buffer.new) }
 {
-    let (one, two) = (digit_of(slot / 16), digit_of(slot % 16));
-    let [v, colon, a, b, c, d, e, f, g, h] = value_field(value);
-    let (x, y) = (digit_of(words.0), digit_of(words.1));
-    if slot < 16 {
-        let line = [
-            two, b' ', v, colon, a, b, c, d, e, f, g, h, b' ', b'-', b' ', x, b' ', y, b'\n',
-        ];
-        buffer.put(out, &line);
-    } else {
-        let line = [
-            one, two, b' ', v, colon, a, b, c, d, e, f, g, h, b' ', b'-', b' ', x, b' ', y, b'\n',
-        ];
-        buffer.put(out, &line);
-    }
+    let mut line = *b"00 v:00000000 - 0 0\n";
+    line[0] = digit_of(slot / 16);
+    line[1] = digit_of(slot % 16);
+    line[5..13].copy_from_slice(&eight_digits(value));
+    line[16] = digit_of(words.0);
+    line[18] = digit_of(words.1);
+    put_numbered(buffer, out, slot, &line);
 }
 
 // The same of `done`.
@@ -143,18 +136,25 @@ fn put_done<W: Write, B: Allocator>(buffer: &mut Buffer<B>, out: &mut W, slot: u
     requires console { words.1 ≤ 3 }
     ensures { Sends (W.contents out.old) (W.contents out.new) (waiting buffer.old) (ended (quiet_line slot (codes "done") words)) (waiting buffer.new) }
 {
-    let (one, two) = (digit_of(slot / 16), digit_of(slot % 16));
-    let (x, y) = (digit_of(words.0), digit_of(words.1));
+    let mut line = *b"00 done - 0 0\n";
+    line[0] = digit_of(slot / 16);
+    line[1] = digit_of(slot % 16);
+    line[10] = digit_of(words.0);
+    line[12] = digit_of(words.1);
+    put_numbered(buffer, out, slot, &line);
+}
+
+// Puts a line that begins with both digits of its slot, but for the first where that is 0. It is read into its caller, who
+// knows how long the line is.
+#[inline(always)]
+fn put_numbered<W: Write, B: Allocator>(buffer: &mut Buffer<B>, out: &mut W, slot: u8, line: &[u8])
+    requires { take 2 line.now ≡ digit (slot / 16) ∷ digit (slot % 16) ∷ [] }
+    ensures { Sends (W.contents out.old) (W.contents out.new) (waiting buffer.old) (num slot ++ drop 2 line.now) (waiting buffer.new) }
+{
     if slot < 16 {
-        let line = [
-            two, b' ', b'd', b'o', b'n', b'e', b' ', b'-', b' ', x, b' ', y, b'\n',
-        ];
-        buffer.put(out, &line);
+        buffer.put(out, &line[1..]);
     } else {
-        let line = [
-            one, two, b' ', b'd', b'o', b'n', b'e', b' ', b'-', b' ', x, b' ', y, b'\n',
-        ];
-        buffer.put(out, &line);
+        buffer.put(out, line);
     }
 }
 
@@ -228,7 +228,10 @@ fn put_reply<W: Write, A: Allocator, B: Allocator>(
     ensures { Sends (W.contents out.old) (W.contents out.new) (waiting buffer.old) (reply_field reply.now) (waiting buffer.new) }
 {
     match reply {
-        Reply::Value(value) => buffer.put(out, &value_field(*value)),
+        Reply::Value(value) => {
+            buffer.put(out, b"v:");
+            buffer.put(out, &eight_digits(*value));
+        }
         Reply::Done => buffer.put(out, b"done"),
         Reply::Bytes(bytes) => {
             buffer.put(out, b"b:");
@@ -262,28 +265,6 @@ pub(super) fn put_num<W: Write, B: Allocator>(buffer: &mut Buffer<B>, out: &mut 
     }
     put_num(buffer, out, n / 16);
     buffer.put(out, &[low]);
-}
-
-// A value by eight digits, after the letter for it.
-#[tactic(auto, unfolding(hexadecimal::specs::Spelling::fixed))]
-fn value_field(value: u32) -> [u8; 10]
-    ensures { result ≡ codes "v:" ++ fixed 8 value }
-{
-    let (a, b, c, d) = (value, value / 16, value / 16 / 16, value / 16 / 16 / 16);
-    let top = d / 16;
-    let (e, f, g, h) = (top, top / 16, top / 16 / 16, top / 16 / 16 / 16);
-    [
-        b'v',
-        b':',
-        digit_of((h % 16) as u8),
-        digit_of((g % 16) as u8),
-        digit_of((f % 16) as u8),
-        digit_of((e % 16) as u8),
-        digit_of((d % 16) as u8),
-        digit_of((c % 16) as u8),
-        digit_of((b % 16) as u8),
-        digit_of((a % 16) as u8),
-    ]
 }
 
 // Puts a space and the output.

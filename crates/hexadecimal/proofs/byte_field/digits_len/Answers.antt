@@ -1,24 +1,9 @@
-use Rattle.std.proofs.Common.{arith}
-use Rattle.hexadecimal.proofs.Judging.{block_more, none_before, one_more}
+use Rattle.hexadecimal.proofs.Judging.{none_before, one_more}
 use Rattle.hexadecimal.proofs.byte_field.digits_len.Goals as goal
 
-pub loop-n-init : goal.loop-n-init
-loop-n-init c = none_before c.args.text.now
-
-pub overflow_sub-text : goal.overflow_sub-text
-overflow_sub-text c = c.loop-n.invariant.within
+pub past_blocks-n-requires-clause-digits : goal.past_blocks-n-requires-clause-digits
+past_blocks-n-requires-clause-digits c = (none_before c.args.text.now).digits
 
 pub loop-n-preserved : goal.loop-n-preserved
 loop-n-preserved c =
-    block_more c.args.text.now c.loop-n.n 64 c.are_digits.result c.loop-n.invariant (omega arith) c.if-are_digits.true c.are_digits.ensures
-
-pub overflow_sub-text-in-loop-n-2 : goal.overflow_sub-text-in-loop-n-2
-overflow_sub-text-in-loop-n-2 c = c.loop-n-2.invariant.within
-
-pub loop-n-2-preserved : goal.loop-n-2-preserved
-loop-n-2-preserved c =
-    block_more c.args.text.now c.loop-n-2.n 16 c.are_digits-in-loop-n-2.result c.loop-n-2.invariant (omega arith) c.if-are_digits-2.true c.are_digits-in-loop-n-2.ensures
-
-pub loop-n-3-preserved : goal.loop-n-3-preserved
-loop-n-3-preserved c =
-    one_more c.args.text.now c.loop-n-3.n c.is_digit.result c.loop-n-3.invariant c.loop-n-3-test.true c.if-is_digit.true c.is_digit.ensures
+    one_more c.args.text.now c.loop-n.n c.is_digit.result c.loop-n.invariant c.loop-n-test.true c.if-is_digit.true c.is_digit.ensures

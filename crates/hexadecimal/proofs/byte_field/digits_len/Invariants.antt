@@ -8,15 +8,3 @@ invariant-loop-n l = DigitsBefore l.text l.n
 
 abbrev pub decreases-loop-n : goal.decreases-loop-n
 decreases-loop-n l = length l.text - l.n
-
-abbrev pub invariant-loop-n-2 : goal.invariant-loop-n-2
-invariant-loop-n-2 l = DigitsBefore l.text l.n
-
-abbrev pub decreases-loop-n-2 : goal.decreases-loop-n-2
-decreases-loop-n-2 l = length l.text - l.n
-
-abbrev pub invariant-loop-n-3 : goal.invariant-loop-n-3
-invariant-loop-n-3 l = DigitsBefore l.text l.n
-
-abbrev pub decreases-loop-n-3 : goal.decreases-loop-n-3
-decreases-loop-n-3 l = length l.text - l.n

@@ -6,3 +6,7 @@ returns-in-Bytes g c = rw c.in-Bytes.is (sends_more _ _ _ _ _ _ _ _ c.put-in-Byt
 
 pub returns-in-Took : goal.returns-in-Took
 returns-in-Took g c = rw c.in-Took.is (sends_more _ _ _ _ _ _ _ _ c.put-in-Took.ensures c.put_num.ensures)
+
+pub returns-in-Value : goal.returns-in-Value
+returns-in-Value g c =
+    rw c.in-Value.is (sends_more _ _ _ _ _ _ _ _ c.put.ensures (rw c.eight_digits.ensures at c.put-in-Value.ensures))
