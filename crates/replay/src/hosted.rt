@@ -17,7 +17,7 @@ ghost use Rattle.replay.specs.Running.{HasRoomFor, HostsEvent, HostsSaid, IsHost
 
 use crate::running::bytes_in;
 use block_device::Operation;
-use board::{Event, EventKind, HostedBoard, HostedTaken, Reply, RestoreRefusal};
+use board::{Event, EventKind, Handled, HostedBoard, Reply, RestoreRefusal};
 use chain::Segment;
 use std::alloc::Allocator;
 use std::io::Write;
@@ -163,7 +163,7 @@ fn answer<A: Allocator + Copy>(
         EventKind::Input { .. } => input(board, slot, bytes_in(room, said.bytes)),
         EventKind::Restore { .. } => restore(board, slot, bytes_in(room, said.bytes)),
         _ => {
-            let HostedTaken { reply, .. } = board.step(slot, &said.event.what, output);
+            let Handled { reply, .. } = board.step(slot, &said.event.what, output);
             reply
         }
     }

@@ -4,8 +4,8 @@ use crate::guest::SlotQueue;
 use crate::wording::Ahead;
 use block_device::{BlockDevice, Operation};
 use board::{
-    Board, Budget, DeviceKind, Event, EventKind, GuestMemory, HostedBoard, HostedTaken, Pause,
-    Reply, SlotSpec, Turn,
+    Board, Budget, DeviceKind, Event, EventKind, GuestMemory, Handled, HostedBoard, Pause, Reply,
+    SlotSpec, Turn, Work,
 };
 use mmio_window::Window;
 use sector_cache::MemoryImage;
@@ -103,7 +103,7 @@ impl Watched {
         match self {
             Watched::Cached(board) => board.step(event, output),
             Watched::Hosted(board, _) => {
-                let HostedTaken { reply, .. } = board.step(event.slot, &event.what, output);
+                let Handled { reply, .. } = board.step(event.slot, &event.what, output);
                 reply
             }
         }
@@ -119,10 +119,14 @@ impl Watched {
         output: &mut Vec<u8>,
     ) -> Turn {
         match (self, pause) {
-            (Watched::Cached(board), None) => board.begin(slot, what, budget, output).turn,
-            (Watched::Cached(board), Some(pause)) => board.go_on(slot, pause, budget, output).turn,
+            (Watched::Cached(board), None) => {
+                board.turn(slot, Work::Begin(what), budget, output).turn
+            }
+            (Watched::Cached(board), Some(pause)) => {
+                board.turn(slot, Work::Resume(pause), budget, output).turn
+            }
             (Watched::Hosted(board, _), _) => {
-                let HostedTaken { reply, .. } = board.step(slot, what, output);
+                let Handled { reply, .. } = board.step(slot, what, output);
                 Turn::Answered(reply)
             }
         }
