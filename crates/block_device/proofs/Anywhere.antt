@@ -105,7 +105,7 @@ pub hosts_to : (device : BlockDevice) (stage : Stage) (budget : Budget) (found :
     → Some queue ≡ found → progress ≡ progress_of left → w' ≡ shown left (with_ring 0 w last)
     → LeavesQueue (hosted_device device) stage budget (site_at m queue tt) (site_at m' last tt) left
     → ServesTo stage (unasked_device device) budget 0 found progress m m' w w' (extent_disk device.extent disk) (extent_disk device.extent disk)
-hosts_to device stage budget found queue last left progress m m' w w' disk is told shows h =
+hosts_to device stage budget found queue last left progress m m' w w' disk is contents shows h =
     let seen = extent_disk device.extent disk in
     serves_seen (hosted_device device) (unasked_device device) (λ state. seen) (hosted_anywhere device seen) budget stage 0 found progress m m' w w' tt tt
-    (serves_to (hosted_device device) stage budget 0 found queue last left progress m m' w w' tt tt is told shows h)
+    (serves_to (hosted_device device) stage budget 0 found queue last left progress m m' w w' tt tt is contents shows h)

@@ -3,7 +3,7 @@ use Rattle.std.proofs.Common.{◌≡◌, inl, inr, ℕ, zero, suc, ◌≤◌, tr
 use Rattle.std.specs.List.{slice_get}
 use Rattle.chain.specs.Bytes.{readable_of, writable_of}
 use Rattle.chain.specs.Service.{Given, Served, ServesAll, Site, after}
-use Rattle.sector_cache.specs.Disk.{Disk, KeepsClear}
+use Rattle.sector_cache.specs.Disk.{Disk, KeepsClean}
 use Rattle.mmio_window.specs.declared.queue.Queue.{Queue}
 use Rattle.mmio_window.specs.Queue.{queue_kind}
 use Rattle.block_device.specs.declared.device.BlockDevice.{BlockDevice}
@@ -19,27 +19,27 @@ use Rattle.block_device.proofs.Requests.{gives_exact, gives_rises}
 
 -- ---- a request
 
--- where no call failed, one leaves a clear mark clear
-completed_clear : (request : Request) (payload found : List ℕ) (disk : Disk) → disk.mark ≡ false → (completed request payload found disk).disk.mark ≡ false
-completed_clear (Rejected status) payload found disk clear = clear
-completed_clear (Read sector count) payload found disk clear = clear
-completed_clear (Write sector count) payload found disk clear = refl
-completed_clear Flush payload found disk clear = refl
-completed_clear GetId payload found disk clear = clear
-completed_clear (WriteZeroes segments) payload found disk clear = refl
+-- where no call failed, one leaves a clean disk clean
+completed_clean : (request : Request) (payload found : List ℕ) (disk : Disk) → disk.dirty ≡ false → (completed request payload found disk).disk.dirty ≡ false
+completed_clean (Rejected status) payload found disk clean = clean
+completed_clean (Read sector count) payload found disk clean = clean
+completed_clean (Write sector count) payload found disk clean = refl
+completed_clean Flush payload found disk clean = refl
+completed_clean GetId payload found disk clean = clean
+completed_clean (WriteZeroes segments) payload found disk clean = refl
 
-pub exact_clear : (device : BlockDevice) (disk : Disk) (readable : List ℕ) (w : ℕ) (given : Given Disk) → disk.mark ≡ false → GivesBy (Completes device.identity) device disk readable w given → given.state.mark ≡ false
-exact_clear device disk readable zero given clear h = ap (λ (g : Given Disk). g.state.mark) h ∙ clear
-exact_clear device disk readable (suc room) given clear h =
-    ap (λ (g : Given Disk). g.state.mark) h.given_is
-    ∙ ap (λ (o : Outcome). o.disk.mark) h.is.is
-    ∙ completed_clear (request_of device readable room) (payload_of readable) h.is.found disk clear
+pub exact_clean : (device : BlockDevice) (disk : Disk) (readable : List ℕ) (w : ℕ) (given : Given Disk) → disk.dirty ≡ false → GivesBy (Completes device.identity) device disk readable w given → given.state.dirty ≡ false
+exact_clean device disk readable zero given clean h = ap (λ (g : Given Disk). g.state.dirty) h ∙ clean
+exact_clean device disk readable (suc room) given clean h =
+    ap (λ (g : Given Disk). g.state.dirty) h.given_is
+    ∙ ap (λ (o : Outcome). o.disk.dirty) h.is.is
+    ∙ completed_clean (request_of device readable room) (payload_of readable) h.is.found disk clean
 
-pub gives_clear : (device : BlockDevice) (disk : Disk) (readable : List ℕ) (w : ℕ) (given : Given Disk) → GivesBy (Ends device.identity) device disk readable w given → KeepsClear disk given.state
-gives_clear device disk readable w given h = λ e clear. exact_clear device disk readable w given clear (gives_exact device disk readable w given h e)
+pub gives_clean : (device : BlockDevice) (disk : Disk) (readable : List ℕ) (w : ℕ) (given : Given Disk) → GivesBy (Ends device.identity) device disk readable w given → KeepsClean disk given.state
+gives_clean device disk readable w given h = λ e clean. exact_clean device disk readable w given clean (gives_exact device disk readable w given h e)
 
--- one that ends by a flush leaves the mark clear, also where it was set
-completed_flushed : (request : Request) (payload found : List ℕ) (disk : Disk) → ends_by_flush request ≡ true → (completed request payload found disk).disk.mark ≡ false
+-- one that ends by a flush leaves the disk clean, also where it was dirty
+completed_flushed : (request : Request) (payload found : List ℕ) (disk : Disk) → ends_by_flush request ≡ true → (completed request payload found disk).disk.dirty ≡ false
 completed_flushed (Rejected status) payload found disk ends = absurd (cc ends)
 completed_flushed (Read sector count) payload found disk ends = absurd (cc ends)
 completed_flushed (Write sector count) payload found disk ends = refl
@@ -72,15 +72,15 @@ some_code IoError e = absurd (cc e)
 some_code Unsupported e = absurd (cc e)
 
 gives_flushed : (device : BlockDevice) (disk : Disk) (readable : List ℕ) (room : ℕ) (given : Given Disk) (front : List (Option ℕ)) → GivesBy (Ends device.identity) device disk readable (suc room) given
-    → ends_by_flush (request_of device readable room) ≡ true → given.written ≡ front ++ Some 0 ∷ [] → given.state.mark ≡ false
+    → ends_by_flush (request_of device readable room) ≡ true → given.written ≡ front ++ Some 0 ∷ [] → given.state.dirty ≡ false
 gives_flushed device disk readable room given front h ends told =
     let request = request_of device readable room in
     let status : h.outcome.status ≡ Success =
     some_code h.outcome.status (last_same _ front (Some (code_of h.outcome.status)) (Some 0) (sym (ap (λ (g : Given Disk). g.written) h.given_is) ∙ told)) in
     elim h.is [
       | inl c ↦
-          ap (λ (g : Given Disk). g.state.mark) h.given_is
-          ∙ ap (λ (o : Outcome). o.disk.mark) c.is
+          ap (λ (g : Given Disk). g.state.dirty) h.given_is
+          ∙ ap (λ (o : Outcome). o.disk.dirty) c.is
           ∙ completed_flushed request (payload_of readable) c.found disk ends
       | inr f ↦ let failed : Success ≡ IoError = sym status ∙ fails_told request (payload_of readable) disk h.outcome f in absurd (cc failed)
     ]
@@ -94,24 +94,24 @@ serves_rises device start at (s ∷ chains) p =
     let rest : s.given.state.failures ≤ at.state.failures = serves_rises device (after queue_kind (block_device device) start s) at chains p.1 in
     omega (arith, here, rest)
 
-pub serves_clear : (device : BlockDevice) (start at : Site Queue Disk) (chains : List (Served Disk)) → ServesAll queue_kind (block_device device) start chains at → KeepsClear start.state at.state
-serves_clear device start at [] p = λ e clear. ap (λ (s : Site Queue Disk). s.state.mark) (sym p) ∙ clear
-serves_clear device start at (s ∷ chains) p = λ e clear.
+pub serves_clean : (device : BlockDevice) (start at : Site Queue Disk) (chains : List (Served Disk)) → ServesAll queue_kind (block_device device) start chains at → KeepsClean start.state at.state
+serves_clean device start at [] p = λ e clean. ap (λ (s : Site Queue Disk). s.state.dirty) (sym p) ∙ clean
+serves_clean device start at (s ∷ chains) p = λ e clean.
     let here = gives_rises device start.state (readable_of start.memory s.buffers) (length (writable_of s.buffers)) s.given p.0.gives in
     let rest : s.given.state.failures ≤ at.state.failures = serves_rises device (after queue_kind (block_device device) start s) at chains p.1 in
     let same : s.given.state.failures ≡ start.state.failures = omega (arith, here, rest, e) in
     let left : at.state.failures ≡ s.given.state.failures = e ∙ sym same in
-    serves_clear device (after queue_kind (block_device device) start s) at chains p.1 left
-    (gives_clear device start.state (readable_of start.memory s.buffers) (length (writable_of s.buffers)) s.given p.0.gives same clear)
+    serves_clean device (after queue_kind (block_device device) start s) at chains p.1 left
+    (gives_clean device start.state (readable_of start.memory s.buffers) (length (writable_of s.buffers)) s.given p.0.gives same clean)
 
-pub committed_clear : (device : BlockDevice) (start at : Site Queue Disk) (s : Served Disk) (later : List (Served Disk)) → ServesAll queue_kind (block_device device) start (s ∷ later) at → IsCommitted device start.memory s
-    → at.state.failures ≡ s.given.state.failures → at.state.mark ≡ false
-committed_clear device start at s later p committed same =
+pub committed_clean : (device : BlockDevice) (start at : Site Queue Disk) (s : Served Disk) (later : List (Served Disk)) → ServesAll queue_kind (block_device device) start (s ∷ later) at → IsCommitted device start.memory s
+    → at.state.failures ≡ s.given.state.failures → at.state.dirty ≡ false
+committed_clean device start at s later p committed same =
     let readable = readable_of start.memory s.buffers in
     let all : length (writable_of s.buffers) ≡ suc committed.room = omega (arith, committed.all) in
     let gives : GivesBy (Ends device.identity) device start.state readable (suc committed.room) s.given =
     subst (λ (w : ℕ). GivesBy (Ends device.identity) device start.state readable w s.given) all p.0.gives in
-    serves_clear device (after queue_kind (block_device device) start s) at later p.1 same
+    serves_clean device (after queue_kind (block_device device) start s) at later p.1 same
     (gives_flushed device start.state readable committed.room s.given committed.front gives committed.request committed.told)
 
 -- ---- a host

@@ -22,13 +22,13 @@ record FailsAlike (request : Request) (payload : List ℕ) (t : Disk) (outcome :
   same : SameOutcome outcome other
 
 same_failed : (s t : Disk) → SameSectors s t → SameSectors (failed s) (failed t)
-same_failed s t same = record { told = same.told; sectors = same.sectors }
+same_failed s t same = record { contents = same.contents; sectors = same.sectors }
 
 same_filled : (s t : Disk) (sector : ℕ) (bytes : List ℕ) → SameSectors s t → SameSectors (filled sector bytes s) (filled sector bytes t)
-same_filled s t sector bytes same = record { told = ap (option_map (λ old. with_sectors old sector bytes)) same.told; sectors = same.sectors }
+same_filled s t sector bytes same = record { contents = ap (option_map (λ old. with_sectors old sector bytes)) same.contents; sectors = same.sectors }
 
 same_sector : (s t : Disk) (sector : ℕ) (bytes : List ℕ) → SameSectors s t → SameSectors (written sector bytes s) (written sector bytes t)
-same_sector s t sector bytes same = record { told = ap (option_map (λ old. with_sector old sector bytes)) same.told; sectors = same.sectors }
+same_sector s t sector bytes same = record { contents = ap (option_map (λ old. with_sector old sector bytes)) same.contents; sectors = same.sectors }
 
 -- a request that fails, over another disk of the same sectors
 fails_same : (request : Request) (payload : List ℕ) (s t : Disk) (outcome : Outcome) → SameSectors s t → Fails request payload s outcome → FailsAlike request payload t outcome
@@ -116,7 +116,7 @@ block_same device = record {
 }
 
 pub sectors_same : (s : Disk) → SameSectors s s
-sectors_same s = record { told = refl; sectors = refl }
+sectors_same s = record { contents = refl; sectors = refl }
 
 pub sectors_further : (r s t : Disk) → SameSectors r s → SameSectors s t → SameSectors r t
-sectors_further r s t p q = record { told = q.told ∙ p.told; sectors = q.sectors ∙ p.sectors }
+sectors_further r s t p q = record { contents = q.contents ∙ p.contents; sectors = q.sectors ∙ p.sectors }

@@ -46,7 +46,7 @@ pub finds_same : (identity : List ℕ) (request : Request) (s t : Disk) (found :
 finds_same identity (Rejected status) s t found same h = h
 finds_same identity (Read sector count) s t found same h = record {
   size = h.size;
-  told = subst (λ (o : Option (List ℕ)). IfSome o (λ bytes. found ≡ extent_of bytes sector count)) (sym same.told) h.told;
+  contents = subst (λ (o : Option (List ℕ)). IfSome o (λ bytes. found ≡ extent_of bytes sector count)) (sym same.contents) h.contents;
 }
 finds_same identity (Write sector count) s t found same h = h
 finds_same identity Flush s t found same h = h
@@ -58,7 +58,7 @@ zeroed_same [] s t same = same
 zeroed_same (sector ∷ sectors) s t same =
     let zeros : List ℕ = replicate 512 0 in
     zeroed_same sectors (written sector zeros s) (written sector zeros t)
-    (record { told = ap (option_map (λ bytes. with_sector bytes sector zeros)) same.told; sectors = same.sectors })
+    (record { contents = ap (option_map (λ bytes. with_sector bytes sector zeros)) same.contents; sectors = same.sectors })
 
 -- what is told to the driver is the same, and so are the sectors afterwards
 pub record SameOutcome (one other : Outcome) : Type 0 where
@@ -70,15 +70,15 @@ completed_same : (request : Request) (payload found : List ℕ) (s t : Disk) →
 completed_same (Rejected status) payload found s t same = record { disk = same; found = refl; status = refl }
 completed_same (Read sector count) payload found s t same = record { disk = same; found = refl; status = refl }
 completed_same (Write sector count) payload found s t same = record {
-  disk = record { told = ap (option_map (λ bytes. with_sectors bytes sector payload)) same.told; sectors = same.sectors };
+  disk = record { contents = ap (option_map (λ bytes. with_sectors bytes sector payload)) same.contents; sectors = same.sectors };
   found = refl;
   status = refl;
 }
-completed_same Flush payload found s t same = record { disk = record { told = same.told; sectors = same.sectors }; found = refl; status = refl }
+completed_same Flush payload found s t same = record { disk = record { contents = same.contents; sectors = same.sectors }; found = refl; status = refl }
 completed_same GetId payload found s t same = record { disk = same; found = refl; status = refl }
 completed_same (WriteZeroes segments) payload found s t same =
     let after = zeroed_same (all_sectors (segments_in payload)) s t same in
-    record { disk = record { told = after.told; sectors = after.sectors }; found = refl; status = refl }
+    record { disk = record { contents = after.contents; sectors = after.sectors }; found = refl; status = refl }
 
 pub same_written : (room : ℕ) (one other : Outcome) → SameOutcome one other → (given_of room one).written ≡ (given_of room other).written
 same_written room one other same = rw (same.found, same.status) refl

@@ -8,7 +8,7 @@ use Rattle.chain.specs.declared.segment.Buffer.{Buffer}
 use Rattle.chain.specs.Bytes.{readable_of}
 use Rattle.chain.specs.Service.{Does}
 use Rattle.chain.proofs.Simulating.{DoesAs}
-use Rattle.sector_cache.specs.Disk.{Disk, KeepsClear}
+use Rattle.sector_cache.specs.Disk.{Disk, KeepsClean}
 use Rattle.mmio_window.specs.Leaving.{IsKept}
 use Rattle.mmio_window.proofs.Keeping.{kept_all}
 use Rattle.block_device.specs.declared.cached.Cached.{Cached}
@@ -17,7 +17,7 @@ use Rattle.block_device.specs.Device.{block_device}
 use Rattle.block_device.specs.Extent.{CallsWithin, TouchesExtent, extent_disk}
 use Rattle.block_device.specs.Keeping.{KeepsImage}
 use Rattle.block_device.specs.Touching.{device_over}
-use Rattle.block_device.proofs.Durable.{gives_clear}
+use Rattle.block_device.proofs.Durable.{gives_clean}
 use Rattle.block_device.proofs.Extents.{KeepsOutside-same, outside_trans}
 use Rattle.block_device.proofs.Touching.{touched_more, untouched}
 
@@ -50,16 +50,16 @@ module _ {I : Type 0} (disk : I → Disk) (moment : I → ℕ) (may_leave : I �
   keeps_all : (device : BlockDevice) (failed : Bool) (image : I) → Keeps device device failed failed image image
   keeps_all device failed image = record {
     same = refl;
-    stays = record { rises = omega arith; clear = λ same clear. clear; outside = KeepsOutside-same device.extent (disk image) (disk image) refl refl };
+    stays = record { rises = omega arith; clean = λ same clean. clean; outside = KeepsOutside-same device.extent (disk image) (disk image) refl refl };
     touches = untouched device.extent;
     counted = sym (or-false failed) ∙ ap (λ b. failed || b) (not_less (disk image).failures);
   }
 
-  clear_on : (a b c : Disk) → KeepsClear a b → KeepsClear b c → a.failures ≤ b.failures → b.failures ≤ c.failures → KeepsClear a c
-  clear_on a b c one other h k = λ same clear.
+  clean_on : (a b c : Disk) → KeepsClean a b → KeepsClean b c → a.failures ≤ b.failures → b.failures ≤ c.failures → KeepsClean a c
+  clean_on a b c one other h k = λ same clean.
       let before : b.failures ≡ a.failures = omega (arith, h, k, same) in
       let behind : c.failures ≡ b.failures = omega (arith, h, k, same) in
-      other behind (one before clear)
+      other behind (one before clean)
 
   on_same : (device device' device'' : BlockDevice) (failed failed' failed'' : Bool) (a b c : I) → device' ≡ device
       → Keeps device device' failed failed' a b → Keeps device' device'' failed' failed'' b c → Keeps device device'' failed failed'' a c
@@ -69,7 +69,7 @@ module _ {I : Type 0} (disk : I → Disk) (moment : I → ℕ) (may_leave : I �
         same = k'.same;
         stays = record {
           rises = omega (arith, h.stays.rises, k'.stays.rises);
-          clear = clear_on (disk a) (disk b) (disk c) h.stays.clear k'.stays.clear h.stays.rises k'.stays.rises;
+          clean = clean_on (disk a) (disk b) (disk c) h.stays.clean k'.stays.clean h.stays.rises k'.stays.rises;
           outside = outside_trans device.extent (disk a) (disk b) (disk c) h.stays.outside k'.stays.outside;
         };
         touches = touched_more device.extent h.touches k'.touches;
@@ -90,7 +90,7 @@ module _ {I : Type 0} (disk : I → Disk) (moment : I → ℕ) (may_leave : I �
     same = refl;
     stays = record {
       rises = rises_by more (disk old).failures (disk new).failures calls.counted;
-      clear = λ same clear. gives_clear device (extent_disk device.extent (disk old)) (readable_of m buffers) _ _ does.gives same clear;
+      clean = λ same clean. gives_clean device (extent_disk device.extent (disk old)) (readable_of m buffers) _ _ does.gives same clean;
       outside = calls.outside;
     };
     touches = touches;

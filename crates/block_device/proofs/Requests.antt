@@ -9,33 +9,33 @@ use Rattle.block_device.specs.declared.device.BlockDevice.{BlockDevice}
 use Rattle.block_device.specs.declared.request.Request.{Request}
 use Rattle.block_device.specs.declared.request.Request.TheVariants.{Rejected, Read, Write, Flush, GetId, WriteZeroes}
 use Rattle.block_device.specs.Request.{request_of, payload_of}
-use Rattle.block_device.specs.Outcome.{Outcome, AreAsTold, Finds, completed, Completes, Fails, Ends}
+use Rattle.block_device.specs.Outcome.{Outcome, AreSectorContents, Finds, completed, Completes, Fails, Ends}
 use Rattle.block_device.specs.Device.{given_of, GivesBy}
 use Rattle.block_device.specs.Zeroes.{all_sectors, segments_in}
 use Rattle.block_device.proofs.Zeroing.{zeroed-failures, stopped-failures}
 
 -- what is read of a disk that tells its bytes
-found_told : (disk : Disk) (bytes : List ℕ) (sector count : ℕ) (found : List ℕ) → disk.told ≡ Some bytes → AreAsTold disk sector count found → found ≡ extent_of bytes sector count
-found_told disk bytes sector count found e h =
-    let P : Option (List ℕ) → Type 0 = λ told. IfSome told (λ bytes. found ≡ extent_of bytes sector count) in
-    let here : P disk.told = h.told in
+found_contents : (disk : Disk) (bytes : List ℕ) (sector count : ℕ) (found : List ℕ) → disk.contents ≡ Some bytes → AreSectorContents disk sector count found → found ≡ extent_of bytes sector count
+found_contents disk bytes sector count found e h =
+    let P : Option (List ℕ) → Type 0 = λ contents. IfSome contents (λ bytes. found ≡ extent_of bytes sector count) in
+    let here : P disk.contents = h.contents in
     rw e at here
 
-finds_once : (identity : List ℕ) (request : Request) (disk : Disk) (bytes one other : List ℕ) → disk.told ≡ Some bytes → Finds identity request disk one → Finds identity request disk other → one ≡ other
+finds_once : (identity : List ℕ) (request : Request) (disk : Disk) (bytes one other : List ℕ) → disk.contents ≡ Some bytes → Finds identity request disk one → Finds identity request disk other → one ≡ other
 finds_once identity (Rejected status) disk bytes one other e p q = p ∙ sym q
-finds_once identity (Read sector count) disk bytes one other e p q = found_told disk bytes sector count one e p ∙ sym (found_told disk bytes sector count other e q)
+finds_once identity (Read sector count) disk bytes one other e p q = found_contents disk bytes sector count one e p ∙ sym (found_contents disk bytes sector count other e q)
 finds_once identity (Write sector count) disk bytes one other e p q = p ∙ sym q
 finds_once identity Flush disk bytes one other e p q = p ∙ sym q
 finds_once identity GetId disk bytes one other e p q = p ∙ sym q
 finds_once identity (WriteZeroes segments) disk bytes one other e p q = p ∙ sym q
 
-completes_once : (identity : List ℕ) (request : Request) (payload : List ℕ) (disk : Disk) (bytes : List ℕ) (one other : Outcome) → disk.told ≡ Some bytes
+completes_once : (identity : List ℕ) (request : Request) (payload : List ℕ) (disk : Disk) (bytes : List ℕ) (one other : Outcome) → disk.contents ≡ Some bytes
     → Completes identity request payload disk one → Completes identity request payload disk other → one ≡ other
 completes_once identity request payload disk bytes one other e p q =
     p.is ∙ ap (λ found. completed request payload found disk) (finds_once identity request disk bytes p.found q.found e p.finds q.finds) ∙ sym q.is
 
 -- there is one answer to a chain
-pub gives_once : (device : BlockDevice) (disk : Disk) (bytes readable : List ℕ) (w : ℕ) (one other : Given Disk) → disk.told ≡ Some bytes
+pub gives_once : (device : BlockDevice) (disk : Disk) (bytes readable : List ℕ) (w : ℕ) (one other : Given Disk) → disk.contents ≡ Some bytes
     → GivesBy (Completes device.identity) device disk readable w one → GivesBy (Completes device.identity) device disk readable w other → one ≡ other
 gives_once device disk bytes readable zero one other e p q = p ∙ sym q
 gives_once device disk bytes readable (suc room) one other e p q =

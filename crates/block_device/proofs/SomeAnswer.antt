@@ -13,7 +13,7 @@ use Rattle.block_device.specs.declared.request.Request.TheVariants.{Rejected, Re
 use Rattle.block_device.specs.Request.{are_sectors, get_id_request_of, in_request_of, out_request_of, payload_of, request_of, sector_in, type_of, typed_request, write_zeroes_request_of}
 use Rattle.std.specs.List.{list_all}
 use Rattle.block_device.specs.Zeroes.{are_segments, has_known_flags, has_sectors_within, segments_in}
-use Rattle.block_device.specs.Outcome.{Outcome, AreAsTold, Completes, completed}
+use Rattle.block_device.specs.Outcome.{Outcome, AreSectorContents, Completes, completed}
 use Rattle.block_device.specs.Device.{HasAnswer, given_of}
 use Rattle.block_device.specs.Progress.{IsServable}
 
@@ -75,39 +75,39 @@ record HasOutcome (identity : List ℕ) (request : Request) (payload : List ℕ)
 found_size : (bytes : List ℕ) (sector count : ℕ) → 512 * (sector + count) ≤ length bytes → length (extent_of bytes sector count) ≡ 512 * count
 found_size bytes sector count inside = simp (length-take, length-drop) (omega arith)
 
-has_outcome : (identity : List ℕ) (request : Request) (payload bytes : List ℕ) (disk : Disk) (capacity room : ℕ) → disk.told ≡ Some bytes → length bytes ≡ 512 * disk.sector_count
+has_outcome : (identity : List ℕ) (request : Request) (payload bytes : List ℕ) (disk : Disk) (capacity room : ℕ) → disk.contents ≡ Some bytes → length bytes ≡ 512 * disk.sector_count
     → capacity ≤ disk.sector_count → IsServable capacity request payload room → length identity ≡ 20 → HasOutcome identity request payload disk room
-has_outcome identity (Rejected status) payload bytes disk capacity room told whole below h twenty =
+has_outcome identity (Rejected status) payload bytes disk capacity room contents whole below h twenty =
     record { outcome = completed (Rejected status) payload [] disk; is = record { found = []; finds = refl; is = refl }; fits = omega arith }
-has_outcome identity (Read sector count) payload bytes disk capacity room told whole below h twenty =
+has_outcome identity (Read sector count) payload bytes disk capacity room contents whole below h twenty =
     let found = extent_of bytes sector count in
     let size : length found ≡ 512 * count = found_size bytes sector count (omega (arith, whole, below, h.0)) in
-    let finds : AreAsTold disk sector count found =
-    record { size = size; told = subst (λ (o : Option (List ℕ)). IfSome o (λ bytes. found ≡ extent_of bytes sector count)) (sym told) refl } in
+    let finds : AreSectorContents disk sector count found =
+    record { size = size; contents = subst (λ (o : Option (List ℕ)). IfSome o (λ bytes. found ≡ extent_of bytes sector count)) (sym contents) refl } in
     record {
       outcome = completed (Read sector count) payload found disk;
       is = record { found = found; finds = finds; is = refl };
       fits = omega (arith, size, h.1);
     }
-has_outcome identity (Write sector count) payload bytes disk capacity room told whole below h twenty =
+has_outcome identity (Write sector count) payload bytes disk capacity room contents whole below h twenty =
     record { outcome = completed (Write sector count) payload [] disk; is = record { found = []; finds = refl; is = refl }; fits = omega arith }
-has_outcome identity Flush payload bytes disk capacity room told whole below h twenty =
+has_outcome identity Flush payload bytes disk capacity room contents whole below h twenty =
     record { outcome = completed Flush payload [] disk; is = record { found = []; finds = refl; is = refl }; fits = omega arith }
-has_outcome identity GetId payload bytes disk capacity room told whole below h twenty =
+has_outcome identity GetId payload bytes disk capacity room contents whole below h twenty =
     record { outcome = completed GetId payload identity disk; is = record { found = identity; finds = refl; is = refl }; fits = omega (arith, h, twenty) }
-has_outcome identity (WriteZeroes segments) payload bytes disk capacity room told whole below h twenty =
+has_outcome identity (WriteZeroes segments) payload bytes disk capacity room contents whole below h twenty =
     record { outcome = completed (WriteZeroes segments) payload [] disk; is = record { found = []; finds = refl; is = refl }; fits = omega arith }
 
 given_size : (room : ℕ) (outcome : Outcome) → length outcome.found ≤ room → length (given_of room outcome).written ≡ suc room
 given_size room outcome fits = simp (length-append, length-map, length-replicate) (omega arith)
 
-pub some_answer : (device : BlockDevice) (disk : Disk) (bytes readable : List ℕ) (w : ℕ) → disk.told ≡ Some bytes → IsWhole disk → device.extent.count ≤ disk.sector_count → length device.identity ≡ 20
+pub some_answer : (device : BlockDevice) (disk : Disk) (bytes readable : List ℕ) (w : ℕ) → disk.contents ≡ Some bytes → IsWhole disk → device.extent.count ≤ disk.sector_count → length device.identity ≡ 20
     → HasAnswer device disk readable w
-some_answer device disk bytes readable zero told whole below twenty = record { given = record { state = disk; written = [] }; gives = refl; each = refl }
-some_answer device disk bytes readable (suc room) told whole below twenty =
-    let size : length bytes ≡ 512 * disk.sector_count = rw told at whole in
+some_answer device disk bytes readable zero contents whole below twenty = record { given = record { state = disk; written = [] }; gives = refl; each = refl }
+some_answer device disk bytes readable (suc room) contents whole below twenty =
+    let size : length bytes ≡ 512 * disk.sector_count = rw contents at whole in
     let o : HasOutcome device.identity (request_of device readable room) (payload_of readable) disk room =
-    has_outcome device.identity (request_of device readable room) (payload_of readable) bytes disk device.extent.count room told size below (servable device readable room) twenty in
+    has_outcome device.identity (request_of device readable room) (payload_of readable) bytes disk device.extent.count room contents size below (servable device readable room) twenty in
     record {
       given = given_of room o.outcome;
       gives = record { outcome = o.outcome; is = o.is; given_is = refl };

@@ -9,10 +9,10 @@ use Rattle.guest_memory.specs.Memory.{Memory}
 use Rattle.chain.specs.declared.segment.Buffer.{Buffer}
 use Rattle.chain.specs.Bytes.{readable_of, writable_of}
 use Rattle.chain.specs.Service.{Device, Does, Served, ServesAll, Site, after}
-use Rattle.sector_cache.specs.Disk.{Disk, LeavesTold}
+use Rattle.sector_cache.specs.Disk.{Disk, LeavesContents}
 use Rattle.sector_cache.specs.Sector.{sector_of}
 use Rattle.sector_cache.specs.Stop.{BeginsAt, DiffersInSectors, Only, Touches, TouchesBy, TouchesSectors}
-use Rattle.sector_cache.proofs.Stops.{differs_in_more, differs_in_none, differs_in_one, differs_in_range, differs_in_run, differs_in_wider, known_by, told_by, touches_as, touches_more, touches_more_by, touches_none, touches_none_by, touches_nothing_by}
+use Rattle.sector_cache.proofs.Stops.{differs_in_more, differs_in_none, differs_in_one, differs_in_range, differs_in_run, differs_in_wider, known_by, contents_by, touches_as, touches_more, touches_more_by, touches_none, touches_none_by, touches_nothing_by}
 use Rattle.mmio_window.specs.declared.queue.Queue.{Queue}
 use Rattle.mmio_window.specs.Queue.{queue_kind}
 use Rattle.block_device.specs.declared.device.BlockDevice.{BlockDevice}
@@ -27,7 +27,7 @@ use Rattle.block_device.specs.Progress.{IsServable}
 use Rattle.block_device.specs.Request.{payload_of}
 use Rattle.block_device.specs.Touching.{GivesOver, device_over, on_image, sectors_of_chain, sectors_of_chains, seen_chain, seen_site, written_sectors}
 use Rattle.block_device.specs.Zeroes.{all_sectors, segments_in}
-use Rattle.block_device.proofs.Durable.{committed_clear}
+use Rattle.block_device.proofs.Durable.{committed_clean}
 use Rattle.block_device.proofs.Zeroing.{all-below, run-below}
 
 -- ---- an extent
@@ -279,17 +279,17 @@ module _ {I : Type 0} (disk : I → Disk) (moment : I → ℕ) (may_leave : I �
         since bytes left (chains_touch start at chains serves) begins only past in
         d.others sector other
 
-    pub chains_told : ((whole : List ℕ) → may_leave start.state whole → LeavesTold (disk start.state) whole)
-        → (disk start.state).mark ≡ false
-        → IfSome (disk start.state).told (λ bytes. sector_of left sector ≡ sector_of bytes sector)
-    chains_told durable clear =
-        of_one (disk start.state).told
-        (told_by (DiffersInSectors (sectors_in start chains)) (differs_in_none (sectors_in start chains))
-        (disk start.state) since left (chains_touch start at chains serves) begins durable clear past)
+    pub chains_leave_contents : ((whole : List ℕ) → may_leave start.state whole → LeavesContents (disk start.state) whole)
+        → (disk start.state).dirty ≡ false
+        → IfSome (disk start.state).contents (λ bytes. sector_of left sector ≡ sector_of bytes sector)
+    chains_leave_contents durable clean =
+        of_one (disk start.state).contents
+        (contents_by (DiffersInSectors (sectors_in start chains)) (differs_in_none (sectors_in start chains))
+        (disk start.state) since left (chains_touch start at chains serves) begins durable clean past)
       where
-        of_one : (told : Option (List ℕ))
-            → IfSome told (λ bytes. DiffersInSectors (sectors_in start chains) bytes left)
-            → IfSome told (λ bytes. sector_of left sector ≡ sector_of bytes sector)
+        of_one : (contents : Option (List ℕ))
+            → IfSome contents (λ bytes. DiffersInSectors (sectors_in start chains) bytes left)
+            → IfSome contents (λ bytes. sector_of left sector ≡ sector_of bytes sector)
         of_one None d = tt
         of_one (Some bytes) d = d.others sector other
 
@@ -299,12 +299,12 @@ module _ {I : Type 0} (disk : I → Disk) (moment : I → ℕ) (may_leave : I �
       → BeginsAt (may_leave answered.given.state) (left_since answered.given.state) since
       → left_since at.state since left
       → ¬ Contains (sectors_in (after queue_kind over start answered) later) sector
-      → ((whole : List ℕ) → may_leave answered.given.state whole → LeavesTold (disk answered.given.state) whole)
-      → IfSome (disk answered.given.state).told (λ bytes. sector_of left sector ≡ sector_of bytes sector)
+      → ((whole : List ℕ) → may_leave answered.given.state whole → LeavesContents (disk answered.given.state) whole)
+      → IfSome (disk answered.given.state).contents (λ bytes. sector_of left sector ≡ sector_of bytes sector)
   chains_last start at answered later since sector left p committed begins past other durable =
       let mid = after queue_kind over start answered in
       let once : ServesAll queue_kind over start (answered ∷ []) mid = (p.0, refl) in
-      let clear : (disk answered.given.state).mark ≡ false =
-      committed_clear device (seen_site disk device start) (seen_site disk device mid)
+      let clean : (disk answered.given.state).dirty ≡ false =
+      committed_clean device (seen_site disk device start) (seen_site disk device mid)
       (seen_chain disk device answered) [] (chains_seen start mid (answered ∷ []) once) committed refl in
-      chains_told mid at later since sector left p.1 begins past other durable clear
+      chains_leave_contents mid at later since sector left p.1 begins past other durable clean

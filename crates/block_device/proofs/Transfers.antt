@@ -17,10 +17,10 @@ use Rattle.block_device.specs.declared.request.RequestStatus.TheVariants.{Succes
 use Rattle.block_device.specs.declared.request.Request.TheVariants.{Read, Write}
 use Rattle.block_device.specs.Extent.{IsWithin, extent_disk, CallsWithin}
 use Rattle.block_device.specs.Request.{payload_of}
-use Rattle.block_device.specs.Outcome.{AreAsTold, filled}
+use Rattle.block_device.specs.Outcome.{AreSectorContents, filled}
 use Rattle.block_device.specs.Progress.{IsDone}
 use Rattle.block_device.proofs.Endings.{nothing_found}
-use Rattle.block_device.proofs.Extents.{filled-nil, written-filled, extent_disk-filled, KeepsOutside-filled, AreAsTold-none, AreAsTold-more, AreAsTold-extent, take-sector, take-sectors, written_from-filled}
+use Rattle.block_device.proofs.Extents.{filled-nil, written-filled, extent_disk-filled, KeepsOutside-filled, AreSectorContents-none, AreSectorContents-more, AreSectorContents-extent, take-sector, take-sectors, written_from-filled}
 
 -- the disk after a sector was lent, and after a read that failed
 pub after_lent : {X E : Type 0} (result : Result X E) (x : X) (old new : Disk) → result ≡ Ok x → IsReadThrough result old new → new ≡ old
@@ -34,7 +34,7 @@ after_refused (Err _) e old new is rests = rests.1
 -- these sectors were read from a sector of the disk on, and put in the first writable places
 pub record IsReading (buffers : List Buffer) (old new : Memory) (disk disk' : Disk) (sector done : ℕ) : Type 0 where
   pub found : List ℕ
-  pub finds : AreAsTold disk sector done found
+  pub finds : AreSectorContents disk sector done found
   pub memory : new ≡ scattered old (writable_of buffers) (map Some found)
   pub same : disk' ≡ disk
   pub range : SameRange old new
@@ -42,21 +42,21 @@ pub record IsReading (buffers : List Buffer) (old new : Memory) (disk disk' : Di
 pub reading_start : (buffers : List Buffer) (m : Memory) (disk : Disk) (sector : ℕ) → IsReading buffers m m disk disk sector 0
 reading_start buffers m disk sector = record {
   found = [];
-  finds = AreAsTold-none disk sector;
+  finds = AreSectorContents-none disk sector;
   memory = sym (scattered-nil m (writable_of buffers));
   same = refl;
   range = record { base = refl; size = refl; gaps = refl };
 }
 
 pub reading_more : (buffers : List Buffer) (old m new : Memory) (disk d d' : Disk) (sector done place : ℕ) (chunk : List ℕ) → IsReading buffers old m disk d sector done
-    → length chunk ≡ 512 → IfSome d.told (λ bytes. chunk ≡ sector_of bytes (sector + done)) → d' ≡ d
+    → length chunk ≡ 512 → IfSome d.contents (λ bytes. chunk ≡ sector_of bytes (sector + done)) → d' ≡ d
     → new ≡ scatter m (drop place (writable_of buffers)) chunk → place ≡ 512 * done → SameRange m new → IsReading buffers old new disk d' sector (done + 1)
-reading_more buffers old m new disk d d' sector done place chunk r whole told same put at range =
-    let here : IfSome disk.told (λ bytes. chunk ≡ sector_of bytes (sector + done)) = rw r.same at told in
+reading_more buffers old m new disk d d' sector done place chunk r whole contents same put at range =
+    let here : IfSome disk.contents (λ bytes. chunk ≡ sector_of bytes (sector + done)) = rw r.same at contents in
     let size : length (map Some r.found) ≡ place = length-map r.found Some ∙ r.finds.size ∙ sym at in
     record {
       found = r.found ++ chunk;
-      finds = AreAsTold-more disk sector done r.found chunk r.finds whole here;
+      finds = AreSectorContents-more disk sector done r.found chunk r.finds whole here;
       memory =
           put ∙ ap (λ m. scatter m (drop place (writable_of buffers)) chunk) r.memory
           ∙ scattered-then_run old (writable_of buffers) (map Some r.found) chunk place size
@@ -69,24 +69,24 @@ reading_more buffers old m new disk d d' sector done place chunk r whole told sa
 pub reading_run : (buffers : List Buffer) (old new : Memory) (disk : Disk) (sector count : ℕ) (bytes : List ℕ) → length bytes ≡ 512 * count
     → Tells disk sector count bytes → new ≡ scatter old (writable_of buffers) bytes → SameRange old new
     → IsReading buffers old new disk disk sector count
-reading_run buffers old new disk sector count bytes long told put range = record {
+reading_run buffers old new disk sector count bytes long contents put range = record {
   found = bytes;
-  finds = record { size = long; told = as_told disk.told told };
+  finds = record { size = long; contents = are_contents disk.contents contents };
   memory = put ∙ sym (scattered-run old (writable_of buffers) bytes);
   same = refl;
   range = range;
 }
   where
-    as_told : (t : Option (List ℕ)) → IsSomeAnd t (λ b. bytes ≡ extent_of b sector count) → IfSome t (λ b. bytes ≡ extent_of b sector count)
-    as_told None never = absurd never
-    as_told (Some b) is = is
+    are_contents : (t : Option (List ℕ)) → IsSomeAnd t (λ b. bytes ≡ extent_of b sector count) → IfSome t (λ b. bytes ≡ extent_of b sector count)
+    are_contents None never = absurd never
+    are_contents (Some b) is = is
 
 -- all are read
 pub reading_done : {identity : List ℕ} (extent : Extent) (buffers : List Buffer) (old new : Memory) (disk disk' : Disk) (sector count done len : ℕ)
     → IsReading buffers old new disk disk' (extent.start + sector) done → done ≡ count → len ≡ 512 * count → sector + count ≤ extent.count
     → IsDone identity (Read sector count) buffers old new (extent_disk extent disk) (extent_disk extent disk') len Success
 reading_done extent buffers old new disk disk' sector count done len r all size within =
-    let finds : AreAsTold (extent_disk extent disk) sector count r.found = AreAsTold-extent extent disk sector count r.found within (rw all at r.finds) in
+    let finds : AreSectorContents (extent_disk extent disk) sector count r.found = AreSectorContents-extent extent disk sector count r.found within (rw all at r.finds) in
     record {
       found = r.found;
       ends = inl (record { found = r.found; finds = finds; is = rw r.same refl });
@@ -99,7 +99,7 @@ pub reading_fails : {identity : List ℕ} (extent : Extent) (buffers : List Buff
     → IsReading buffers old new disk d (extent.start + sector) done → done < count → len ≡ 512 * done → sector + count ≤ extent.count → disk' ≡ failed d
     → IsDone identity (Read sector count) buffers old new (extent_disk extent disk) (extent_disk extent disk') len IoError
 reading_fails extent buffers old new disk d disk' sector count done len r sooner size within fails =
-    let finds : AreAsTold (extent_disk extent disk) sector done r.found = AreAsTold-extent extent disk sector done r.found (omega arith) r.finds in
+    let finds : AreSectorContents (extent_disk extent disk) sector done r.found = AreSectorContents-extent extent disk sector done r.found (omega arith) r.finds in
     record {
       found = r.found;
       ends = inr (record { done = done; sooner = sooner; found = r.found; finds = finds; is = rw (fails, r.same) refl });
@@ -189,7 +189,7 @@ writing_fails identity extent buffers m disk d disk' sector count done is_whole 
       nothing_found (Write sector count) buffers m (extent_disk extent disk) (extent_disk extent disk') IoError (inr (inl (record { done = done; sooner = sooner; torn = t.left; whole = t.whole; is = rw seen refl }))),
       record {
         counted = ap (λ (d : Disk). d.failures) all;
-        outside = KeepsOutside-filled extent disk disk' sector (front ++ t.left) is_whole lies fits (ap (λ (d : Disk). d.told) all) (ap (λ (d : Disk). d.sector_count) all);
+        outside = KeepsOutside-filled extent disk disk' sector (front ++ t.left) is_whole lies fits (ap (λ (d : Disk). d.contents) all) (ap (λ (d : Disk). d.sector_count) all);
       },
     )
 
@@ -216,7 +216,7 @@ module _ (identity : List ℕ) (extent : Extent) (buffers : List Buffer) (m : Me
         nothing_found (Write sector count) buffers m (extent_disk extent disk) (extent_disk extent disk') Success (inl (record { found = []; finds = refl; is = rw seen refl })),
         record {
           counted = ap (λ (d : Disk). d.failures) is ∙ omega arith;
-          outside = KeepsOutside-filled extent disk disk' sector payload is_whole lies fits (ap (λ (d : Disk). d.told) is) (ap (λ (d : Disk). d.sector_count) is);
+          outside = KeepsOutside-filled extent disk disk' sector payload is_whole lies fits (ap (λ (d : Disk). d.contents) is) (ap (λ (d : Disk). d.sector_count) is);
         },
       )
 
@@ -230,6 +230,6 @@ module _ (identity : List ℕ) (extent : Extent) (buffers : List Buffer) (m : Me
         nothing_found (Write sector count) buffers m (extent_disk extent disk) (extent_disk extent disk') IoError (inr (inr (rw seen refl))),
         record {
           counted = ap (λ (d : Disk). d.failures) is;
-          outside = KeepsOutside-filled extent disk disk' sector payload is_whole lies fits (ap (λ (d : Disk). d.told) is) (ap (λ (d : Disk). d.sector_count) is);
+          outside = KeepsOutside-filled extent disk disk' sector payload is_whole lies fits (ap (λ (d : Disk). d.contents) is) (ap (λ (d : Disk). d.sector_count) is);
         },
       )

@@ -38,7 +38,7 @@ module _ {Ring State : Type 0} (kind : Kind Ring) (device : Device State) where
 
 -- what holds over every disk holds over this one
 pub any_disk : Disk
-any_disk = record { told = None; sector_count = 0; failures = 0; mark = false }
+any_disk = record { contents = None; sector_count = 0; failures = 0; dirty = false }
 
 pub flight_outlasts : FlightOutlasts
 flight_outlasts old new before after buffers flight f same keeps = record {

@@ -23,7 +23,7 @@ use Rattle.block_device.specs.Outcome.{filled, with_sectors}
 use Rattle.block_device.specs.Progress.{IsDone}
 use Rattle.block_device.specs.Zeroes.{IsStopped, all_sectors, has_sectors_within, sectors_of, segment_at, segments_in, zeroed_sectors}
 use Rattle.block_device.proofs.Endings.{nothing_found}
-use Rattle.block_device.proofs.Extents.{extent_disk-filled, KeepsOutside-filled, KeepsOutside-same, lies_still, marked-chunk, outside_trans, same_disk}
+use Rattle.block_device.proofs.Extents.{extent_disk-filled, KeepsOutside-filled, KeepsOutside-same, lies_still, dirty_after-chunk, outside_trans, same_disk}
 
 abbrev zeros : List ℕ
 zeros = replicate 512 0
@@ -90,11 +90,11 @@ stopped-failures sectors old new s =
 -- a sector written is a run of one sector
 written-filled_once : (disk : Disk) (sector : ℕ) (new : List ℕ) → length new ≡ 512 → written sector new disk ≡ filled sector new disk
 written-filled_once disk sector new whole =
-    same_disk disk.sector_count disk.failures _ _ true _ (same_told disk.told) (marked-chunk [] new disk.mark (omega (arith, whole)))
+    same_disk disk.sector_count disk.failures _ _ true _ (same_contents disk.contents) (dirty_after-chunk [] new disk.dirty (omega (arith, whole)))
   where
-    same_told : (told : Option (List ℕ)) → option_map (λ bytes. with_sector bytes sector new) told ≡ option_map (λ bytes. with_sectors bytes sector new) told
-    same_told None = refl
-    same_told (Some bytes) =
+    same_contents : (contents : Option (List ℕ)) → option_map (λ bytes. with_sector bytes sector new) contents ≡ option_map (λ bytes. with_sectors bytes sector new) contents
+    same_contents None = refl
+    same_contents (Some bytes) =
         let behind : 512 * (sector + 1) ≡ 512 * sector + length new = omega arith in
         ap (λ n. Some (take (512 * sector) bytes ++ (new ++ drop n bytes))) behind
 
@@ -127,7 +127,7 @@ zeroing_more extent old d d' sectors sector place z whole lies below at put =
           ap (extent_disk extent) is ∙ extent_disk-written extent d sector zeros whole lies_d below long
           ∙ ap (written sector zeros) z.seen ∙ sym (zeroed-append sectors (sector ∷ []) (extent_disk extent old));
       outside = outside_trans extent old d d' z.outside
-          (KeepsOutside-filled extent d d' sector zeros whole lies_d (omega (arith, long)) (ap (λ (d : Disk). d.told) run) (ap (λ (d : Disk). d.sector_count) run));
+          (KeepsOutside-filled extent d d' sector zeros whole lies_d (omega (arith, long)) (ap (λ (d : Disk). d.contents) run) (ap (λ (d : Disk). d.sector_count) run));
     }
 
 -- the image fails at a sector
@@ -152,7 +152,7 @@ zeroing_stops extent old d d' all sectors later sector place z whole lies below 
         };
       },
       outside_trans extent old d d' z.outside
-          (KeepsOutside-filled extent d d' sector t.left whole lies_d (omega (arith, t.whole)) (ap (λ (d : Disk). d.told) run) (ap (λ (d : Disk). d.sector_count) run)),
+          (KeepsOutside-filled extent d d' sector t.left whole lies_d (omega (arith, t.whole)) (ap (λ (d : Disk). d.contents) run) (ap (λ (d : Disk). d.sector_count) run)),
     )
 
 -- ---- the sectors of one segment
@@ -279,8 +279,8 @@ module _ (identity : List ℕ) (extent : Extent) (buffers : List Buffer) (m : Me
       let whole : n ≡ length payload / 16 = omega (arith, size, all) in
       z.seen ∙ ap (λ k. zeroed_sectors (all_sectors (first_segments payload k)) (extent_disk extent disk)) whole
 
-  flush_outside : disk'.told ≡ d.told → disk'.sector_count ≡ d.sector_count → KeepsOutside extent disk disk'
-  flush_outside told sectors = outside_trans extent disk d disk' z.outside (KeepsOutside-same extent d disk' told sectors)
+  flush_outside : disk'.contents ≡ d.contents → disk'.sector_count ≡ d.sector_count → KeepsOutside extent disk disk'
+  flush_outside contents sectors = outside_trans extent disk d disk' z.outside (KeepsOutside-same extent d disk' contents sectors)
 
   -- and flushed
   pub zeroes_done : length payload ≡ 16 * segments → n ≡ segments → disk' ≡ flushed d → IsEnd Success false
@@ -290,7 +290,7 @@ module _ (identity : List ℕ) (extent : Extent) (buffers : List Buffer) (m : Me
         nothing_found (WriteZeroes segments) buffers m (extent_disk extent disk) (extent_disk extent disk') Success (inl (record { found = []; finds = refl; is = rw seen refl })),
         record {
           counted = ap (λ (d : Disk). d.failures) flushes ∙ no_failure ∙ omega arith;
-          outside = flush_outside (ap (λ (d : Disk). d.told) flushes) (ap (λ (d : Disk). d.sector_count) flushes);
+          outside = flush_outside (ap (λ (d : Disk). d.contents) flushes) (ap (λ (d : Disk). d.sector_count) flushes);
         },
       )
 
@@ -302,6 +302,6 @@ module _ (identity : List ℕ) (extent : Extent) (buffers : List Buffer) (m : Me
         nothing_found (WriteZeroes segments) buffers m (extent_disk extent disk) (extent_disk extent disk') IoError (inr (inr (rw seen refl))),
         record {
           counted = ap (λ (d : Disk). d.failures) fails ∙ ap (λ n. n + 1) no_failure;
-          outside = flush_outside (ap (λ (d : Disk). d.told) fails) (ap (λ (d : Disk). d.sector_count) fails);
+          outside = flush_outside (ap (λ (d : Disk). d.contents) fails) (ap (λ (d : Disk). d.sector_count) fails);
         },
       )

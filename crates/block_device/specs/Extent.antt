@@ -2,7 +2,7 @@
 use Rattle.std.specs.Prelude.{◌≡◌, ℕ, ◌+◌, ◌*◌, ◌≤◌, Bool, if◌then◌else◌, List, length, take, drop, Option, Some, None}
 use Rattle.std.specs.Option.{option_map}
 use Rattle.sector_cache.specs.Sector.{extent_of}
-use Rattle.sector_cache.specs.Disk.{Disk, KeepsClear}
+use Rattle.sector_cache.specs.Disk.{Disk, KeepsClean}
 use Rattle.sector_cache.specs.Stop.{TouchesOnly}
 use Rattle.block_device.specs.declared.extent.Extent.{Extent}
 
@@ -14,11 +14,11 @@ sector_len = 512
 abbrev pub IsWithin : ℕ → Extent → Type 0
 IsWithin sectors extent = extent.start + extent.count ≤ sectors
 
--- The extent as a disk of its own, which is all that its driver sees: the extent's bytes, as far as
--- bytes are told, and as many sectors. Failures and mark are those of the disk.
+-- The extent as a disk of its own, which is all that its driver sees: the extent's bytes, as far as they
+-- are known, and as many sectors. Its failures are the disk's, and it is dirty where the disk is.
 abbrev pub extent_disk : Extent → Disk → Disk
 extent_disk extent disk = record disk {
-  told = option_map (λ bytes. extent_of bytes extent.start extent.count) disk.told;
+  contents = option_map (λ bytes. extent_of bytes extent.start extent.count) disk.contents;
   sector_count = extent.count;
 }
 
@@ -28,23 +28,23 @@ pub record SameOutside (extent : Extent) (old new : List ℕ) : Type 0 where
   pub behind : drop (sector_len * (extent.start + extent.count)) new ≡ drop (sector_len * (extent.start + extent.count)) old
   pub size : length new ≡ length old
 
--- the same of what is told, where anything is
-abbrev pub ToldOutside : Extent → Option (List ℕ) → Option (List ℕ) → Type 0
-ToldOutside extent None None = Unit {0}
-ToldOutside extent None (Some new) = ⊥
-ToldOutside extent (Some old) None = ⊥
-ToldOutside extent (Some old) (Some new) = SameOutside extent old new
+-- the same of what is known of the contents
+abbrev pub SameContentsOutside : Extent → Option (List ℕ) → Option (List ℕ) → Type 0
+SameContentsOutside extent None None = Unit {0}
+SameContentsOutside extent None (Some new) = ⊥
+SameContentsOutside extent (Some old) None = ⊥
+SameContentsOutside extent (Some old) (Some new) = SameOutside extent old new
 
 -- whatever becomes of the extent, the rest of the disk stays
 pub record KeepsOutside (extent : Extent) (old new : Disk) : Type 0 where
   pub sectors : new.sector_count ≡ old.sector_count
-  pub told : ToldOutside extent old.told new.told
+  pub contents : SameContentsOutside extent old.contents new.contents
 
--- Calls of the image are made for one extent: the failures never fall, where they stay a clear mark stays clear, and the
+-- Calls of the image are made for one extent: the failures never fall, while they stay a clean disk stays clean, and the
 -- image stays outside of it.
 pub record StaysInExtent (extent : Extent) (old new : Disk) : Type 0 where
   pub rises : old.failures ≤ new.failures
-  pub clear : KeepsClear old new
+  pub clean : KeepsClean old new
   pub outside : KeepsOutside extent old new
 
 -- Nor does a stop at any moment, within a call too, leave anything else outside of the extent: whatever is cut short.
@@ -59,5 +59,5 @@ pub record CallsWithin (extent : Extent) (failed : Bool) (old new : Disk) : Type
 
 -- the same sectors, whatever failed and whatever is to be flushed: their driver can't tell the two
 pub record SameSectors (s t : Disk) : Type 0 where
-  pub told : t.told ≡ s.told
+  pub contents : t.contents ≡ s.contents
   pub sectors : t.sector_count ≡ s.sector_count

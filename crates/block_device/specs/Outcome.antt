@@ -18,28 +18,28 @@ pub record Outcome : Type 0 where
   pub found : List ℕ
   pub status : RequestStatus
 
--- the mark once these bytes were written: no write is tried where there are none
-abbrev pub marked : List ℕ → Bool → Bool
-marked [] mark = mark
-marked (x ∷ xs) mark = true
+-- whether a disk is dirty once these bytes were written: no write is tried where there are none
+abbrev pub dirty_after : List ℕ → Bool → Bool
+dirty_after [] dirty = dirty
+dirty_after (x ∷ xs) dirty = true
 
 -- the disk after sectors were written with these bytes, from a sector on
 abbrev pub filled : ℕ → List ℕ → Disk → Disk
 filled sector new disk = record disk {
-  told = option_map (λ bytes. with_sectors bytes sector new) disk.told;
-  mark = marked new disk.mark;
+  contents = option_map (λ bytes. with_sectors bytes sector new) disk.contents;
+  dirty = dirty_after new disk.dirty;
 }
 
 -- these bytes were read of `count` sectors from a sector on: they are the disk's, as far as it tells any
-pub record AreAsTold (disk : Disk) (sector count : ℕ) (found : List ℕ) : Type 0 where
+pub record AreSectorContents (disk : Disk) (sector count : ℕ) (found : List ℕ) : Type 0 where
   pub size : length found ≡ sector_len * count
-  pub told : IfSome disk.told (λ bytes. found ≡ extent_of bytes sector count)
+  pub contents : IfSome disk.contents (λ bytes. found ≡ extent_of bytes sector count)
 
 -- What a request puts in the first writable places: an IN what it reads, GET_ID the identity of the device
 -- (5.2.6), others nothing.
 abbrev pub Finds : List ℕ → Request → Disk → List ℕ → Type 0
 Finds identity (Rejected status) disk found = found ≡ []
-Finds identity (Read sector count) disk found = AreAsTold disk sector count found
+Finds identity (Read sector count) disk found = AreSectorContents disk sector count found
 Finds identity (Write sector count) disk found = found ≡ []
 Finds identity Flush disk found = found ≡ []
 Finds identity GetId disk found = found ≡ identity
@@ -65,7 +65,7 @@ pub record ReadFails (sector count : ℕ) (disk : Disk) (outcome : Outcome) : Ty
   pub done : ℕ
   pub sooner : done < count
   pub found : List ℕ
-  pub finds : AreAsTold disk sector done found
+  pub finds : AreSectorContents disk sector done found
   pub is : outcome ≡ record { disk = failed disk; found = found; status = IoError }
 
 -- OUT fails at a sector: those before it were written, any bytes stand in that one, and later ones are

@@ -8,7 +8,7 @@ ghost use Rattle.chain.specs.declared.segment.Buffer.{Buffer};
 ghost use Rattle.chain.specs.declared.segment.Segment.{Segment};
 ghost use Rattle.chain.specs.Pieces.{GoesInPieces, IsOneService, Pause};
 ghost use Rattle.chain.specs.Service.{Ending, Given, IsService, Refused, Served, ServesAll, Site, after, open_site};
-ghost use Rattle.sector_cache.specs.Disk.{Disk, IsWhole, KeepsClear};
+ghost use Rattle.sector_cache.specs.Disk.{Disk, IsWhole, KeepsClean};
 ghost use Rattle.sector_cache.specs.Sector.{sector_of};
 ghost use Rattle.sector_cache.specs.Stop.{BeginsAt, Only, TouchesSectors};
 ghost use Rattle.mmio_window.specs.declared.queue.Queue.{Queue};
@@ -41,11 +41,11 @@ pub fn one_failure_at_most()
 /// Over an image that tells all of its bytes and doesn't fail there is one answer to a chain.
 pub fn one_answer()
     ensures at_most_one { (device : BlockDevice) (disk : Disk) (bytes readable : List ℕ) (w : ℕ) (one other : Given Disk)
-        → disk.told ≡ Some bytes
+        → disk.contents ≡ Some bytes
         → GivesBy (Completes device.identity) device disk readable w one → GivesBy (Completes device.identity) device disk readable w other
         → one ≡ other }
     ensures some { (device : BlockDevice) (disk : Disk) (bytes readable : List ℕ) (w : ℕ)
-        → disk.told ≡ Some bytes → IsWhole disk → device.extent.count ≤ disk.sector_count
+        → disk.contents ≡ Some bytes → IsWhole disk → device.extent.count ≤ disk.sector_count
         → length device.identity ≡ 20
         → HasAnswer device disk readable w }
 {}
@@ -67,7 +67,7 @@ pub fn a_service_without_failure_is_exact()
 /// Over an image that tells its bytes and doesn't fail there is at most one service of a queue.
 pub fn at_most_one_exact_service()
     ensures { (device : BlockDevice) (bytes : List ℕ) (old one other : Site Queue Disk)
-        (ending end : Ending) (wanted wants : Bool) → old.state.told ≡ Some bytes
+        (ending end : Ending) (wanted wants : Bool) → old.state.contents ≡ Some bytes
         → IsService queue_kind (exact_device device) old one ending wanted
         → IsService queue_kind (exact_device device) old other end wants
         → (one ≡ other) × (ending ≡ end) × (wanted ≡ wants) }
@@ -102,20 +102,20 @@ pub fn an_honest_host_serves()
     ensures { HonestHostServes }
 {}
 
-/// While no call of the image fails, a clear mark stays clear. An OUT, FLUSH or WRITE_ZEROES that was answered OK leaves it
-/// clear, whatever failed before, and so it stays until a call fails.
+/// While no call of the image fails, a clean disk stays clean. An OUT, FLUSH or WRITE_ZEROES that was answered OK leaves it
+/// clean, whatever failed before, and so it stays until a call fails.
 pub fn an_answered_write_is_flushed()
-    ensures clear { (device : BlockDevice) (start at : Site Queue Disk) (chains : List (Served Disk))
-        → ServesAll queue_kind (block_device device) start chains at → KeepsClear start.state at.state }
+    ensures clean { (device : BlockDevice) (start at : Site Queue Disk) (chains : List (Served Disk))
+        → ServesAll queue_kind (block_device device) start chains at → KeepsClean start.state at.state }
     ensures flushed { (device : BlockDevice) (start at : Site Queue Disk) (answered : Served Disk) (later : List (Served Disk))
         → ServesAll queue_kind (block_device device) start (answered ∷ later) at
         → IsCommitted device start.memory answered → at.state.failures ≡ answered.given.state.failures
-        → at.state.mark ≡ false }
+        → at.state.dirty ≡ false }
 {}
 
 /// A stop at any moment within chains that are served over an image one after another, whatever failed: only the sectors of
 /// their requests are touched (`touches`). Each other sector is left as before them: where a stop could then leave certain
-/// bytes alone, it leaves theirs (`known`), and where the mark was clear, what was told (`told`). So what an OUT, FLUSH or
+/// bytes alone, it leaves theirs (`known`), and where the disk was clean, its contents (`contents`). So what an OUT, FLUSH or
 /// WRITE_ZEROES that was answered OK has left stands, at any moment, until a later request writes that sector (`lasts`). In
 /// the sectors of a request itself any bytes may stand, be they old, new or torn. The chains are those that the device
 /// serves over the extent as a disk (`served`). It rests on an image that records what a stop might have left.
@@ -135,13 +135,13 @@ pub fn a_cut_request_touches_its_own_sectors<I: Image>()
         → BeginsAt (I.may_leave start.state) (I.left_since start.state) since → I.left_since at.state since left
         → ¬ Contains (sectors_of_chains I.disk I.moment I.may_leave I.left_since device start chains) sector
         → sector_of left sector ≡ sector_of bytes sector }
-    ensures told { (device : BlockDevice) (start at : Site Queue I) (chains : List (Served I))
+    ensures contents { (device : BlockDevice) (start at : Site Queue I) (chains : List (Served I))
         (since sector : ℕ) (left : List ℕ)
         → ServesAll queue_kind (device_over I.disk I.moment I.may_leave I.left_since device) start chains at
-        → (I.disk start.state).mark ≡ false
+        → (I.disk start.state).dirty ≡ false
         → BeginsAt (I.may_leave start.state) (I.left_since start.state) since → I.left_since at.state since left
         → ¬ Contains (sectors_of_chains I.disk I.moment I.may_leave I.left_since device start chains) sector
-        → IfSome (I.disk start.state).told (λ bytes. sector_of left sector ≡ sector_of bytes sector) }
+        → IfSome (I.disk start.state).contents (λ bytes. sector_of left sector ≡ sector_of bytes sector) }
     ensures lasts { (device : BlockDevice) (start at : Site Queue I) (answered : Served I) (later : List (Served I))
         (since sector : ℕ) (left : List ℕ)
         → ServesAll queue_kind (device_over I.disk I.moment I.may_leave I.left_since device) start (answered ∷ later) at
@@ -150,7 +150,7 @@ pub fn a_cut_request_touches_its_own_sectors<I: Image>()
         → I.left_since at.state since left
         → ¬ Contains (sectors_of_chains I.disk I.moment I.may_leave I.left_since device
         (after queue_kind (device_over I.disk I.moment I.may_leave I.left_since device) start answered) later) sector
-        → IfSome (I.disk answered.given.state).told (λ bytes. sector_of left sector ≡ sector_of bytes sector) }
+        → IfSome (I.disk answered.given.state).contents (λ bytes. sector_of left sector ≡ sector_of bytes sector) }
 {}
 
 /// A byte that the host of a disk said is on the medium, by a FLUSH or a stable write that was done, is there after a stop

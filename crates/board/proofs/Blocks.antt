@@ -23,7 +23,7 @@ use Rattle.board.proofs.Guests.{disk_of_parts}
 
 -- ---- the extent as its guest sees it
 
-count_at : (extent : Extent) (told : Option (List ℕ)) (sectors : ℕ) → IsSome told → IfSome told (λ bytes. length bytes ≡ 512 * sectors) → extent.start + extent.count ≤ sectors → sectors_of (extent_of (unwrap_or told []) extent.start extent.count) ≡ extent.count
+count_at : (extent : Extent) (contents : Option (List ℕ)) (sectors : ℕ) → IsSome contents → IfSome contents (λ bytes. length bytes ≡ 512 * sectors) → extent.start + extent.count ≤ sectors → sectors_of (extent_of (unwrap_or contents []) extent.start extent.count) ≡ extent.count
 count_at extent None sectors tells whole lies = absurd (cc)
 count_at extent (Some bytes) sectors tells whole lies =
     let long : length (extent_of bytes extent.start extent.count) ≡ 512 * extent.count = simp (length-take, length-drop) (omega (arith, whole, lies)) in
@@ -31,17 +31,17 @@ count_at extent (Some bytes) sectors tells whole lies =
 
 -- the extent's bytes fill its sectors
 pub count_of : (extent : Extent) (disk : Disk) → Tells disk → IsWhole disk → IsWithin disk.sector_count extent → sectors_of (extent_of (bytes_of disk) extent.start extent.count) ≡ extent.count
-count_of extent disk tells whole lies = count_at extent disk.told disk.sector_count tells whole lies
+count_of extent disk tells whole lies = count_at extent disk.contents disk.sector_count tells whole lies
 
-told_at : (extent : Extent) (told : Option (List ℕ)) → IsSome told → option_map (λ bytes. extent_of bytes extent.start extent.count) told ≡ Some (extent_of (unwrap_or told []) extent.start extent.count)
-told_at extent None tells = absurd (cc)
-told_at extent (Some bytes) tells = refl
+contents_at : (extent : Extent) (contents : Option (List ℕ)) → IsSome contents → option_map (λ bytes. extent_of bytes extent.start extent.count) contents ≡ Some (extent_of (unwrap_or contents []) extent.start extent.count)
+contents_at extent None tells = absurd (cc)
+contents_at extent (Some bytes) tells = refl
 
 -- and are the disk that the device shows
 pub seen_disk : (extent : Extent) (disk : Disk) → Tells disk → IsWhole disk → IsWithin disk.sector_count extent → extent_disk extent disk ≡ disk_with (extent_of (bytes_of disk) extent.start extent.count) (health_of disk)
 seen_disk extent disk tells whole lies =
-    disk_of_parts disk.failures disk.mark _ _ extent.count (sectors_of (extent_of (bytes_of disk) extent.start extent.count))
-    (told_at extent disk.told tells) (sym (count_of extent disk tells whole lies))
+    disk_of_parts disk.failures disk.dirty _ _ extent.count (sectors_of (extent_of (bytes_of disk) extent.start extent.count))
+    (contents_at extent disk.contents tells) (sym (count_of extent disk tells whole lies))
 
 -- the slot's device, as its guest knows it
 abbrev pub slot_device : BoardSlot → BlockDevice

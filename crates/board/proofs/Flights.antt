@@ -87,7 +87,7 @@ sound_beside what slot new flight free block device same sound =
 -- a slot of its own disk has as many sectors as it counts
 pub own_count : (slot : BoardSlot) → slot.extent.start ≡ 0 → sectors_of (hosted_slot slot).extent ≡ slot.extent.count
 own_count slot own =
-    count_of slot.extent (record { told = Some (unseen slot.extent.count); sector_count = slot.extent.count; failures = 0; mark = false }) refl
+    count_of slot.extent (record { contents = Some (unseen slot.extent.count); sector_count = slot.extent.count; failures = 0; dirty = false }) refl
     (length-replicate {A = ℕ} (512 * slot.extent.count) 0) (omega (arith, own))
 
 device_same : (e : Extent) (start count : ℕ) (read_only : Bool) (identity : List ℕ) → e.start ≡ start → count ≡ e.count

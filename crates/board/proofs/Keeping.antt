@@ -82,7 +82,7 @@ closed_range m (Packed ring) = num_range m ring.setup.device 4 0
 -- the disk tells this many bytes
 record TellsMany (n : ℕ) (disk : Disk) : Type 0 where
   bytes : List ℕ
-  told : disk.told ≡ Some bytes
+  contents : disk.contents ≡ Some bytes
   size : length bytes ≡ n
 
 -- bytes that are written where there are some leave their number
@@ -90,24 +90,24 @@ filled_size : (bytes : List ℕ) (sector : ℕ) (new : List ℕ) → 512 * secto
 filled_size bytes sector new fits =
     simp (length-append, length-take, length-drop) (omega arith)
 
-filled_many : (n : ℕ) (disk other : Disk) (sector : ℕ) (new : List ℕ) → TellsMany n disk → other.told ≡ option_map (λ bytes. with_sectors bytes sector new) disk.told → 512 * sector + length new ≤ n → TellsMany n other
+filled_many : (n : ℕ) (disk other : Disk) (sector : ℕ) (new : List ℕ) → TellsMany n disk → other.contents ≡ option_map (λ bytes. with_sectors bytes sector new) disk.contents → 512 * sector + length new ≤ n → TellsMany n other
 filled_many n disk other sector new many is fits =
     let size : length many.bytes ≡ n = many.size in
     let room : 512 * sector + length new ≤ length many.bytes = omega arith in
     record {
       bytes = with_sectors many.bytes sector new;
-      told = is ∙ ap (λ (o : Option (List ℕ)). option_map (λ bytes. with_sectors bytes sector new) o) many.told;
+      contents = is ∙ ap (λ (o : Option (List ℕ)). option_map (λ bytes. with_sectors bytes sector new) o) many.contents;
       size = filled_size many.bytes sector new room ∙ size;
     }
 
-same_many : (n : ℕ) (disk other : Disk) → TellsMany n disk → other.told ≡ disk.told → TellsMany n other
-same_many n disk other many is = record { bytes = many.bytes; told = is ∙ many.told; size = many.size }
+same_many : (n : ℕ) (disk other : Disk) → TellsMany n disk → other.contents ≡ disk.contents → TellsMany n other
+same_many n disk other many is = record { bytes = many.bytes; contents = is ∙ many.contents; size = many.size }
 
 -- so do zeros in some sectors
 written_many : (n capacity sector : ℕ) (new : List ℕ) (disk : Disk) → 512 * capacity ≤ n → sector < capacity → length new ≡ 512 → TellsMany n disk → TellsMany n (written sector new disk)
 written_many n capacity sector new disk small below whole many = record {
   bytes = with_sector many.bytes sector new;
-  told = ap (λ (o : Option (List ℕ)). option_map (λ bytes. with_sector bytes sector new) o) many.told;
+  contents = ap (λ (o : Option (List ℕ)). option_map (λ bytes. with_sector bytes sector new) o) many.contents;
   size = length-with_sector many.bytes sector new (omega (arith, many.size)) whole ∙ many.size;
 }
 
@@ -132,18 +132,18 @@ completed_many n capacity (WriteZeroes segments) payload found disk room small f
 
 failed_many : (n : ℕ) (capacity : ℕ) (request : Request) (payload : List ℕ) (disk : Disk) (outcome : Outcome) (room : ℕ) → 512 * capacity ≤ n → IsServable capacity request payload room → TellsMany n disk → Fails request payload disk outcome → TellsMany n outcome.disk
 failed_many n capacity (Rejected status) payload disk outcome room small fits many h = absurd h
-failed_many n capacity (Read sector count) payload disk outcome room small fits many h = same_many n disk outcome.disk many (ap (λ (o : Outcome). o.disk.told) h.is)
+failed_many n capacity (Read sector count) payload disk outcome room small fits many h = same_many n disk outcome.disk many (ap (λ (o : Outcome). o.disk.contents) h.is)
 failed_many n capacity (Write sector count) payload disk outcome room small fits many (inl h) =
     let inside : 512 * sector + length payload ≤ 512 * capacity = omega (arith, fits.0, fits.1) in
     let whole : 512 * count ≤ length payload = omega (arith, fits.1) in
     let torn : length h.torn ≡ 512 = h.whole in
     let sooner : h.done < count = h.sooner in
     let written : length (take (512 * h.done) payload ++ h.torn) ≤ 512 * count = simp (length-append, length-take) (omega arith) in
-    filled_many n disk outcome.disk sector (take (512 * h.done) payload ++ h.torn) many (ap (λ (o : Outcome). o.disk.told) h.is) (omega arith)
+    filled_many n disk outcome.disk sector (take (512 * h.done) payload ++ h.torn) many (ap (λ (o : Outcome). o.disk.contents) h.is) (omega arith)
 failed_many n capacity (Write sector count) payload disk outcome room small fits many (inr h) =
     let inside : 512 * sector + length payload ≤ 512 * capacity = omega (arith, fits.0, fits.1) in
-    filled_many n disk outcome.disk sector payload many (ap (λ (o : Outcome). o.disk.told) h) (omega arith)
-failed_many n capacity Flush payload disk outcome room small fits many h = same_many n disk outcome.disk many (ap (λ (o : Outcome). o.disk.told) h)
+    filled_many n disk outcome.disk sector payload many (ap (λ (o : Outcome). o.disk.contents) h) (omega arith)
+failed_many n capacity Flush payload disk outcome room small fits many h = same_many n disk outcome.disk many (ap (λ (o : Outcome). o.disk.contents) h)
 failed_many n capacity GetId payload disk outcome room small fits many h = absurd h
 failed_many n capacity (WriteZeroes segments) payload disk outcome room small fits many (inl h) =
     let sectors = all_sectors (segments_in payload) in
@@ -152,11 +152,11 @@ failed_many n capacity (WriteZeroes segments) payload disk outcome room small fi
     let left : TellsMany n (written s.sector s.torn.left (zeroed_sectors s.before disk)) =
     written_many n capacity s.sector s.torn.left (zeroed_sectors s.before disk) small below.1 s.torn.whole (zeroed_many n capacity s.before disk small below.0 many) in
     same_many n (written s.sector s.torn.left (zeroed_sectors s.before disk)) outcome.disk left
-    (ap (λ (o : Outcome). o.disk.told) h.is ∙ ap (λ (d : Disk). d.told) s.torn.torn)
+    (ap (λ (o : Outcome). o.disk.contents) h.is ∙ ap (λ (d : Disk). d.contents) s.torn.torn)
 failed_many n capacity (WriteZeroes segments) payload disk outcome room small fits many (inr h) =
     same_many n (zeroed_sectors (all_sectors (segments_in payload)) disk) outcome.disk
     (zeroed_many n capacity (all_sectors (segments_in payload)) disk small (all-below capacity (segments_in payload) fits.1) many)
-    (ap (λ (o : Outcome). o.disk.told) h)
+    (ap (λ (o : Outcome). o.disk.contents) h)
 
 ends_many : {identity : List ℕ} (n : ℕ) (capacity : ℕ) (request : Request) (payload : List ℕ) (disk : Disk) (outcome : Outcome) (room : ℕ) → 512 * capacity ≤ n → IsServable capacity request payload room → TellsMany n disk → Ends identity request payload disk outcome → TellsMany n outcome.disk
 ends_many n capacity request payload disk outcome room small fits many (inl h) =
@@ -232,9 +232,9 @@ service_beside : {A : Type 0} (old : SlotState) (before after : Health) (outcome
 service_beside {A} old before after outcome h =
     let small : 512 * (device_of old).extent.count ≤ length old.extent = omega arith in
     let many : TellsMany (length old.extent) (disk_with outcome.state.extent after) =
-    notified_many (length old.extent) (device_of old) (queue_at 0 old.block) old.memory outcome.state.memory old.block outcome.state.block (disk_with old.extent before) (disk_with outcome.state.extent after) small (record { bytes = old.extent; told = refl; size = refl }) h.service.notified in
-    let told : Some outcome.state.extent ≡ Some many.bytes = many.told in
-    let same : outcome.state.extent ≡ many.bytes = cc told in
+    notified_many (length old.extent) (device_of old) (queue_at 0 old.block) old.memory outcome.state.memory old.block outcome.state.block (disk_with old.extent before) (disk_with outcome.state.extent after) small (record { bytes = old.extent; contents = refl; size = refl }) h.service.notified in
+    let contents : Some outcome.state.extent ≡ Some many.bytes = many.contents in
+    let same : outcome.state.extent ≡ many.bytes = cc contents in
     record {
       console = ap (λ (o : Came A). o.state.console) h.service.is;
       pending = ap (λ (o : Came A). o.state.pending) h.service.is;

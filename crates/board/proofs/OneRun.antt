@@ -130,8 +130,8 @@ block_once : {A : Type 0} (device : BlockDevice) (old : SlotState) (h k : Health
 block_once device old h k one other a b =
     let end : SameEnd one.state.memory other.state.memory one.state.block other.state.block (disk_with one.state.extent h) (disk_with other.state.extent k) =
     notified_once (exact_device device) 0 (queue_at 0 old.block) old.memory one.state.memory other.state.memory old.block one.state.block other.state.block (disk_with old.extent at_rest) (disk_with one.state.extent h) (disk_with other.state.extent k) (one_block device old.extent at_rest) a.notified b.notified in
-    let told : Some one.state.extent ≡ Some other.state.extent = ap (λ (d : Disk). d.told) end.state in
-    a.is ∙ (ap does (same_block old one.state.memory other.state.memory one.state.extent other.state.extent one.state.block other.state.block end.memory (cc told) end.window) ∙ sym b.is)
+    let contents : Some one.state.extent ≡ Some other.state.extent = ap (λ (d : Disk). d.contents) end.state in
+    a.is ∙ (ap does (same_block old one.state.memory other.state.memory one.state.extent other.state.extent one.state.block other.state.block end.memory (cc contents) end.window) ∙ sym b.is)
 
 -- a slot with another memory, console window and pending input
 abbrev with_console : SlotState → Memory → WindowState → List ℕ → SlotState

@@ -8,7 +8,7 @@ use Rattle.std.proofs.lemmas.List.{same_lists, places, get_or-take}
 use Rattle.sector_cache.specs.Sector.{extent_of}
 use Rattle.sector_cache.proofs.Sectors.{get_or-extent_of}
 use Rattle.block_device.specs.declared.extent.Extent.{Extent}
-use Rattle.block_device.specs.Extent.{SameOutside, ToldOutside}
+use Rattle.block_device.specs.Extent.{SameOutside, SameContentsOutside}
 use Rattle.board.specs.Extent.{has_sector, IsApart, outside_from, outside_of}
 
 -- a byte outside a smaller set of sectors and outside a larger one
@@ -126,7 +126,7 @@ pub record Kept (extent : Extent) (old new : Option (List ℕ)) : Type 0 where
   pub tells : IsSome new
   pub outside : outside_of (extent ∷ []) (unwrap_or old []) ≡ outside_of (extent ∷ []) (unwrap_or new [])
 
-pub outside_kept : (extent : Extent) (old new : Option (List ℕ)) → IsSome old → ToldOutside extent old new → Kept extent old new
+pub outside_kept : (extent : Extent) (old new : Option (List ℕ)) → IsSome old → SameContentsOutside extent old new → Kept extent old new
 outside_kept extent None new tells kept = absurd (cc)
 outside_kept extent (Some xs) None tells kept = absurd kept
 outside_kept extent (Some xs) (Some ys) tells kept = record { tells = refl; outside = outside_kept_bytes extent xs ys kept }

@@ -11,7 +11,7 @@ use Rattle.std.proofs.lemmas.Bool.{cases_eq, cases_order}
 use Rattle.std.proofs.lemmas.Bool.Decides.{nat_tests}
 use Rattle.std.proofs.lemmas.List.{map-set, set-get_or, get_or-map, length-map, get_or-set_same, get_or-set_other, same_lists}
 use Rattle.std.proofs.lemmas.Option.{get_or_from_slice_get, slice_get-map, slice_get_within}
-use Rattle.sector_cache.specs.Disk.{Disk, KeepsClear}
+use Rattle.sector_cache.specs.Disk.{Disk, KeepsClean}
 use Rattle.sector_cache.specs.Sector.{extent_of}
 use Rattle.board.specs.declared.event.Event.{Event}
 use Rattle.board.specs.declared.reply.Reply.{Reply}
@@ -129,35 +129,35 @@ pub stays_in_extents : {I : Type 0} (disk : I → Disk) (slots : List BoardSlot)
 stays_in_extents disk slots old new h slot after here stays =
     let extents = extents_of-set slots h slot after here stays.extent in
     record {
-      told = λ tells. (outside_kept slot.extent (disk old).told (disk new).told tells stays.image.outside.told).tells;
+      tells = λ tells. (outside_kept slot.extent (disk old).contents (disk new).contents tells stays.image.outside.contents).tells;
       outside = λ tells.
           ap (λ es. outside_of es (bytes_of (disk new))) extents
           ∙ sym (outside_more (extents_of slots) slot.extent (λ sector. in_some slots h slot here sector) 0 (bytes_of (disk old)) (bytes_of (disk new))
-          (outside_kept slot.extent (disk old).told (disk new).told tells stays.image.outside.told).outside);
+          (outside_kept slot.extent (disk old).contents (disk new).contents tells stays.image.outside.contents).outside);
       extents = extents;
       sectors = stays.image.outside.sectors;
       rises = stays.image.rises;
-      clear = stays.image.clear;
+      clean = stays.image.clean;
     }
 
-clear_still : (a b c : Disk) → a.failures ≤ b.failures → b.failures ≤ c.failures → KeepsClear a b → KeepsClear b c → KeepsClear a c
-clear_still a b c up more p q = λ same clear.
+clean_still : (a b c : Disk) → a.failures ≤ b.failures → b.failures ≤ c.failures → KeepsClean a b → KeepsClean b c → KeepsClean a c
+clean_still a b c up more p q = λ same clean.
     let first : b.failures ≡ a.failures = omega (arith, up, more, same) in
-    q (same ∙ sym first) (p first clear)
+    q (same ∙ sym first) (p first clean)
 
 -- and what stays in two steps stays in both
 pub stays_still : {I : Type 0} (disk : I → Disk) (a b c : BoardState I) → StaysInExtents disk a b → StaysInExtents disk b c → StaysInExtents disk a c
 stays_still disk a b c p q = record {
-  told = λ tells. q.told (p.told tells);
-  outside = λ tells. q.outside (p.told tells) ∙ p.outside tells;
+  tells = λ tells. q.tells (p.tells tells);
+  outside = λ tells. q.outside (p.tells tells) ∙ p.outside tells;
   extents = q.extents ∙ p.extents;
   sectors = q.sectors ∙ p.sectors;
   rises = omega (arith, p.rises, q.rises);
-  clear = clear_still (disk a.image) (disk b.image) (disk c.image) p.rises q.rises p.clear q.clear;
+  clean = clean_still (disk a.image) (disk b.image) (disk c.image) p.rises q.rises p.clean q.clean;
 }
 
 pub stays_same : {I : Type 0} (disk : I → Disk) (board : BoardState I) → StaysInExtents disk board board
-stays_same disk board = record { told = λ tells. tells; outside = λ tells. refl; extents = refl; sectors = refl; rises = omega arith; clear = λ same clear. clear }
+stays_same disk board = record { tells = λ tells. tells; outside = λ tells. refl; extents = refl; sectors = refl; rises = omega arith; clean = λ same clean. clean }
 
 -- A slot of the board took a turn, and left the image's bytes outside its own extent as they were: so the board
 -- took it.

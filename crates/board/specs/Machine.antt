@@ -104,7 +104,7 @@ Gives state (Complete verdict) before after outcome = IsDetermined outcome (repl
 -- No call failed, and no write waits for a flush. A guest never sees how its image fares, so each event
 -- of a guest that is alone is taken from here.
 abbrev pub at_rest : Health
-at_rest = record { failures = 0; mark = false }
+at_rest = record { failures = 0; dirty = false }
 
 -- what comes of one event of a guest that is alone
 pub record IsNext {A : Type 0} (state : SlotState) (what : EventKind A) (outcome : Outcome A) : Type 0 where

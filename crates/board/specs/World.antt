@@ -7,7 +7,7 @@ use Rattle.mmio_window.specs.declared.queue.Queue.{Queue}
 use Rattle.mmio_window.specs.Queue.{queue_kind}
 use Rattle.mmio_window.specs.Serving.{Notified}
 use Rattle.mmio_window.specs.Window.{WindowState, queue_at}
-use Rattle.sector_cache.specs.Disk.{Disk, KeepsClear}
+use Rattle.sector_cache.specs.Disk.{Disk, KeepsClean}
 use Rattle.block_device.specs.declared.extent.Extent.{Extent}
 use Rattle.block_device.specs.Device.{block_device}
 use Rattle.console_device.specs.Device.{transmit}
@@ -64,14 +64,14 @@ world_of disk board = seen board.slots (disk board.image)
 
 -- What events do to a board stays in its slots' extents: an image that tells its bytes goes on telling them, and those
 -- outside all extents stay; the extents lie where they did, in an image of the same size; its failures never fall, and
--- while they stay a clear mark stays clear.
+-- while they stay a clean image stays clean.
 pub record StaysInExtents {I : Type 0} (disk : I → Disk) (old new : BoardState I) : Type 0 where
-  pub told : Tells (disk old.image) → Tells (disk new.image)
+  pub tells : Tells (disk old.image) → Tells (disk new.image)
   pub outside : Tells (disk old.image) → (world_of disk new).outside ≡ (world_of disk old).outside
   pub extents : extents_of new.slots ≡ extents_of old.slots
   pub sectors : (disk new.image).sector_count ≡ (disk old.image).sector_count
   pub rises : (disk old.image).failures ≤ (disk new.image).failures
-  pub clear : KeepsClear (disk old.image) (disk new.image)
+  pub clean : KeepsClean (disk old.image) (disk new.image)
 
 -- ---- one slot
 

@@ -141,21 +141,21 @@ pub fn a_restored_guest_goes_on<A: Allocator>()
         RanOnBoth g state moves moves' new' }
 {}
 
-/// A stop between two events, as a loss of power, loses nothing, from a moment on at which the image's mark was clear and
+/// A stop between two events, as a loss of power, loses nothing, from a moment on at which the image was clean and
 /// until a call of it fails: what it leaves is each guest's disk as that guest sees it. So every OUT, FLUSH and
-/// WRITE_ZEROES that was answered OK stands. After failures the mark is clear from the next of them on.
+/// WRITE_ZEROES that was answered OK stands. After failures the image is clean from the next of them on.
 pub fn a_stop_between_events_loses_nothing<I: Image, A: Allocator>()
-    ensures clear { (old new : World) (moves : List (Move A)) → IsLine old moves new →
-        new.health.failures ≡ old.health.failures → old.health.mark ≡ false → new.health.mark ≡ false }
+    ensures clean { (old new : World) (moves : List (Move A)) → IsLine old moves new →
+        new.health.failures ≡ old.health.failures → old.health.dirty ≡ false → new.health.dirty ≡ false }
     ensures left { (old : World) (moves : List (Move A)) (board : BoardState I) (left : List ℕ) →
         Tells (I.disk board.image) → IsLine old moves (world_of I.disk board) →
-        (world_of I.disk board).health.failures ≡ old.health.failures → old.health.mark ≡ false →
+        (world_of I.disk board).health.failures ≡ old.health.failures → old.health.dirty ≡ false →
         I.may_leave board.image left → IsLeftAsSeen board.slots (world_of I.disk board) left }
 {}
 
 /// A stop at any moment within an event, as a loss of power, touches no other guest's disk, whatever of the event's own writes
 /// was cut short and whatever failed. Where one before the event could leave these bytes alone, it leaves theirs (`known`);
-/// where the mark was clear then, that disk as its guest saw it (`seen`). It rests on an image that records what a stop
+/// where the image was clean then, that disk as its guest saw it (`seen`). It rests on an image that records what a stop
 /// might have left, from a moment before the event.
 pub fn a_cut_event_touches_no_other_disk<I: Image>()
     ensures known { (old new : BoardState I) (g since : ℕ) (own other : BoardSlot) (bytes left : List ℕ) →
@@ -165,7 +165,7 @@ pub fn a_cut_event_touches_no_other_disk<I: Image>()
         extent_of left other.extent.start other.extent.count ≡ extent_of bytes other.extent.start other.extent.count }
     ensures seen { (old new : BoardState I) (g since : ℕ) (own other : BoardSlot) (left : List ℕ) →
         TouchesSlot I.moment I.may_leave I.left_since g old new → slice_get old.slots g ≡ Some own →
-        IsApart own.extent other.extent → Tells (I.disk old.image) → (I.disk old.image).mark ≡ false →
+        IsApart own.extent other.extent → Tells (I.disk old.image) → (I.disk old.image).dirty ≡ false →
         BeginsAt (I.may_leave old.image) (I.left_since old.image) since → I.left_since new.image since left →
         extent_of left other.extent.start other.extent.count ≡ (state_of (bytes_of (I.disk old.image)) other).extent }
 {}

@@ -38,7 +38,7 @@ use Rattle.trace.proofs.Passing.{sends_same}
 pub slot_missing : {A I : Type 0} (disk : I → Disk) (old new : BoardState I) (event : Event A) → new ≡ old → slice_get old.slots event.slot ≡ None → AnswersEvent disk old event BadSlot [] new
 slot_missing disk old new event same missing =
     subst (λ b. AnswersEvent disk old event BadSlot [] b) (sym same)
-    (record { answers = λ tells. answered (handles_missing old.slots (disk old.image) event [] missing); keeps = record { told = λ tells. tells; extents = refl } })
+    (record { answers = λ tells. answered (handles_missing old.slots (disk old.image) event [] missing); keeps = record { tells = λ tells. tells; extents = refl } })
 
 pub past_slots : {I : Type 0} (board : BoardState I) (slot : ℕ) → (slot < length board.slots → ⊥) → slice_get board.slots slot ≡ None
 past_slots board slot past =
@@ -79,7 +79,7 @@ range_refused A disk old new slot addr bytes same there inside =
           subst (λ b. AnswersEvent {A = A} disk old (record { slot = slot; what = MemWrite addr bytes }) BadRange [] b) (sym same)
           (record {
             answers = λ tells. outside_memory A old.slots (disk old.image) slot found.0 addr bytes here (λ h. absurd (let wrong = out.1 h in cc));
-            keeps = record { told = λ t. t; extents = refl };
+            keeps = record { tells = λ t. t; extents = refl };
           })
       | inr none ↦ let past = none.0 in absurd (omega arith)
     ]
@@ -110,7 +110,7 @@ part_read A disk board slot addr len part it =
         replied = refl;
         appended = refl;
       };
-      keeps = record { told = λ tells. tells; extents = refl };
+      keeps = record { tells = λ tells. tells; extents = refl };
     }
 
 -- bytes that were put leave all extents
@@ -123,7 +123,7 @@ pub bytes_written : (A : Type 0) {I : Type 0} (disk : I → Disk) (old new : Boa
     → IsSomeAnd (slice_get old.slots slot) (λ found. new.slots ≡ slice_set old.slots slot (record found { memory = put found.memory addr bytes })) → AnswersEvent {A = A} disk old (record { slot = slot; what = MemWrite addr bytes }) Done [] new
 bytes_written A disk old new slot addr bytes image answers is = record {
   answers = answers;
-  keeps = record { told = λ tells. rw image tells; extents = extents_put old.slots new.slots slot (λ found. put found.memory addr bytes) (slice_get old.slots slot) refl is };
+  keeps = record { tells = λ tells. rw image tells; extents = extents_put old.slots new.slots slot (λ found. put found.memory addr bytes) (slice_get old.slots slot) refl is };
 }
 
 -- ---- the record
@@ -171,7 +171,7 @@ event_run {A} disk old new event reply out words a b s t it is sent =
           let answers = it.answers tells in
           let same : answers.written ≡ entry = entry_told disk old new event reply out answers ∙ ap (λ ws. entry_of event.slot reply out ws) (sym is) in
           subst (λ (w : Record A). IsRun (world_of disk old) (world_of disk new) (event ∷ []) [] (w ∷ [])) same (step_run (world_of disk old) (world_of disk new) event answers.written [] answers.step);
-      told = it.keeps.told;
+      tells = it.keeps.tells;
       extents = it.keeps.extents;
       sent = sends_same a b s t _ _ (one_line entry) sent;
     }

@@ -49,7 +49,7 @@ pub sends_no_run : {A I : Type 0} (disk : I → Disk) (board : BoardState I) (a 
 sends_no_run {A} disk board a s = record {
   records = [];
   run = λ tells. empty_run (world_of disk board);
-  told = λ tells. tells;
+  tells = λ tells. tells;
   extents = refl;
   sent = sends_same a a s s [] _ (sym joined_none) (sends_none a s);
 }
@@ -58,8 +58,8 @@ sends_no_run {A} disk board a s = record {
 pub sends_runs : {A I : Type 0} (disk : I → Disk) (old mid new : BoardState I) (events more : List (Event A)) (a b c s t u : Option (List ℕ)) → SendsRun disk old mid events a b s t → SendsRun disk mid new more b c t u → SendsRun disk old new (events ++ more) a c s u
 sends_runs disk old mid new events more a b c s t u p q = record {
   records = p.records ++ q.records;
-  run = λ tells. runs_join (world_of disk old) (world_of disk mid) (world_of disk new) events more [] p.records (p.records ++ q.records) (p.run tells) (behind (world_of disk mid) (world_of disk new) more p.records q.records (q.run (p.told tells)));
-  told = λ tells. q.told (p.told tells);
+  run = λ tells. runs_join (world_of disk old) (world_of disk mid) (world_of disk new) events more [] p.records (p.records ++ q.records) (p.run tells) (behind (world_of disk mid) (world_of disk new) more p.records q.records (q.run (p.tells tells)));
+  tells = λ tells. q.tells (p.tells tells);
   extents = q.extents ∙ p.extents;
   sent = sends_same a c s u _ _ (text_append p.records q.records) (sends_more a b c s t u _ _ p.sent q.sent);
 }
@@ -76,7 +76,7 @@ sends_run_of disk old new events others a b s t same p = subst (λ (es : List (E
 recorded : {A I : Type 0} (disk : I → Disk) (slots : List SlotSpec) (board after : BoardState I) (image : I) (events : List (Event A)) (a b s : Option (List ℕ)) (Output : List ℕ → Type 0) → board.slots ≡ map opened slots → image ≡ after.image → SendsRun disk board after events a b (Some []) s → ((text : List ℕ) → Sends a b (Some []) text s → Output text) → Recorded disk slots events board.image image Output
 recorded disk slots board after image events a b s Output new kept run out = record {
   records = run.records;
-  ran = λ tells. runs_on disk slots board after image events events [] run.records new refl kept refl run.extents (run.told tells) (run.run tells);
+  ran = λ tells. runs_on disk slots board after image events events [] run.records new refl kept refl run.extents (run.tells tells) (run.run tells);
   output = out (records_text run.records) run.sent;
 }
 
@@ -85,7 +85,7 @@ pub sends_flushed : {A I : Type 0} (disk : I → Disk) (old new : BoardState I) 
 sends_flushed disk old new events a b c t u w start p q = record {
   records = p.records;
   run = p.run;
-  told = p.told;
+  tells = p.tells;
   extents = p.extents;
   sent =
       subst (λ (s : Option (List ℕ)). Sends a c s (records_text p.records) u) start

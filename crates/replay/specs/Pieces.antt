@@ -14,6 +14,6 @@ use Rattle.trace.specs.Sends.{Sends}
 pub record SendsRun {A I : Type 0} (disk : I → Disk) (old new : BoardState I) (events : List (Event A)) (before after waiting waiting' : Option (List ℕ)) : Type 0 where
   pub records : List (Record A)
   pub run : Tells (disk old.image) → IsRun (world_of disk old) (world_of disk new) events [] records
-  pub told : Tells (disk old.image) → Tells (disk new.image)
+  pub tells : Tells (disk old.image) → Tells (disk new.image)
   pub extents : extents_of new.slots ≡ extents_of old.slots
   pub sent : Sends before after waiting (records_text records) waiting'

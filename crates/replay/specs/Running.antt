@@ -34,7 +34,7 @@ words_of (Some slot) = interrupt_words slot
 
 -- what goes on of a board and its image while an event is handled
 pub record KeepsTelling {I : Type 0} (disk : I → Disk) (old new : BoardState I) : Type 0 where
-  pub told : Tells (disk old.image) → Tells (disk new.image)
+  pub tells : Tells (disk old.image) → Tells (disk new.image)
   pub extents : extents_of new.slots ≡ extents_of old.slots
 
 -- a board answered an event of a slot

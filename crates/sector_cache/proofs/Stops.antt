@@ -4,7 +4,7 @@ use Rattle.std.specs.Prelude.{false, Contains, IfSome, ⊤}
 use Rattle.std.proofs.Math.Seq.{take-add}
 use Rattle.std.proofs.lemmas.Bool.{cases_lt}
 use Rattle.std.proofs.lemmas.List.{drop-drop, drop-take, drop_at, length-take-le, take-take, take_all, take_at}
-use Rattle.sector_cache.specs.Disk.{Disk, LeavesTold}
+use Rattle.sector_cache.specs.Disk.{Disk, LeavesContents}
 use Rattle.sector_cache.specs.Sector.{extent_of, sector_of, with_sector, with_sectors}
 use Rattle.sector_cache.specs.Stop.{BeginsAt, DiffersInSectors, DiffersWithin, IsCutBy, Only, Touches, TouchesBy}
 
@@ -213,17 +213,17 @@ module _ (Differs : List ℕ → List ℕ → Type 0) (same : (bytes : List ℕ)
       let cut : IsCutBy Differs a left = begun since left h begins past in
       subst (λ whole. Differs whole left) (only cut.whole cut.may) cut.within
 
-  -- With a clear mark a stop leaves what is told but for that.
-  pub told_by : {t u : ℕ} {a b : List ℕ → Type 0} {p q : ℕ → List ℕ → Type 0} (disk : Disk) (since : ℕ)
+  -- Of a clean disk a stop leaves the contents but for that.
+  pub contents_by : {t u : ℕ} {a b : List ℕ → Type 0} {p q : ℕ → List ℕ → Type 0} (disk : Disk) (since : ℕ)
       (left : List ℕ) → TouchesBy Differs t u a b p q → BeginsAt a p since
-      → ((whole : List ℕ) → a whole → LeavesTold disk whole) → disk.mark ≡ false → q since left
-      → IfSome disk.told (λ bytes. Differs bytes left)
-  told_by {t} {u} {a} {b} {p} {q} disk since left h begins durable clear past =
+      → ((whole : List ℕ) → a whole → LeavesContents disk whole) → disk.dirty ≡ false → q since left
+      → IfSome disk.contents (λ bytes. Differs bytes left)
+  contents_by {t} {u} {a} {b} {p} {q} disk since left h begins durable clean past =
       let cut : IsCutBy Differs a left = begun since left h begins past in
-      beside disk.told (durable cut.whole cut.may clear) cut.within
+      beside disk.contents (durable cut.whole cut.may clean) cut.within
     where
-      beside : {whole : List ℕ} (told : Option (List ℕ)) → IfSome told (λ bytes. whole ≡ bytes)
-          → Differs whole left → IfSome told (λ bytes. Differs bytes left)
+      beside : {whole : List ℕ} (contents : Option (List ℕ)) → IfSome contents (λ bytes. whole ≡ bytes)
+          → Differs whole left → IfSome contents (λ bytes. Differs bytes left)
       beside None is within = tt
       beside (Some bytes) is within = subst (λ bytes. Differs bytes left) is within
 
@@ -286,15 +286,15 @@ module _ (start end : ℕ) where
     between = λ since left past. inl tt;
   }
 
-  -- where a stop could leave these bytes alone, and where the mark is clear
+  -- where a stop could leave these bytes alone, and where the disk is clean
   pub known_beside : {t u : ℕ} {a b : List ℕ → Type 0} {p q : ℕ → List ℕ → Type 0} (since : ℕ) (bytes left : List ℕ) → Touches start end t u a b p q → BeginsAt a p since → Only bytes a → q since left → DiffersWithin start end bytes left
   known_beside since bytes left h begins only past = known_by (DiffersWithin start end)
       (differs_none start end) since bytes left h begins only past
 
-  pub told_beside : {t u : ℕ} {a b : List ℕ → Type 0} {p q : ℕ → List ℕ → Type 0} (disk : Disk) (since : ℕ) (left : List ℕ) → Touches start end t u a b p q → BeginsAt a p since
-      → ((whole : List ℕ) → a whole → LeavesTold disk whole) → disk.mark ≡ false → q since left → IfSome disk.told (λ bytes. DiffersWithin start end bytes left)
-  told_beside disk since left h begins durable clear past = told_by (DiffersWithin start end)
-      (differs_none start end) disk since left h begins durable clear past
+  pub contents_beside : {t u : ℕ} {a b : List ℕ → Type 0} {p q : ℕ → List ℕ → Type 0} (disk : Disk) (since : ℕ) (left : List ℕ) → Touches start end t u a b p q → BeginsAt a p since
+      → ((whole : List ℕ) → a whole → LeavesContents disk whole) → disk.dirty ≡ false → q since left → IfSome disk.contents (λ bytes. DiffersWithin start end bytes left)
+  contents_beside disk since left h begins durable clean past = contents_by (DiffersWithin start end)
+      (differs_none start end) disk since left h begins durable clean past
 
 -- such an image after a write of a sector
 pub touches_plain_sector : (sector : ℕ) (from old new : List ℕ) → new ≡ with_sector old sector from → 512 * (sector + 1) ≤ length old → length from ≡ 512 → Touches (512 * sector) (512 * (sector + 1)) 0 0 (λ left. left ≡ old) (λ left. left ≡ new) (λ _ _. ⊤) (λ _ _. ⊤)

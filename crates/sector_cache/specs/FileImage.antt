@@ -5,14 +5,14 @@ use Rattle.sector_cache.specs.declared.fault.FileCall.{FileCall}
 use Rattle.sector_cache.specs.declared.fault.FileFailure.{FileFailure}
 use Rattle.sector_cache.specs.declared.file_image.FileImage.{FileImage}
 
--- as one that tells no bytes
+-- as one without contents
 abbrev pub disk_of : {F : Type 0} → FileImage F → Disk
 disk_of image =
-    record { told = None; sector_count = image.sectors; failures = image.failures; mark = image.mark }
+    record { contents = None; sector_count = image.sectors; failures = image.failures; dirty = image.dirty }
 
--- an image that was just made of a file of so many sectors, whose bytes nobody tells
-abbrev pub new_untold : ℕ → Disk
-new_untold sectors = record { told = None; sector_count = sectors; failures = 0; mark = false }
+-- an image that was just made of a file of so many sectors, whose bytes nobody knows
+abbrev pub new_without_contents : ℕ → Disk
+new_without_contents sectors = record { contents = None; sector_count = sectors; failures = 0; dirty = false }
 
 -- the file behind it
 abbrev pub file_of : {F : Type 0} → FileImage F → F
@@ -58,6 +58,6 @@ pub record IsNoted (call : FileCall) (sector : Option ℕ) (old new : Trouble) :
   pub rest : new ≡ record old { first = new.first }
   pub first : IsFirst call sector old.first new.first
 
--- With a clear mark the file is synced: nothing that was written waits.
+-- Where the image is clean the file is synced: nothing that was written waits.
 abbrev pub IsSettled : {F : Type 0} → (F → Type 0) → FileImage F → Type 0
-IsSettled IsSynced image = image.mark ≡ false → IsSynced image.file
+IsSettled IsSynced image = image.dirty ≡ false → IsSynced image.file

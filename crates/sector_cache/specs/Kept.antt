@@ -1,11 +1,11 @@
 -- What a cache keeps of its image: the bytes of some sectors, the most recently used first.
 use Rattle.std.specs.Prelude.{◌≡◌, ℕ, ◌-◌, ◌⊎◌, List, ◌∷◌, take, Contains}
 use Rattle.lru.specs.LruCache.{LruCache, lru_cache}
-use Rattle.sector_cache.specs.Disk.{Disk, IsAsTold}
+use Rattle.sector_cache.specs.Disk.{Disk, IsSectorContents}
 
--- what is kept of a sector is what the disk tells of it
+-- what is kept of a sector is what the disk holds there
 pub record IsCoherent (disk : Disk) (kept : LruCache ℕ (List ℕ)) : Type 0 where
-  pub told : (entry : ℕ × List ℕ) → Contains kept.entries entry → IsAsTold disk entry.0 entry.1
+  pub contents : (entry : ℕ × List ℕ) → Contains kept.entries entry → IsSectorContents disk entry.0 entry.1
 
 -- these bytes of a sector come first, and where no more may be kept the last, the least recently used, gives way
 abbrev pub with_first : ℕ → List ℕ → LruCache ℕ (List ℕ) → LruCache ℕ (List ℕ)

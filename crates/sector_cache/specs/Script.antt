@@ -42,4 +42,4 @@ half_written bytes sector new = take 256 new ++ drop 256 (sector_of bytes sector
 -- after a failed write: that stands in the sector, and the failure is counted
 abbrev pub IsHalfWritten : ℕ → List ℕ → Disk → Disk → Type 0
 IsHalfWritten sector new old after =
-    IfSome old.told (λ bytes. after ≡ failed (written sector (half_written bytes sector new) old))
+    IfSome old.contents (λ bytes. after ≡ failed (written sector (half_written bytes sector new) old))

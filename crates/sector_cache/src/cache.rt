@@ -6,7 +6,7 @@ ghost use Rattle.std.specs.Borrow.{sem};
 ghost use Rattle.std.specs.Io.BufRead.{Rests};
 ghost use Rattle.std.specs.NonZero.{non_zero_usize_get};
 ghost use Rattle.sector_cache.specs.contracts.cache.SectorCache.{the_row};
-ghost use Rattle.sector_cache.specs.Disk.{IsAsTold, IsTorn, Tells, failed, written, written_from, flushed};
+ghost use Rattle.sector_cache.specs.Disk.{IsSectorContents, IsTorn, Tells, failed, written, written_from, flushed};
 ghost use Rattle.sector_cache.specs.Fault.{IsCapacity, RefusesCapacity};
 ghost use Rattle.sector_cache.specs.Lending.{IsReadThrough};
 ghost use Rattle.sector_cache.specs.Stop.{TouchesFrom, TouchesNothing, TouchesSector};
@@ -70,12 +70,12 @@ impl<I: Image, A: Allocator + Copy> SectorCache<I, A> {
         })
     }
 
-    #[tactic(auto, using(crate::proofs::Coherence::told_found, crate::proofs::Coherence::coherent_used, crate::proofs::Coherence::coherent_failed, crate::proofs::Coherence::coherent_read, crate::proofs::Coherence::coherent_kept, crate::proofs::Coherence::told_read))]
+    #[tactic(auto, using(crate::proofs::Coherence::contents_found, crate::proofs::Coherence::coherent_used, crate::proofs::Coherence::coherent_failed, crate::proofs::Coherence::coherent_read, crate::proofs::Coherence::coherent_kept, crate::proofs::Coherence::contents_read))]
     /// Lends the bytes of a sector: where they lie in the image, else those that are kept, else what the image reads
     /// just now.
     pub fn lend(&mut self, sector: u64) -> Result<&[u8; 512], ImageError>
         requires { sector < (I.disk self.old).sector_count }
-        ensures read { IfOk result (λ bytes. IsAsTold (I.disk self.old) sector bytes.now) }
+        ensures read { IfOk result (λ bytes. IsSectorContents (I.disk self.old) sector bytes.now) }
         ensures* after_borrow { sem 𝓛 (Rests (the_row I.row A.row I.Image A.Allocator) self.entry (λ cache.
             IsReadThrough result (I.disk self.old) (I.disk cache)
             × TouchesNothing I.moment I.may_leave I.left_since self.old cache)) }
@@ -91,13 +91,13 @@ impl<I: Image, A: Allocator + Copy> SectorCache<I, A> {
         Ok(&self.lent)
     }
 
-    #[tactic(auto, using(crate::proofs::Coherence::told_length))]
+    #[tactic(auto, using(crate::proofs::Coherence::contents_length))]
     /// Lends the bytes of `count` sectors from sector `first` on where they lie in the image. One that isn't in memory
     /// lends none.
     pub fn lend_sectors(&self, first: u64, count: u64) -> Option<&[u8]>
         requires { first + count ≤ (I.disk self.now).sector_count }
         ensures lent { is_some result ≡ I.lends self.now }
-        ensures told { IfSome result (λ bytes. Tells (I.disk self.now) first count bytes.now) }
+        ensures contents { IfSome result (λ bytes. Tells (I.disk self.now) first count bytes.now) }
         ensures len { IfSome result (λ bytes. length bytes.now ≡ 512 * count) }
     {
         self.image.lend_sectors(first, count)
@@ -106,7 +106,7 @@ impl<I: Image, A: Allocator + Copy> SectorCache<I, A> {
     /// Reads a sector. After an `Err` `into` may hold any bytes.
     pub fn read(&mut self, sector: u64, into: &mut [u8; 512]) -> Result<(), ImageError>
         requires { sector < (I.disk self.old).sector_count }
-        ensures read { OnOk result (IsAsTold (I.disk self.old) sector into.new) }
+        ensures read { OnOk result (IsSectorContents (I.disk self.old) sector into.new) }
         ensures ok { OnOk result (I.disk self.new ≡ I.disk self.old) }
         ensures err { OnErr result (I.disk self.new ≡ failed (I.disk self.old)) }
         ensures touches { TouchesNothing I.moment I.may_leave I.left_since self.old self.new }
@@ -191,12 +191,12 @@ impl<I: Image, A: Allocator> SectorCache<I, A> {
     }
 }
 
-#[tactic(auto, using(crate::proofs::Coherence::told_length))]
+#[tactic(auto, using(crate::proofs::Coherence::contents_length))]
 /// One sector of an image, where it lies in memory.
 fn lend_one<I: Image>(image: &I, sector: u64) -> Option<&[u8; 512]>
     requires { sector < (I.disk image.now).sector_count }
     ensures lent { is_some result ≡ I.lends image.now }
-    ensures told { IfSome result (λ bytes. Tells (I.disk image.now) sector 1 bytes.now) }
+    ensures contents { IfSome result (λ bytes. Tells (I.disk image.now) sector 1 bytes.now) }
 {
     image.lend_sectors(sector, 1)?.first_chunk()
 }

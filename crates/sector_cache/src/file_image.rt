@@ -1,7 +1,7 @@
 //! An image that is a file. It tells no bytes.
 
 ghost use Rattle.std.specs.Prelude.{◌≡◌, ◌≢◌, ◌↔◌, ◌+◌, ◌-◌, ◌*◌, ◌/◌, ◌%◌, ◌<◌, ◌^◌, length, Some, IfSome, IfOk, OnOk, OnErr, IsOk, IsErr, IsErrOf, IsTrue, is_err};
-ghost use Rattle.sector_cache.specs.Disk.{IsAsTold, IsTorn, failed, written, flushed};
+ghost use Rattle.sector_cache.specs.Disk.{IsSectorContents, IsTorn, failed, written, flushed};
 ghost use Rattle.sector_cache.specs.Backing.{HasSector, LeavesShort, PutsSector};
 ghost use Rattle.sector_cache.specs.Stop.{TouchesNothing, TouchesSector};
 
@@ -24,7 +24,7 @@ pub struct FileImage<F = File> {
     file: F,
     sectors: u64,
     failures: u64,
-    mark: bool,
+    dirty: bool,
     is_lost: bool,
     last: Option<u64>,
     first: Option<FileFailure>,
@@ -32,12 +32,12 @@ pub struct FileImage<F = File> {
 }
 
 impl<F: BackingFile> FileImage<F> {
-    ghost use Rattle.sector_cache.specs.FileImage.{IsFirst, IsSettled, disk_of, file_of, new_untold, trouble_of, untroubled};
+    ghost use Rattle.sector_cache.specs.FileImage.{IsFirst, IsSettled, disk_of, file_of, new_without_contents, trouble_of, untroubled};
 
     /// The image that a file holds, which is open for reading and writing. It is held for this image until it
     /// is closed. Where it is refused it is closed at once.
     pub fn new(mut file: F) -> Result<Self, FileImageFault>
-        ensures seen { IfOk result (λ image. disk_of image ≡ new_untold (disk_of image).sector_count) }
+        ensures seen { IfOk result (λ image. disk_of image ≡ new_without_contents (disk_of image).sector_count) }
         ensures sectors { IfOk result (λ image. IfSome (F.held file) (λ bytes.
             length bytes ≡ 512 * (disk_of image).sector_count)) }
         ensures held { IfOk result (λ image. F.held (file_of image) ≡ F.held file) }
@@ -57,7 +57,7 @@ impl<F: BackingFile> FileImage<F> {
             file,
             sectors: bytes / SECTOR_LEN as u64,
             failures: 0,
-            mark: false,
+            dirty: false,
             is_lost: false,
             last: None,
             first: None,
@@ -86,7 +86,7 @@ impl<F: BackingFile> FileImage<F> {
             file,
             sectors: _,
             failures: _,
-            mark: _,
+            dirty: _,
             is_lost: _,
             last: _,
             first: _,
@@ -166,7 +166,7 @@ impl<F: BackingFile> Image for FileImage<F> {
 
     fn read_sector(&mut self, sector: u64, into: &mut [u8; 512]) -> Result<(), ImageError>
         requires { sector < (disk_of self.old).sector_count }
-        ensures read { OnOk result (IsAsTold (disk_of self.old) sector into.new) }
+        ensures read { OnOk result (IsSectorContents (disk_of self.old) sector into.new) }
         ensures ok { OnOk result (disk_of self.new ≡ disk_of self.old) }
         ensures err { OnErr result (disk_of self.new ≡ failed (disk_of self.old)) }
         ensures untried { IsSpent self.old → IsOk result }
@@ -205,7 +205,7 @@ impl<F: BackingFile> Image for FileImage<F> {
         ensures noted { OnErr result (IsNoted FileCall.Write (Some sector)
             (with_last sector (trouble_of self.old)) (trouble_of self.new)) }
     {
-        self.mark = true;
+        self.dirty = true;
         self.last = Some(sector);
         if self.failures == u64::MAX {
             return Ok(());
@@ -236,7 +236,7 @@ impl<F: BackingFile> Image for FileImage<F> {
             let answer = self.synced();
             self.counted(FileCall::Sync, self.last, answer)?;
         }
-        self.mark = false;
+        self.dirty = false;
         Ok(())
     }
 
@@ -244,7 +244,7 @@ impl<F: BackingFile> Image for FileImage<F> {
 
     ghost fits = { λ image. Prim.omega (arith, image.fits) };
 
-    ghost durable = { λ image left may clear. tt };
+    ghost durable = { λ image left may clean. tt };
 
     ghost counts_now = { λ image. F.counts_now (file_of image) };
 }

@@ -2,7 +2,7 @@
 
 ghost use Rattle.std.specs.Prelude.{◌≡◌, ◌+◌, ◌*◌, ◌^◌, ◌<◌, ◌≤◌, ℕ, Bool, List, false, length, is_some, IfSome, OnOk, OnErr};
 ghost use Rattle.std.specs.Bool.{OnTrue, OnFalse};
-ghost use Rattle.sector_cache.specs.Disk.{Disk, IsWhole, IsAsTold, IsTorn, LeavesTold, Tells, failed, written, written_from, flushed};
+ghost use Rattle.sector_cache.specs.Disk.{Disk, IsWhole, IsSectorContents, IsTorn, LeavesContents, Tells, failed, written, written_from, flushed};
 ghost use Rattle.sector_cache.specs.Stop.{TouchesFrom, TouchesNothing, TouchesSector, unnumbered, unrecorded};
 
 use thiserror::Error;
@@ -14,7 +14,7 @@ pub struct ImageError;
 
 /// A disk of `sectors()` sectors of 512 bytes, numbered from 0.
 ///
-/// Its meaning is its `disk`: the bytes that it tells, the number of its failures and its mark. An image over a file tells
+/// Its meaning is its `disk`: its contents, the number of its failures and whether it is dirty. An image over a file tells
 /// no bytes, since nobody knows what a file holds: clauses about bytes then say nothing, and all others hold. An image
 /// that tells its bytes goes on to, since each call says what they are after it.
 pub trait Image {
@@ -40,7 +40,7 @@ pub trait Image {
     fn lend_sectors(&self, first: u64, count: u64) -> Option<&[u8]>
         requires { first + count ≤ (disk self.now).sector_count }
         ensures lent { is_some result ≡ lends self.now }
-        ensures told { IfSome result (λ bytes. Tells (disk self.now) first count bytes.now) };
+        ensures contents { IfSome result (λ bytes. Tells (disk self.now) first count bytes.now) };
 
     /// Writes sectors from sector `first` on where they lie in memory, and answers whether they do. An image that isn't
     /// there is left as it is.
@@ -54,7 +54,7 @@ pub trait Image {
     /// After an `Err` `into` may hold any bytes.
     fn read_sector(&mut self, sector: u64, into: &mut [u8; 512]) -> Result<(), ImageError>
         requires { sector < (disk self.old).sector_count }
-        ensures read { OnOk result (IsAsTold (disk self.old) sector into.new) }
+        ensures read { OnOk result (IsSectorContents (disk self.old) sector into.new) }
         ensures ok { OnOk result (disk self.new ≡ disk self.old) }
         ensures err { OnErr result (disk self.new ≡ failed (disk self.old)) }
         ensures touches { TouchesNothing moment may_leave left_since self.old self.new };
@@ -72,14 +72,14 @@ pub trait Image {
         ensures err { OnErr result (disk self.new ≡ failed (disk self.old)) }
         ensures touches { TouchesNothing moment may_leave left_since self.old self.new };
 
-    // 512 bytes are told for each sector
+    // there are 512 bytes for each sector, as far as the contents are known
     ghost whole: { (image : Self) → IsWhole (disk image) };
 
     // a `u64` numbers them
     ghost fits: { (image : Self) → (disk image).sector_count < 2 ^ 64 };
 
-    // with a clear mark, a stop leaves exactly what is told
-    ghost durable: { (image : Self) (left : List ℕ) → may_leave image left → LeavesTold (disk image) left };
+    // where it is clean, a stop leaves exactly its contents
+    ghost durable: { (image : Self) (left : List ℕ) → may_leave image left → LeavesContents (disk image) left };
 
     // this moment is one of those since an earlier one
     ghost counts_now: { (image : Self) (since : ℕ) (left : List ℕ) → since ≤ moment image → may_leave image left → left_since image since left };

@@ -17,31 +17,31 @@ use std::alloc::Allocator;
 /// Each image in memory tells its bytes, whatever was called of it: so what is promised of images
 /// that tell theirs is promised of both.
 pub fn memory_images_tell<A: Allocator>()
-    ensures in_memory { (image : MemoryImage A) → IsSome (memory_disk_of image).told }
-    ensures scripted { (image : ScriptedImage A) → IsSome (scripted_disk_of image).told }
+    ensures in_memory { (image : MemoryImage A) → IsSome (memory_disk_of image).contents }
+    ensures scripted { (image : ScriptedImage A) → IsSome (scripted_disk_of image).contents }
 {}
 
-/// With a clear mark, a stop of an image over a file leaves what the file holds, as far as that is known. It rests on the
+/// Where it is clean, a stop of an image over a file leaves what the file holds, as far as that is known. It rests on the
 /// file's medium, which keeps what a sync said; and each call keeps the image settled.
 pub fn a_flushed_file_outlasts_a_stop<F: BackingFile>()
     ensures { (image : FileImage F) (left : List ℕ) → IsSettled F.IsSynced image →
-        (file_disk_of image).mark ≡ false → F.may_leave (file_of image) left →
+        (file_disk_of image).dirty ≡ false → F.may_leave (file_of image) left →
         IfSome (F.held (file_of image)) (λ bytes. left ≡ bytes) }
 {}
 
 /// A stop at any moment within calls that touch only the bytes from `start` to `end`, whatever failed: where one before them
-/// could leave these bytes alone, it leaves them but for that range (`known`), and where the mark was clear then, what was
-/// told (`told`). So each extent apart from the range is as it was (`apart`). It rests on an image that records what a
+/// could leave these bytes alone, it leaves them but for that range (`known`), and where the image was clean then, its
+/// contents (`contents`). So each extent apart from the range is as it was (`apart`). It rests on an image that records what a
 /// stop might have left, from a moment before the calls.
 pub fn a_cut_call_touches_nothing_else<I: Image>()
     ensures known { (old new : I) (start end since : ℕ) (bytes left : List ℕ) →
         TouchesOnly I.moment I.may_leave I.left_since start end old new → Only bytes (I.may_leave old) →
         BeginsAt (I.may_leave old) (I.left_since old) since → I.left_since new since left →
         DiffersWithin start end bytes left }
-    ensures told { (old new : I) (start end since : ℕ) (left : List ℕ) →
-        TouchesOnly I.moment I.may_leave I.left_since start end old new → (I.disk old).mark ≡ false →
+    ensures contents { (old new : I) (start end since : ℕ) (left : List ℕ) →
+        TouchesOnly I.moment I.may_leave I.left_since start end old new → (I.disk old).dirty ≡ false →
         BeginsAt (I.may_leave old) (I.left_since old) since → I.left_since new since left →
-        IfSome (I.disk old).told (λ bytes. DiffersWithin start end bytes left) }
+        IfSome (I.disk old).contents (λ bytes. DiffersWithin start end bytes left) }
     ensures apart { (start end first count : ℕ) (bytes left : List ℕ) → DiffersWithin start end bytes left →
         (512 * (first + count) ≤ start) ⊎ (end ≤ 512 * first) →
         extent_of left first count ≡ extent_of bytes first count }

@@ -1,7 +1,7 @@
 //! An image that is a list of bytes in memory. Its calls never fail.
 
 ghost use Rattle.std.specs.Prelude.{◌≡◌, ◌≢◌, ◌+◌, ◌*◌, ◌%◌, ◌<◌, ◌≤◌, ◌↔◌, length, Some, IsSomeAnd, OnOk, IfOk, IsOk, IsErrOf, IsTrue, true};
-ghost use Rattle.sector_cache.specs.Disk.{IsAsTold, Tells, new_disk, written, written_from, flushed};
+ghost use Rattle.sector_cache.specs.Disk.{IsSectorContents, Tells, new_disk, written, written_from, flushed};
 ghost use Rattle.sector_cache.specs.Stop.{TouchesFrom, TouchesNothing, TouchesSector, unnumbered, unrecorded};
 
 use crate::fault::ImageFault;
@@ -13,7 +13,7 @@ use std::alloc::{Allocator, Global};
 #[derive(Drop)]
 pub struct MemoryImage<A: Allocator = Global> {
     bytes: Vec<u8, A>,
-    mark: bool,
+    dirty: bool,
     ghost whole: { length bytes.items % 512 ≡ 0 },
 }
 
@@ -29,21 +29,24 @@ impl<A: Allocator> MemoryImage<A> {
         if !sector::are_whole_sectors(bytes.len() as u64) {
             return Err(ImageFault::BadSize);
         }
-        Ok(MemoryImage { bytes, mark: false })
+        Ok(MemoryImage {
+            bytes,
+            dirty: false,
+        })
     }
 
     /// The bytes as they stand.
     pub fn bytes(&self) -> &[u8]
-        ensures { (disk_of self.now).told ≡ Some result.now }
+        ensures { (disk_of self.now).contents ≡ Some result.now }
     {
         self.bytes.as_slice()
     }
 
     /// Gives the bytes back as they stand.
     pub fn into_bytes(self) -> Vec<u8, A>
-        ensures { (disk_of self).told ≡ Some result.items }
+        ensures { (disk_of self).contents ≡ Some result.items }
     {
-        let MemoryImage { bytes, mark: _ } = self;
+        let MemoryImage { bytes, dirty: _ } = self;
         bytes
     }
 }
@@ -76,7 +79,7 @@ impl<A: Allocator> Image for MemoryImage<A> {
         ensures after { disk_of self.new ≡ written_from first from.now (disk_of self.old) }
         ensures touches { TouchesFrom unnumbered may_leave_of unrecorded first (length from.now) self.old self.new }
     {
-        self.mark = true;
+        self.dirty = true;
         sector::copy_all_into(&mut self.bytes, first, from);
         true
     }
@@ -85,7 +88,7 @@ impl<A: Allocator> Image for MemoryImage<A> {
     fn read_sector(&mut self, sector: u64, into: &mut [u8; 512]) -> Result<(), ImageError>
         requires { sector < (disk_of self.old).sector_count }
         ensures succeeds { IsOk result }
-        ensures read { IsAsTold (disk_of self.old) sector into.new }
+        ensures read { IsSectorContents (disk_of self.old) sector into.new }
         ensures after { disk_of self.new ≡ disk_of self.old }
         ensures touches { TouchesNothing unnumbered may_leave_of unrecorded self.old self.new }
     {
@@ -100,7 +103,7 @@ impl<A: Allocator> Image for MemoryImage<A> {
         ensures after { disk_of self.new ≡ written sector from.now (disk_of self.old) }
         ensures touches { TouchesSector unnumbered may_leave_of unrecorded sector self.old self.new }
     {
-        self.mark = true;
+        self.dirty = true;
         sector::copy_into(&mut self.bytes, sector, from);
         Ok(())
     }
@@ -111,7 +114,7 @@ impl<A: Allocator> Image for MemoryImage<A> {
         ensures after { disk_of self.new ≡ flushed (disk_of self.old) }
         ensures touches { TouchesNothing unnumbered may_leave_of unrecorded self.old self.new }
     {
-        self.mark = false;
+        self.dirty = false;
         Ok(())
     }
 
@@ -119,7 +122,7 @@ impl<A: Allocator> Image for MemoryImage<A> {
 
     ghost fits = { λ image. Prim.omega (arith, image.bytes.ok) };
 
-    ghost durable = { λ image left is clear. is };
+    ghost durable = { λ image left is clean. is };
 
     ghost counts_now = { λ image since left reached may. tt };
 }

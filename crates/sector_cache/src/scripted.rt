@@ -1,7 +1,7 @@
 //! An image in memory whose calls fail where a list says so, for tests of what stands on an image.
 
 ghost use Rattle.std.specs.Prelude.{◌≡◌, ◌≢◌, ◌%◌, ◌<◌, ◌≤◌, ◌↔◌, length, Some, OnOk, OnErr, IfOk, IsErr, IsErrOf, IsTrue, if◌then◌else◌};
-ghost use Rattle.sector_cache.specs.Disk.{IsAsTold, new_disk, failed, written, flushed};
+ghost use Rattle.sector_cache.specs.Disk.{IsSectorContents, new_disk, failed, written, flushed};
 ghost use Rattle.sector_cache.specs.Script.{new_script, Fails, called, flush_called, IsHalfWritten};
 ghost use Rattle.sector_cache.specs.Stop.{TouchesNothing, TouchesSector, unnumbered, unrecorded};
 
@@ -46,14 +46,14 @@ impl<A: Allocator> ScriptedImage<A> {
 
     /// The bytes as they stand.
     pub fn bytes(&self) -> &[u8]
-        ensures { (disk_of self.now).told ≡ Some result.now }
+        ensures { (disk_of self.now).contents ≡ Some result.now }
     {
         self.memory.bytes()
     }
 
     /// Gives the bytes back as they stand.
     pub fn into_bytes(self) -> Vec<u8, A>
-        ensures { (disk_of self).told ≡ Some result.items }
+        ensures { (disk_of self).contents ≡ Some result.items }
     {
         let ScriptedImage {
             memory,
@@ -125,7 +125,7 @@ impl<A: Allocator> Image for ScriptedImage<A> {
         requires { sector < (disk_of self.old).sector_count }
         ensures fails { IsErr result ↔ Fails (script_of self.old) }
         ensures script { script_of self.new ≡ called (script_of self.old) }
-        ensures read { OnOk result (IsAsTold (disk_of self.old) sector into.new) }
+        ensures read { OnOk result (IsSectorContents (disk_of self.old) sector into.new) }
         ensures ok { OnOk result (disk_of self.new ≡ disk_of self.old) }
         ensures err { OnErr result (disk_of self.new ≡ failed (disk_of self.old)) }
         ensures touches { TouchesNothing unnumbered may_leave_of unrecorded self.old self.new }
@@ -174,7 +174,7 @@ impl<A: Allocator> Image for ScriptedImage<A> {
 
     ghost fits = { λ image. Prim.omega (arith, image.memory.bytes.ok) };
 
-    ghost durable = { λ image left is clear. is };
+    ghost durable = { λ image left is clean. is };
 
     ghost counts_now = { λ image since left reached may. tt };
 }

@@ -57,7 +57,7 @@ pub in_place : (A : Type 0) (old : SessionState) (slot addr : ℕ) (found : Boar
     slice_get old.slots slot ≡ Some found → Inside found.memory addr (length bytes) →
     IsStep {A = A} old (record { slot = slot; what = MemWrite addr bytes }) Done (with_memory slot found (put found.memory addr bytes) old)
 in_place A old slot addr found bytes here inside =
-    was_written A old.slots (slice_set old.slots slot (record found { memory = put found.memory addr bytes })) old.image old.image old.mark old.mark old.outputs old.paused old.budget slot addr bytes
+    was_written A old.slots (slice_set old.slots slot (record found { memory = put found.memory addr bytes })) old.image old.image old.dirty old.dirty old.outputs old.paused old.budget slot addr bytes
     (answers A old.slots (disk_of old) slot found addr bytes here inside) (rw here refl) refl
 
 -- as many bytes as there are, put from the first place on, are all that there is

@@ -101,8 +101,8 @@ rested : (device : BlockDevice) (stage : Stage) (budget : Budget) (progress : Pr
     → Rested device stage budget progress old new start
 rested device stage budget progress old new before after start h =
     let p : PieceAs (exact_device device) (exact_device device) SameSectors (exact_same device) budget stage 0 (queue_at 0 old.block) progress old.memory new.memory old.block new.block (disk_with new.extent after) (disk_with old.extent start) =
-    piece_as (exact_device device) (exact_device device) SameSectors (exact_same device) budget stage 0 (queue_at 0 old.block) progress old.memory new.memory old.block new.block (disk_with old.extent before) (disk_with new.extent after) (disk_with old.extent start) (record { told = refl; sectors = refl }) h in
-    let is : p.state ≡ disk_with new.extent (health_of p.state) = same_disk new.extent p.state p.alike.told p.alike.sectors in
+    piece_as (exact_device device) (exact_device device) SameSectors (exact_same device) budget stage 0 (queue_at 0 old.block) progress old.memory new.memory old.block new.block (disk_with old.extent before) (disk_with new.extent after) (disk_with old.extent start) (record { contents = refl; sectors = refl }) h in
+    let is : p.state ≡ disk_with new.extent (health_of p.state) = same_disk new.extent p.state p.alike.contents p.alike.sectors in
     record {
       health = health_of p.state;
       served = subst (λ (d : Disk). ServesTo stage (exact_device device) budget 0 (queue_at 0 old.block) progress old.memory new.memory old.block new.block (disk_with old.extent start) d) is p.served;

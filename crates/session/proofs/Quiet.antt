@@ -39,20 +39,20 @@ pub quiet_write : {A : Type 0} (limit addr : ℕ) (bytes : List ℕ) (budget : B
 quiet_write limit addr bytes budget found after waiting left (turn.Answered reply) = tt
 quiet_write limit addr bytes budget found after waiting left (turn.More pause) = tt
 
-module _ (A : Type 0) (slots slots' : List BoardSlot) (image image' : List ℕ) (mark mark' : Bool) (outputs : List Waiting) (paused paused' : List (Option Pause)) (budget : Budget) (slot : ℕ) (what : EventKind A) (response : Response A)
+module _ (A : Type 0) (slots slots' : List BoardSlot) (image image' : List ℕ) (dirty dirty' : Bool) (outputs : List Waiting) (paused paused' : List (Option Pause)) (budget : Budget) (slot : ℕ) (what : EventKind A) (response : Response A)
     (many : length paused ≡ length outputs) (as_many_slots : length outputs ≡ length slots) (others : KeepsOthers slot slots slots') (extents : extents_of slots' ≡ extents_of slots) (no_read : HasNoRead what)
     (quiet : (limit : ℕ) (found after : SlotState) (waiting left : List ℕ) (t : Turn A) → BeginsWithin limit what budget found after waiting left t)
     (limited : response ≡ More → HasLimit budget) (not_idle : response ≡ Idle → ⊥) (missed : (response ≡ Answered BadSlot) ↔ (length slots ≤ slot))
-    (busy : response ≡ Busy → session slots' image' mark' outputs paused' budget ≡ session slots image mark outputs paused budget)
-    (bad_slot_keeps : response ≡ Answered BadSlot → session slots' image' mark' outputs paused' budget ≡ session slots image mark outputs paused budget)
-    (bad_range_keeps : SuitsCall {A = A} what (Answered BadRange) → response ≡ Answered BadRange → session slots' image' mark' outputs paused budget ≡ session slots image mark outputs paused budget)
+    (busy : response ≡ Busy → session slots' image' dirty' outputs paused' budget ≡ session slots image dirty outputs paused budget)
+    (bad_slot_keeps : response ≡ Answered BadSlot → session slots' image' dirty' outputs paused' budget ≡ session slots image dirty outputs paused budget)
+    (bad_range_keeps : SuitsCall {A = A} what (Answered BadRange) → response ≡ Answered BadRange → session slots' image' dirty' outputs paused budget ≡ session slots image dirty outputs paused budget)
     (unsuited : SuitsCall {A = A} what (Answered NoMemory) → ⊥)
-    (r : Responds budget (paced_of (session slots image mark outputs paused budget)) (Handle (record { slot = slot; what = what })) response [] [] (paced_of (session slots' image' mark' outputs paused' budget))) where
+    (r : Responds budget (paced_of (session slots image dirty outputs paused budget)) (Handle (record { slot = slot; what = what })) response [] [] (paced_of (session slots' image' dirty' outputs paused' budget))) where
   abbrev before_it : SessionState
-  before_it = session slots image mark outputs paused budget
+  before_it = session slots image dirty outputs paused budget
 
   abbrev behind_it : SessionState
-  behind_it = session slots' image' mark' outputs paused' budget
+  behind_it = session slots' image' dirty' outputs paused' budget
 
   abbrev its_event : Event A
   its_event = record { slot = slot; what = what }
@@ -78,14 +78,14 @@ module _ (A : Type 0) (slots slots' : List BoardSlot) (image image' : List ℕ) 
   handled_at (Some waiting) here =
       let same = stays_there outputs slot waiting here in
       let told : Responds budget (paced_of before_it) (Handle its_event) response waiting.bytes waiting.bytes (paced_of behind_it) = told_at waiting in
-      let suited = suits_call A slots slots' image image' mark mark' outputs paused paused' budget slot waiting waiting here many refl others extents what response told not_idle in
+      let suited = suits_call A slots slots' image image' dirty dirty' outputs paused paused' budget slot waiting waiting here many refl others extents what response told not_idle in
       record {
         call =
-            subst (λ (os : List Waiting). IsCall before_it (Handle its_event) response (session slots' image' mark' os paused' budget)) same
-            (called A slots slots' image image' mark mark' outputs paused paused' budget slot waiting waiting here many refl others extents what response (λ found later a b t is. quiet waiting.limit _ _ waiting.bytes waiting.bytes t) limited busy told);
+            subst (λ (os : List Waiting). IsCall before_it (Handle its_event) response (session slots' image' dirty' os paused' budget)) same
+            (called A slots slots' image image' dirty dirty' outputs paused paused' budget slot waiting waiting here many refl others extents what response (λ found later a b t is. quiet waiting.limit _ _ waiting.bytes waiting.bytes t) limited busy told);
         whole =
-            subst (λ (os : List Waiting). IsWhole before_it its_event response (session slots' image' mark' os paused' budget)) same
-            (whole A slots slots' image image' mark mark' outputs paused paused' budget slot waiting waiting here many refl others extents what response no_read told (λ found later a b t is. quiet waiting.limit _ _ waiting.bytes waiting.bytes t) missed (λ is. bad_range_keeps (subst (λ (a : Response A). SuitsCall what a) is suited) is)
+            subst (λ (os : List Waiting). IsWhole before_it its_event response (session slots' image' dirty' os paused' budget)) same
+            (whole A slots slots' image image' dirty dirty' outputs paused paused' budget slot waiting waiting here many refl others extents what response no_read told (λ found later a b t is. quiet waiting.limit _ _ waiting.bytes waiting.bytes t) missed (λ is. bad_range_keeps (subst (λ (a : Response A). SuitsCall what a) is suited) is)
             (λ is. absurd (unsuited (subst (λ (a : Response A). SuitsCall what a) is suited))) as_many_slots);
         suits = suited;
       }

@@ -72,13 +72,13 @@ behind {A} {old} {event} {reply} {new} output answers = record {
   appended = rw (← answers.appended) (sym (append-nil output));
 }
 
-wrote_at : (A : Type 0) (slots slots' : List BoardSlot) (image image' : List ℕ) (mark mark' : Bool) (outputs : List Waiting) (paused : List (Option Pause)) (budget : Budget) (slot addr : ℕ) (bytes : List ℕ) (o : Option BoardSlot) → slice_get slots slot ≡ o →
-    Answers {A = A} (world_of (session slots image mark outputs paused budget)) (record { slot = slot; what = MemWrite addr bytes }) Done [] [] (world_of (session slots' image' mark' outputs paused budget)) →
+wrote_at : (A : Type 0) (slots slots' : List BoardSlot) (image image' : List ℕ) (dirty dirty' : Bool) (outputs : List Waiting) (paused : List (Option Pause)) (budget : Budget) (slot addr : ℕ) (bytes : List ℕ) (o : Option BoardSlot) → slice_get slots slot ≡ o →
+    Answers {A = A} (world_of (session slots image dirty outputs paused budget)) (record { slot = slot; what = MemWrite addr bytes }) Done [] [] (world_of (session slots' image' dirty' outputs paused budget)) →
     IsSomeAnd o (λ found. slots' ≡ slice_set slots slot (record found { memory = put found.memory addr bytes })) →
     image' ≡ image →
-    IsStep {A = A} (session slots image mark outputs paused budget) (record { slot = slot; what = MemWrite addr bytes }) Done (session slots' image' mark' outputs paused budget)
-wrote_at A slots slots' image image' mark mark' outputs paused budget slot addr bytes None here answers stands same = absurd stands
-wrote_at A slots slots' image image' mark mark' outputs paused budget slot addr bytes (Some found) here answers stands same =
+    IsStep {A = A} (session slots image dirty outputs paused budget) (record { slot = slot; what = MemWrite addr bytes }) Done (session slots' image' dirty' outputs paused budget)
+wrote_at A slots slots' image image' dirty dirty' outputs paused budget slot addr bytes None here answers stands same = absurd stands
+wrote_at A slots slots' image image' dirty dirty' outputs paused budget slot addr bytes (Some found) here answers stands same =
     let fits : slot < length slots = slice_get_within slots slot found here in
     record {
       answers = behind _ answers;
@@ -98,10 +98,10 @@ wrote_at A slots slots' image image' mark mark' outputs paused budget slot addr 
     }
 
 -- what was written to it is the step of that write
-pub was_written : (A : Type 0) (slots slots' : List BoardSlot) (image image' : List ℕ) (mark mark' : Bool) (outputs : List Waiting) (paused : List (Option Pause)) (budget : Budget) (slot addr : ℕ) (bytes : List ℕ) →
-    Answers {A = A} (world_of (session slots image mark outputs paused budget)) (record { slot = slot; what = MemWrite addr bytes }) Done [] [] (world_of (session slots' image' mark' outputs paused budget)) →
+pub was_written : (A : Type 0) (slots slots' : List BoardSlot) (image image' : List ℕ) (dirty dirty' : Bool) (outputs : List Waiting) (paused : List (Option Pause)) (budget : Budget) (slot addr : ℕ) (bytes : List ℕ) →
+    Answers {A = A} (world_of (session slots image dirty outputs paused budget)) (record { slot = slot; what = MemWrite addr bytes }) Done [] [] (world_of (session slots' image' dirty' outputs paused budget)) →
     IsSomeAnd (slice_get slots slot) (λ found. slots' ≡ slice_set slots slot (record found { memory = put found.memory addr bytes })) →
     image' ≡ image →
-    IsStep {A = A} (session slots image mark outputs paused budget) (record { slot = slot; what = MemWrite addr bytes }) Done (session slots' image' mark' outputs paused budget)
-was_written A slots slots' image image' mark mark' outputs paused budget slot addr bytes answers stands same =
-    wrote_at A slots slots' image image' mark mark' outputs paused budget slot addr bytes (slice_get slots slot) refl answers stands same
+    IsStep {A = A} (session slots image dirty outputs paused budget) (record { slot = slot; what = MemWrite addr bytes }) Done (session slots' image' dirty' outputs paused budget)
+was_written A slots slots' image image' dirty dirty' outputs paused budget slot addr bytes answers stands same =
+    wrote_at A slots slots' image image' dirty dirty' outputs paused budget slot addr bytes (slice_get slots slot) refl answers stands same

@@ -58,11 +58,11 @@ as_many slots slots' same =
 
 -- a session over a board with these slots and this image
 abbrev pub shown : List BoardSlot → Disk → List Waiting → List (Option Pause) → Budget → SessionState
-shown slots disk outputs paused budget = record { slots = slots; image = bytes_of disk; mark = disk.mark; outputs = outputs; paused = paused; budget = budget }
+shown slots disk outputs paused budget = record { slots = slots; image = bytes_of disk; dirty = disk.dirty; outputs = outputs; paused = paused; budget = budget }
 
 -- a session with these slots and this image, what its consoles put out and what is paused
 abbrev pub session : List BoardSlot → List ℕ → Bool → List Waiting → List (Option Pause) → Budget → SessionState
-session slots image mark outputs paused budget = record { slots = slots; image = image; mark = mark; outputs = outputs; paused = paused; budget = budget }
+session slots image dirty outputs paused budget = record { slots = slots; image = image; dirty = dirty; outputs = outputs; paused = paused; budget = budget }
 
 -- the slot that is seen so
 shown_back : (slots : List BoardSlot) (bytes : List ℕ) (h : ℕ) (state : SlotState) → slice_get (map (state_of bytes) slots) h ≡ Some state → (slot : BoardSlot) × (slice_get slots h ≡ Some slot) × (state_of bytes slot ≡ state)
@@ -111,13 +111,13 @@ answered_is : {A : Type 0} (reply : Reply A) (t : Turn A) → Answered reply ≡
 answered_is reply (turn.Answered other) told = cc (told)
 answered_is reply (turn.More pause) told = absurd (cc (told))
 
-module _ (A : Type 0) (slots slots' : List BoardSlot) (image image' : List ℕ) (mark mark' : Bool) (outputs : List Waiting) (paused paused' : List (Option Pause)) (budget : Budget) (slot : ℕ) (before after : Waiting)
+module _ (A : Type 0) (slots slots' : List BoardSlot) (image image' : List ℕ) (dirty dirty' : Bool) (outputs : List Waiting) (paused paused' : List (Option Pause)) (budget : Budget) (slot : ℕ) (before after : Waiting)
     (here : slice_get outputs slot ≡ Some before) (many : length paused ≡ length outputs) (same_limit : after.limit ≡ before.limit) (others : KeepsOthers slot slots slots') (extents : extents_of slots' ≡ extents_of slots) where
   abbrev was : SessionState
-  was = session slots image mark outputs paused budget
+  was = session slots image dirty outputs paused budget
 
   abbrev now : SessionState
-  now = session slots' image' mark' (slice_set outputs slot after) paused' budget
+  now = session slots' image' dirty' (slice_set outputs slot after) paused' budget
 
   fits : slot < length outputs
   fits = slice_get_within outputs slot before here
@@ -160,7 +160,7 @@ module _ (A : Type 0) (slots slots' : List BoardSlot) (image image' : List ℕ) 
   }
 
   -- one that changes nothing
-  unturned : (output : List ℕ) → after.bytes ≡ before.bytes ++ output → output ≡ [] → session slots' image' mark' outputs paused' budget ≡ was → now ≡ was
+  unturned : (output : List ℕ) → after.bytes ≡ before.bytes ++ output → output ≡ [] → session slots' image' dirty' outputs paused' budget ≡ was → now ≡ was
   unturned output appended silent same =
       let quiet : after ≡ before = same_outlet after before (appended ∙ ap (λ (bytes : List ℕ). before.bytes ++ bytes) silent ∙ append-nil before.bytes) same_limit in
       rw (quiet, stays_there outputs slot before here) same
@@ -169,7 +169,7 @@ module _ (A : Type 0) (slots slots' : List BoardSlot) (image image' : List ℕ) 
 
   went_at : (response : Response A) (o : Option (Option Pause)) (output : List ℕ) (block console : ℕ) → (o ≡ None → ⊥)
       → ((pause : Pause) → o ≡ Some (Some pause) → Decides (λ limit found later. GoesOnWithin limit pause budget found later) response)
-      → (response ≡ Idle → session slots' image' mark' outputs paused' budget ≡ was) → after.bytes ≡ before.bytes ++ output
+      → (response ≡ Idle → session slots' image' dirty' outputs paused' budget ≡ was) → after.bytes ≡ before.bytes ++ output
       → paced.ComesTo budget (GoOn slot) o (paced_of was) response output block console (paced_of now) → ComesTo (GoOn slot) o was response now
   went_at response None output block console there decided idle appended comes = absurd (there refl)
   went_at response (Some None) output block console there decided idle appended comes = (comes.0, unturned output appended comes.1.silent (idle comes.0))
@@ -177,7 +177,7 @@ module _ (A : Type 0) (slots slots' : List BoardSlot) (image image' : List ℕ) 
       turned (GoesOn pause budget) (λ limit found later. GoesOnWithin limit pause budget found later) response output block console comes appended (decided pause refl)
 
   pub went_on : (response : Response A) → ((pause : Pause) → slice_get paused slot ≡ Some (Some pause) → Decides (λ limit found later. GoesOnWithin limit pause budget found later) response)
-      → (response ≡ Idle → session slots' image' mark' outputs paused' budget ≡ was) → Responds budget (paced_of was) (GoOn slot) response before.bytes after.bytes (paced_of now)
+      → (response ≡ Idle → session slots' image' dirty' outputs paused' budget ≡ was) → Responds budget (paced_of was) (GoOn slot) response before.bytes after.bytes (paced_of now)
       → IsCall was (GoOn slot) response now
   went_on response decided idle r = went_at response (slice_get paused slot) r.output r.block r.console (is_there outputs paused slot before here many) decided idle r.appended r.comes
 
@@ -189,7 +189,7 @@ module _ (A : Type 0) (slots slots' : List BoardSlot) (image image' : List ℕ) 
 
     begun_at : (response : Response A) (o : Option (Option Pause)) (output : List ℕ) (block console : ℕ) → (o ≡ None → ⊥)
         → Decides (λ limit found later. BeginsWithin limit what budget found later) response → (response ≡ More → HasLimit budget)
-        → (response ≡ Busy → session slots' image' mark' outputs paused' budget ≡ was) → after.bytes ≡ before.bytes ++ output
+        → (response ≡ Busy → session slots' image' dirty' outputs paused' budget ≡ was) → after.bytes ≡ before.bytes ++ output
         → paced.ComesTo budget (Handle event) o (paced_of was) response output block console (paced_of now) → ComesTo (Handle event) o was response now
     begun_at response None output block console there decided limited busy appended comes = absurd (there refl)
     begun_at response (Some None) output block console there decided limited busy appended comes = record {
@@ -199,7 +199,7 @@ module _ (A : Type 0) (slots slots' : List BoardSlot) (image image' : List ℕ) 
     begun_at response (Some (Some pause)) output block console there decided limited busy appended comes = (comes.0, unturned output appended comes.1.silent (busy comes.0))
 
     pub called : (response : Response A) → Decides (λ limit found later. BeginsWithin limit what budget found later) response → (response ≡ More → HasLimit budget)
-        → (response ≡ Busy → session slots' image' mark' outputs paused' budget ≡ was) → Responds budget (paced_of was) (Handle event) response before.bytes after.bytes (paced_of now)
+        → (response ≡ Busy → session slots' image' dirty' outputs paused' budget ≡ was) → Responds budget (paced_of was) (Handle event) response before.bytes after.bytes (paced_of now)
         → IsCall was (Handle event) response now
     called response decided limited busy r = begun_at response (slice_get paused slot) r.output r.block r.console (is_there outputs paused slot before here many) decided limited busy r.appended r.comes
 
@@ -224,7 +224,7 @@ module _ (A : Type 0) (slots slots' : List BoardSlot) (image image' : List ℕ) 
 
     -- it is a step
     stepped : (reply : Reply A) → HasNoRead what → Told (Answered reply) → Decides (λ limit found later. BeginsWithin limit what budget found later) (Answered reply)
-        → (reply ≡ BadSlot) ↔ (length slots ≤ slot) → (reply ≡ BadRange → session slots' image' mark' outputs paused budget ≡ was)
+        → (reply ≡ BadSlot) ↔ (length slots ≤ slot) → (reply ≡ BadRange → session slots' image' dirty' outputs paused budget ≡ was)
         → (reply ≡ NoMemory → IsSomeAnd (slice_get slots slot) (λ found. (bytes : List ℕ) → MayLackMemory (state_of bytes found) what)) → length outputs ≡ length slots → IsStep was event reply now
     stepped reply no_read r decided missing range memory as_many =
         let both = told_answers reply r in
@@ -259,7 +259,7 @@ module _ (A : Type 0) (slots slots' : List BoardSlot) (image image' : List ℕ) 
         told_outside (Some (Some pause)) output block console there comes = absurd (cc (comes.0))
 
     pub whole : (response : Response A) → HasNoRead what → Told response → Decides (λ limit found later. BeginsWithin limit what budget found later) response
-        → (response ≡ Answered BadSlot) ↔ (length slots ≤ slot) → (response ≡ Answered BadRange → session slots' image' mark' outputs paused budget ≡ was)
+        → (response ≡ Answered BadSlot) ↔ (length slots ≤ slot) → (response ≡ Answered BadRange → session slots' image' dirty' outputs paused budget ≡ was)
         → (response ≡ Answered NoMemory → IsSomeAnd (slice_get slots slot) (λ found. (bytes : List ℕ) → MayLackMemory (state_of bytes found) what)) → length outputs ≡ length slots → IsWhole was event response now
     whole (Answered reply) no_read r decided missing range memory as_many =
         stepped reply no_read r decided (λ is. missing.0 (ap (λ (a : Reply A). Answered a) is), λ past. cc (missing.1 past)) (λ is. range (ap (λ (a : Reply A). Answered a) is)) (λ is. memory (ap (λ (a : Reply A). Answered a) is)) as_many

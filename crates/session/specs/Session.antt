@@ -35,14 +35,14 @@ none_waiting limit = record { bytes = []; limit = limit }
 pub record SessionState : Type 0 where
   pub slots : List BoardSlot
   pub image : List ℕ
-  pub mark : Bool
+  pub dirty : Bool
   pub outputs : List Waiting
   pub paused : List (Option Pause)
   pub budget : Budget
 
 -- the image: it tells its bytes, and none of its calls fails
 abbrev pub disk_of : SessionState → Disk
-disk_of session = record (new_disk session.image) { mark = session.mark }
+disk_of session = record (new_disk session.image) { dirty = session.dirty }
 
 -- what can be seen of the board
 abbrev pub world_of : SessionState → World
@@ -111,7 +111,7 @@ abbrev pub new_session : List GuestSpec → List ℕ → Budget → SessionState
 new_session guests image budget = record {
   slots = map opened (slots_of guests);
   image = image;
-  mark = false;
+  dirty = false;
   outputs = map (λ guest. none_waiting guest.outlet) guests;
   paused = replicate (length guests) None;
   budget = budget;

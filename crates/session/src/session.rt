@@ -53,7 +53,7 @@ impl<A: Allocator> Model for Session<A> {
     ghost view = { λ s. record {
       slots = s.paced.board.slots;
       image = bytes_of (memory_disk_of s.paced.board.image);
-      mark = (memory_disk_of s.paced.board.image).mark;
+      dirty = (memory_disk_of s.paced.board.image).dirty;
       outputs = s.outputs.items;
       paused = s.paced.paused;
       budget = s.paced.budget;
@@ -135,7 +135,7 @@ impl<A: Allocator + Copy> Session<A> {
         ensures made { IfOk result (λ session. session ≡ record {
           slots = board.slots;
           image = bytes_of (disk_of board.image);
-          mark = (disk_of board.image).mark;
+          dirty = (disk_of board.image).dirty;
           outputs = map (λ guest. none_waiting guest.outlet) guests.now;
           paused = replicate (length guests.now) None;
           budget = budget;

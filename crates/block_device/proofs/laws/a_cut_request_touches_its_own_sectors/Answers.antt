@@ -1,4 +1,4 @@
-use Rattle.block_device.proofs.Touching.{chains_known, chains_last, chains_seen, chains_told, chains_touch}
+use Rattle.block_device.proofs.Touching.{chains_known, chains_last, chains_seen, chains_leave_contents, chains_touch}
 use Rattle.block_device.proofs.laws.a_cut_request_touches_its_own_sectors.Goals as goal
 
 pub returns-clause-served : goal.returns-clause-served
@@ -14,10 +14,10 @@ returns-clause-known g c = λ device start at chains since sector bytes left ser
     chains_known g.I.Image.disk g.I.Image.moment g.I.Image.may_leave g.I.Image.left_since device start at
     chains since sector left serves begins past other bytes only
 
-pub returns-clause-told : goal.returns-clause-told
-returns-clause-told g c = λ device start at chains since sector left serves clear begins past other.
-    chains_told g.I.Image.disk g.I.Image.moment g.I.Image.may_leave g.I.Image.left_since device start at
-    chains since sector left serves begins past other (g.met.I.Image.durable start.state) clear
+pub returns-clause-contents : goal.returns-clause-contents
+returns-clause-contents g c = λ device start at chains since sector left serves clean begins past other.
+    chains_leave_contents g.I.Image.disk g.I.Image.moment g.I.Image.may_leave g.I.Image.left_since device start at
+    chains since sector left serves begins past other (g.met.I.Image.durable start.state) clean
 
 pub returns-clause-lasts : goal.returns-clause-lasts
 returns-clause-lasts g c = λ device start at answered later since sector left serves committed begins past other.

@@ -8,7 +8,7 @@ returns-in-Some-clause-done g c =
     let disk = g.I.Image.disk c.args.cache.now in
     let first = c.args.self.now.extent.start + c.args.sector in
     let run = reading_run c.args.chain.now c.args.mem.now c.write_at.new.mem disk first c.args.count c.in-Some.bytes.now
-    c.in-Some.ensures.len c.in-Some.ensures.told c.write_at.ensures.written c.write_at.ensures.same_range in
+    c.in-Some.ensures.len c.in-Some.ensures.contents c.write_at.ensures.written c.write_at.ensures.same_range in
     reading_done c.args.self.now.extent c.args.chain.now c.args.mem.now c.write_at.new.mem disk disk c.args.sector c.args.count c.args.count (512 * c.args.count)
     run refl refl c.requires.sectors
 

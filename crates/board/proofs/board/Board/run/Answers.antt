@@ -27,7 +27,7 @@ loop-done-preserved g c =
           reached_next (world c.args.self.now) (world c.loop-done.self) (world c.handle-handled.new.self) c.args.events.now c.loop-done.done c.index-events-done.result
           handled.reply handled.block_irq handled.console_irq c.handle-handled.new.out.items c.args.records.now.items c.loop-done.records.items c.put.new.records.items
           (omega arith) c.index-events-done.is (c.loop-done.invariant.reached tells)
-          (rw c.new-output.ensures.items at (c.handle-handled.ensures.handles (c.loop-done.invariant.stays.told tells)))
+          (rw c.new-output.ensures.items at (c.handle-handled.ensures.handles (c.loop-done.invariant.stays.tells tells)))
           (rw (c.reserve.ensures.items, c.from.ensures) at c.put.ensures);
       words = λ before. words_more c.loop-done.records.items c.put.new.records.items _ (rw (c.reserve.ensures.items, c.from.ensures) at c.put.ensures) (c.loop-done.invariant.words before) c.handle-handled.ensures.words;
       missing = λ before. missing_more c.args.self.now.slots c.loop-done.self.slots c.loop-done.records.items c.put.new.records.items c.index-events-done.result.slot

@@ -41,7 +41,7 @@ returns-clause-takes g c tells below =
     let old = g.I.Image.disk c.self.inside.cache in
     let new = g.I.Image.disk c.turn-turn.new.cache in
     let telling : Tells old = subst (λ b. Tells (g.I.Image.disk b.image)) (sym c.self.view_is) tells in
-    let kept = outside_kept c.in-Some.slot.now.extent old.told new.told telling c.turn-turn.ensures.stays.image.outside.told in
+    let kept = outside_kept c.in-Some.slot.now.extent old.contents new.contents telling c.turn-turn.ensures.stays.image.outside.contents in
     rw (← c.self.view_is, c.after.ensures.turn)
     (takes _ c.self.inside.slots.items old new c.args.slot c.in-Some.slot.now c.turn-turn.new.self c.turn-turn.result _ _ _ _
     c.self.invariant.apart (there g c) c.turn-turn.ensures.stays.extent c.turn-turn.ensures.noted kept.outside (c.turn-turn.ensures.serves telling) c.after.ensures.shown)

@@ -12,7 +12,7 @@ returns-in-Block-clause-serves g c = λ tells.
     let served = c.serve_block-progress in
     let new = g.I.Image.disk served.new.cache in
     let slot = c.args.self.now in
-    let kept = outside_kept slot.extent old.told new.told tells served.ensures.stays.outside.told in
+    let kept = outside_kept slot.extent old.contents new.contents tells served.ensures.stays.outside.contents in
     let lies : IsWithin new.sector_count slot.extent = omega (arith, c.requires.lies, served.ensures.stays.outside.sectors) in
     rw (served.ensures.rest, c.turn.ensures)
     (silent_turn c.args.pause c.args.stage c.args.budget served.result.progress _ _ _ _ (g.O.Outlet.bytes c.args.out.now)
