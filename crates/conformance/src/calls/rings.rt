@@ -2,7 +2,7 @@
 
 use crate::calls::answer::{put_result, put_word, written};
 use crate::calls::chains::Chains;
-use crate::calls::subject::{Stuck, Subject};
+use crate::calls::subject::{Answered, Stuck, Subject};
 use crate::calls::words::Words;
 use chain::{Chain, Fault, Virtqueue};
 use guest_memory::GuestMemory;
@@ -18,55 +18,57 @@ pub(crate) struct Rings {
     queue: Option<Queue>,
 }
 
-/// How a queue is made.
+/// How a queue is made: its size, its areas of descriptors, driver and device, and whether VIRTIO_F_INDIRECT_DESC and
+/// VIRTIO_F_EVENT_IDX were negotiated.
 #[derive(Clone, Copy)]
 struct Setup {
     size: u32,
-    descriptors: u64,
-    driver: u64,
-    device: u64,
-    indirect: bool,
-    event_idx: bool,
+    areas: (u64, u64, u64),
+    features: (bool, bool),
 }
 
 impl Setup {
     fn read(words: &mut Words<'_>) -> Setup {
         Setup {
             size: words.u32(),
-            descriptors: words.u64(),
-            driver: words.u64(),
-            device: words.u64(),
-            indirect: words.choice("indirect", "-"),
-            event_idx: words.choice("event_idx", "-"),
+            areas: (words.u64(), words.u64(), words.u64()),
+            features: (
+                words.choice("indirect", "-"),
+                words.choice("event_idx", "-"),
+            ),
         }
     }
 
     /// A split queue of this kind, if there can be one.
     fn split(self, mem: &GuestMemory) -> Option<Queue> {
-        let ring = SplitRing::new(
+        let (descriptors, driver, device) = self.areas;
+        let (indirect, event_idx) = self.features;
+        SplitRing::new(
             mem,
             self.size,
-            self.descriptors,
-            self.driver,
-            self.device,
-            self.indirect,
-            self.event_idx,
-        );
-        ring.map(Queue::Split)
+            descriptors,
+            driver,
+            device,
+            indirect,
+            event_idx,
+        )
+        .map(Queue::Split)
     }
 
     /// A packed one.
     fn packed(self, mem: &GuestMemory) -> Option<Queue> {
-        let ring = PackedRing::new(
+        let (descriptors, driver, device) = self.areas;
+        let (indirect, event_idx) = self.features;
+        PackedRing::new(
             mem,
             self.size,
-            self.descriptors,
-            self.driver,
-            self.device,
-            self.indirect,
-            self.event_idx,
-        );
-        ring.map(Queue::Packed)
+            descriptors,
+            driver,
+            device,
+            indirect,
+            event_idx,
+        )
+        .map(Queue::Packed)
     }
 }
 
@@ -79,15 +81,10 @@ impl Rings {
     }
 
     // Makes a queue.
-    fn set_up(
-        &mut self,
-        word: &str,
-        words: &mut Words<'_>,
-        answer: &mut String,
-    ) -> Result<(), Stuck> {
+    fn set_up(&mut self, words: &mut Words<'_>, answer: &mut String) -> Answered {
         let setup = Setup::read(words);
         let mem = &self.below.below.mem;
-        self.queue = match word {
+        self.queue = match words.name() {
             "split" => setup.split(mem),
             _ => setup.packed(mem),
         };
@@ -95,17 +92,12 @@ impl Rings {
     }
 
     // One of the four calls, or a whole service.
-    fn serve(
-        &mut self,
-        word: &str,
-        words: &mut Words<'_>,
-        answer: &mut String,
-    ) -> Result<(), Stuck> {
+    fn serve(&mut self, words: &mut Words<'_>, answer: &mut String) -> Answered {
         let Some(queue) = &mut self.queue else {
             return Err(Stuck::Conditions);
         };
         let mem = &mut self.below.below.mem;
-        match word {
+        match words.name() {
             "open" => put_result(answer, open(queue, mem)?),
             "take" => put_taken(answer, take(queue, mem, &mut self.below.chain)?),
             "use" => {
@@ -189,7 +181,7 @@ fn put_service(
     queue: &mut Queue,
     mem: &mut GuestMemory,
     len: u32,
-) -> Result<(), Stuck> {
+) -> Answered {
     let used = Used {
         len,
         wrote: len > 0,
@@ -207,11 +199,11 @@ fn put_service(
     put_close(answer, close(queue, mem)?)
 }
 
-fn put_close(answer: &mut String, wanted: bool) -> Result<(), Stuck> {
+fn put_close(answer: &mut String, wanted: bool) -> Answered {
     put_word(answer, if wanted { "wanted" } else { "unwanted" })
 }
 
-fn put_used(answer: &mut String, used: Result<bool, Fault>) -> Result<(), Stuck> {
+fn put_used(answer: &mut String, used: Result<bool, Fault>) -> Answered {
     match used {
         Ok(true) => put_word(answer, "used"),
         Ok(false) => put_word(answer, "none"),
@@ -219,7 +211,7 @@ fn put_used(answer: &mut String, used: Result<bool, Fault>) -> Result<(), Stuck>
     }
 }
 
-fn put_taken(answer: &mut String, taken: Result<Option<Token>, Fault>) -> Result<(), Stuck> {
+fn put_taken(answer: &mut String, taken: Result<Option<Token>, Fault>) -> Answered {
     match taken {
         Ok(Some(token)) => put_token(answer, token),
         Ok(None) => put_word(answer, "none"),
@@ -228,7 +220,7 @@ fn put_taken(answer: &mut String, taken: Result<Option<Token>, Fault>) -> Result
 }
 
 /// The place, and of a split ring the head, of a packed one the buffer id and the number of descriptors.
-fn put_token(answer: &mut String, token: Token) -> Result<(), Stuck> {
+fn put_token(answer: &mut String, token: Token) -> Answered {
     match token {
         Token::Split(split_ring::Token { place, head }) => {
             written(write!(answer, "place {place:x} head {head:x}"))
@@ -240,13 +232,11 @@ fn put_token(answer: &mut String, token: Token) -> Result<(), Stuck> {
 }
 
 impl Subject for Rings {
-    fn call(&mut self, words: &mut Words<'_>, answer: &mut String) -> Result<(), Stuck> {
-        match words.word() {
-            word @ ("split" | "packed") => self.set_up(word, words, answer),
-            word @ ("open" | "take" | "use" | "close" | "service") => {
-                self.serve(word, words, answer)
-            }
-            word => self.below.make(word, words, answer),
+    fn call(&mut self, words: &mut Words<'_>, answer: &mut String) -> Answered {
+        match words.name() {
+            "split" | "packed" => self.set_up(words, answer),
+            "open" | "take" | "use" | "close" | "service" => self.serve(words, answer),
+            _ => self.below.make(words, answer),
         }
     }
 }
