@@ -5,7 +5,7 @@ ghost use Rattle.chain.specs.Buffers.{Good};
 
 use crate::calls::answer::{put_bytes, put_number, put_result, put_word, written};
 use crate::calls::memory::Memory;
-use crate::calls::subject::{Stuck, Subject};
+use crate::calls::subject::{Answered, Stuck, Subject};
 use crate::calls::words::Words;
 use chain::{Buffer, Chain, Fault, Segment};
 use guest_memory::GuestMemory;
@@ -28,13 +28,8 @@ impl Chains {
     }
 
     /// The calls of any subject that has a chain.
-    pub(crate) fn make(
-        &mut self,
-        word: &str,
-        words: &mut Words<'_>,
-        answer: &mut String,
-    ) -> Result<(), Stuck> {
-        match word {
+    pub(crate) fn make(&mut self, words: &mut Words<'_>, answer: &mut String) -> Answered {
+        match words.name() {
             "push" => self.push(words, answer),
             "clear" => {
                 self.chain.clear();
@@ -42,13 +37,13 @@ impl Chains {
             }
             "lengths" => self.lengths(answer),
             "buffers" => put_buffers(answer, self.chain.buffers()),
-            "split_table" | "packed_table" => self.append(word, words, answer),
-            _ => self.reach(word, words, answer),
+            "split_table" | "packed_table" => self.append(words, answer),
+            _ => self.reach(words, answer),
         }
     }
 
     // Pushes the same buffer so many times, until one is refused.
-    fn push(&mut self, words: &mut Words<'_>, answer: &mut String) -> Result<(), Stuck> {
+    fn push(&mut self, words: &mut Words<'_>, answer: &mut String) -> Answered {
         let count = words.u16();
         let addr = words.u64();
         let len = words.u32();
@@ -62,23 +57,18 @@ impl Chains {
     }
 
     // How many buffers there are, and how many bytes that may be read and that may be written.
-    fn lengths(&self, answer: &mut String) -> Result<(), Stuck> {
+    fn lengths(&self, answer: &mut String) -> Answered {
         let count = self.chain.buffers().len();
         let (readable, writable) = (self.chain.readable_len(), self.chain.writable_len());
         written(write!(answer, "{count:x} {readable:x} {writable:x}"))
     }
 
     // Appends the buffers of an indirect table.
-    fn append(
-        &mut self,
-        word: &str,
-        words: &mut Words<'_>,
-        answer: &mut String,
-    ) -> Result<(), Stuck> {
+    fn append(&mut self, words: &mut Words<'_>, answer: &mut String) -> Answered {
         let addr = words.u64();
         let len = words.u32();
         let mem = &self.below.mem;
-        let appended = match word {
+        let appended = match words.name() {
             "split_table" => append_split(mem, addr, len, &mut self.chain),
             _ => append_packed(mem, addr, len, &mut self.chain),
         };
@@ -86,23 +76,18 @@ impl Chains {
     }
 
     // The calls that reach the chain's bytes by their places.
-    fn reach(
-        &mut self,
-        word: &str,
-        words: &mut Words<'_>,
-        answer: &mut String,
-    ) -> Result<(), Stuck> {
-        match word {
+    fn reach(&mut self, words: &mut Words<'_>, answer: &mut String) -> Answered {
+        match words.name() {
             "rest" => self.rest(words.u64(), answer),
             "part" => self.part(words.u64(), words.u64(), words.u8(), answer),
             "read" => self.read(words.u64(), words.u16(), answer),
             "write_at" => self.write_at(words, answer),
-            _ => self.below.make(word, words, answer),
+            _ => self.below.make(words, answer),
         }
     }
 
     // The readable bytes from a place to the end of its segment.
-    fn rest(&self, from: u64, answer: &mut String) -> Result<(), Stuck> {
+    fn rest(&self, from: u64, answer: &mut String) -> Answered {
         let mem = &self.below.mem;
         let chain = good_chain(mem, self.chain.buffers())?;
         if from >= chain.readable_len() {
@@ -112,7 +97,7 @@ impl Chains {
     }
 
     // Fills what is lent from a writable place on, and answers how long it is.
-    fn part(&mut self, from: u64, most: u64, byte: u8, answer: &mut String) -> Result<(), Stuck> {
+    fn part(&mut self, from: u64, most: u64, byte: u8, answer: &mut String) -> Answered {
         let mem = &mut self.below.mem;
         let chain = good_chain(mem, self.chain.buffers())?;
         if from >= chain.writable_len() || most == 0 {
@@ -124,7 +109,7 @@ impl Chains {
     }
 
     // So many readable bytes from a place on.
-    fn read(&self, from: u64, count: u16, answer: &mut String) -> Result<(), Stuck> {
+    fn read(&self, from: u64, count: u16, answer: &mut String) -> Answered {
         let mem = &self.below.mem;
         let chain = good_chain(mem, self.chain.buffers())?;
         let mut bytes = vec![in self.below.alloc; 0; usize::from(count)]?;
@@ -137,7 +122,7 @@ impl Chains {
     }
 
     // Writes bytes from a writable place on.
-    fn write_at(&mut self, words: &mut Words<'_>, answer: &mut String) -> Result<(), Stuck> {
+    fn write_at(&mut self, words: &mut Words<'_>, answer: &mut String) -> Answered {
         let from = words.u64();
         let bytes = words.bytes(self.below.alloc)?;
         let mem = &mut self.below.mem;
@@ -181,14 +166,14 @@ fn push_some(
 }
 
 /// Buffers one after another: the address, the length, and whether a device reads or writes them.
-fn put_buffers(answer: &mut String, buffers: &[Buffer]) -> Result<(), Stuck> {
+fn put_buffers(answer: &mut String, buffers: &[Buffer]) -> Answered {
     for buffer in buffers {
         put_buffer(answer, *buffer)?;
     }
     put_word(answer, if buffers.is_empty() { "-" } else { "" })
 }
 
-fn put_buffer(answer: &mut String, buffer: Buffer) -> Result<(), Stuck> {
+fn put_buffer(answer: &mut String, buffer: Buffer) -> Answered {
     let Segment { addr, len } = buffer.segment;
     let space = if answer.is_empty() { "" } else { " " };
     let end = if buffer.writable { "w" } else { "r" };
@@ -196,8 +181,7 @@ fn put_buffer(answer: &mut String, buffer: Buffer) -> Result<(), Stuck> {
 }
 
 impl Subject for Chains {
-    fn call(&mut self, words: &mut Words<'_>, answer: &mut String) -> Result<(), Stuck> {
-        let word = words.word();
-        self.make(word, words, answer)
+    fn call(&mut self, words: &mut Words<'_>, answer: &mut String) -> Answered {
+        self.make(words, answer)
     }
 }

@@ -5,7 +5,7 @@ use crate::calls::guests::Guests;
 use crate::calls::memory::Memory;
 use crate::calls::rings::Rings;
 use crate::calls::row::{Row, row_of};
-use crate::calls::subject::{Stuck, Subject};
+use crate::calls::subject::{Answered, Stuck, Subject};
 use crate::calls::wants::Wants;
 use crate::calls::windows::Windows;
 use crate::calls::words::Words;
@@ -135,7 +135,7 @@ fn tell<W: Write>(
     file: &str,
     number: usize,
     row: Row<'_>,
-    made: Result<(), Stuck>,
+    made: Answered,
     found: &str,
     out: &mut W,
 ) -> io::Result<bool> {

@@ -7,7 +7,7 @@ mod snapshots;
 
 use crate::calls::answer::{put_number, put_word};
 use crate::calls::memory::regions_of;
-use crate::calls::subject::{Stuck, Subject};
+use crate::calls::subject::{Answered, Stuck, Subject};
 use crate::calls::words::Words;
 use board::{Board, Event, Extent, RegionSpec, Regions, SlotSpec};
 use linked_list_allocator::LocalHeap;
@@ -75,7 +75,7 @@ impl<'h, B: Allocator> Guests<'h, B> {
     }
 
     // Begins anew, over an image of so many bytes whose calls of these numbers fail. Each byte of sector k is 10 + k.
-    fn begin(&mut self, words: &mut Words<'_>, answer: &mut String) -> Result<(), Stuck> {
+    fn begin(&mut self, words: &mut Words<'_>, answer: &mut String) -> Answered {
         let image = image_of(self.alloc, words.u32())?;
         let failing = numbers_of(self.alloc, &words.bytes(self.alloc)?)?;
         *self = Guests::new(self.alloc, self.local, self.heap);
@@ -85,7 +85,7 @@ impl<'h, B: Allocator> Guests<'h, B> {
     }
 
     // Asks for so many guests more, each with so much room for its output.
-    fn ask(&mut self, words: &mut Words<'_>, answer: &mut String) -> Result<(), Stuck> {
+    fn ask(&mut self, words: &mut Words<'_>, answer: &mut String) -> Answered {
         let times = words.u8();
         let outlet = words.u32();
         let slot = slot_of(self.alloc, words)?;
@@ -103,13 +103,13 @@ impl<'h, B: Allocator> Guests<'h, B> {
     }
 
     // Puts an event behind the list.
-    fn plan(&mut self, words: &mut Words<'_>, answer: &mut String) -> Result<(), Stuck> {
+    fn plan(&mut self, words: &mut Words<'_>, answer: &mut String) -> Answered {
         self.events.push(event_of(self.heap, words.rest())?)?;
         put_word(answer, "ok")
     }
 
     // A driver brings a device of a slot up with one queue, of so many entries.
-    fn bring_up(&mut self, words: &mut Words<'_>, answer: &mut String) -> Result<(), Stuck> {
+    fn bring_up(&mut self, words: &mut Words<'_>, answer: &mut String) -> Answered {
         let (slot, window) = (words.word(), words.word());
         let queue = [(0x030, words.u32()), (0x038, words.u32())];
         self.write_all(slot, window, &NEGOTIATED)?;
@@ -119,7 +119,7 @@ impl<'h, B: Allocator> Guests<'h, B> {
     }
 
     // Writes registers of a window: offsets and values.
-    fn write_all(&mut self, slot: &str, window: &str, writes: &[(u16, u32)]) -> Result<(), Stuck> {
+    fn write_all(&mut self, slot: &str, window: &str, writes: &[(u16, u32)]) -> Answered {
         for (offset, value) in writes {
             let line = format!(in self.alloc; "w {slot} {window} {offset:03x} 4 {value:08x}")?;
             self.event(line.as_str(), &mut String::new(self.alloc))?;
@@ -128,7 +128,7 @@ impl<'h, B: Allocator> Guests<'h, B> {
     }
 
     /// The call of an event, of the session or the board.
-    pub(super) fn event(&mut self, line: &str, answer: &mut String) -> Result<(), Stuck> {
+    pub(super) fn event(&mut self, line: &str, answer: &mut String) -> Answered {
         if self.session.is_some() {
             let event = event_of(self.alloc, line)?;
             self.call_event(&event, answer)
@@ -139,8 +139,8 @@ impl<'h, B: Allocator> Guests<'h, B> {
 }
 
 impl<B: Allocator> Subject for Guests<'_, B> {
-    fn call(&mut self, words: &mut Words<'_>, answer: &mut String) -> Result<(), Stuck> {
-        match words.word() {
+    fn call(&mut self, words: &mut Words<'_>, answer: &mut String) -> Answered {
+        match words.name() {
             "image" => self.begin(words, answer),
             "guests" => self.ask(words, answer),
             "up" => self.bring_up(words, answer),
@@ -148,7 +148,7 @@ impl<B: Allocator> Subject for Guests<'_, B> {
             "used" => put_number(answer, self.local.used() as u64),
             "board" => self.make_board(words, answer),
             "session" => self.make_session(words, answer),
-            word => self.call_board(word, words, answer),
+            _ => self.call_board(words, answer),
         }
     }
 }

@@ -3,7 +3,7 @@
 ghost use Rattle.guest_memory.specs.Memory.{SameRange};
 
 use crate::calls::answer::{put_bytes, put_flag, put_number, put_option, put_result, put_word};
-use crate::calls::subject::{Stuck, Subject};
+use crate::calls::subject::{Answered, Stuck, Subject};
 use crate::calls::words::Words;
 use guest_memory::{GuestMemory, RegionSpec};
 use std::alloc::Global;
@@ -36,32 +36,22 @@ impl Memory {
     }
 
     /// The calls of any subject that has a memory.
-    pub(crate) fn make(
-        &mut self,
-        word: &str,
-        words: &mut Words<'_>,
-        answer: &mut String,
-    ) -> Result<(), Stuck> {
-        match word {
+    pub(crate) fn make(&mut self, words: &mut Words<'_>, answer: &mut String) -> Answered {
+        match words.name() {
             "memory" => self.replace(words, answer),
             "holds" => self.holds(words, answer),
             "bytes" => self.bytes(words, answer),
             "write" => self.write(words, answer),
             "descriptor" => self.descriptor(words, answer),
             "descriptors" => self.descriptors(words, answer),
-            _ => self.number(word, words, answer),
+            _ => self.number(words, answer),
         }
     }
 
     // Puts or gets a number.
-    fn number(
-        &mut self,
-        word: &str,
-        words: &mut Words<'_>,
-        answer: &mut String,
-    ) -> Result<(), Stuck> {
+    fn number(&mut self, words: &mut Words<'_>, answer: &mut String) -> Answered {
         let addr = words.u64();
-        match word {
+        match words.name() {
             "put16" => put_inside(answer, self.mem.put_u16(addr, words.u16())),
             "put32" => put_inside(answer, self.mem.put_u32(addr, words.u32())),
             "put64" => put_inside(answer, self.mem.put_u64(addr, words.u64())),
@@ -73,17 +63,17 @@ impl Memory {
     }
 
     // Makes another memory.
-    fn replace(&mut self, words: &mut Words<'_>, answer: &mut String) -> Result<(), Stuck> {
+    fn replace(&mut self, words: &mut Words<'_>, answer: &mut String) -> Answered {
         self.mem = memory_of(self.alloc, &regions_of(self.alloc, words)?)?;
         put_word(answer, "ok")
     }
 
-    fn holds(&self, words: &mut Words<'_>, answer: &mut String) -> Result<(), Stuck> {
+    fn holds(&self, words: &mut Words<'_>, answer: &mut String) -> Answered {
         put_flag(answer, self.mem.holds(words.u64(), words.u64()))
     }
 
     // The bytes of a range, or none.
-    fn bytes(&self, words: &mut Words<'_>, answer: &mut String) -> Result<(), Stuck> {
+    fn bytes(&self, words: &mut Words<'_>, answer: &mut String) -> Answered {
         match self.mem.part(words.u64(), words.u64()) {
             Some(bytes) => put_bytes(self.alloc, answer, bytes),
             None => put_word(answer, "none"),
@@ -91,7 +81,7 @@ impl Memory {
     }
 
     // Writes bytes through a lent slice.
-    fn write(&mut self, words: &mut Words<'_>, answer: &mut String) -> Result<(), Stuck> {
+    fn write(&mut self, words: &mut Words<'_>, answer: &mut String) -> Answered {
         let addr = words.u64();
         let bytes = words.bytes(self.alloc)?;
         let len = bytes.len() as u64;
@@ -103,14 +93,14 @@ impl Memory {
     }
 
     // Puts a descriptor.
-    fn descriptor(&mut self, words: &mut Words<'_>, answer: &mut String) -> Result<(), Stuck> {
+    fn descriptor(&mut self, words: &mut Words<'_>, answer: &mut String) -> Answered {
         let at = words.u64();
         let descriptor = Descriptor::read(words);
         put_inside(answer, put_descriptor(&mut self.mem, at, descriptor))
     }
 
     // Puts descriptors one behind another.
-    fn descriptors(&mut self, words: &mut Words<'_>, answer: &mut String) -> Result<(), Stuck> {
+    fn descriptors(&mut self, words: &mut Words<'_>, answer: &mut String) -> Answered {
         let count = words.u16();
         let step = words.u16();
         let at = words.u64();
@@ -122,7 +112,7 @@ impl Memory {
     }
 
     // Tries to make a memory on the heap that may refuse.
-    fn try_new(&self, words: &mut Words<'_>, answer: &mut String) -> Result<(), Stuck> {
+    fn try_new(&self, words: &mut Words<'_>, answer: &mut String) -> Answered {
         match GuestMemory::with_regions(&self.heap, &regions_of(self.alloc, words)?) {
             Ok(_) => put_word(answer, "ok"),
             Err(fault) => put_result(answer, Err(fault)),
@@ -199,13 +189,13 @@ fn put_descriptors(
 }
 
 /// `ok`, or `outside`.
-pub(crate) fn put_inside(answer: &mut String, is_inside: bool) -> Result<(), Stuck> {
+pub(crate) fn put_inside(answer: &mut String, is_inside: bool) -> Answered {
     put_word(answer, if is_inside { "ok" } else { "outside" })
 }
 
 impl Subject for Memory {
-    fn call(&mut self, words: &mut Words<'_>, answer: &mut String) -> Result<(), Stuck> {
-        match words.word() {
+    fn call(&mut self, words: &mut Words<'_>, answer: &mut String) -> Answered {
+        match words.name() {
             "new" => self.try_new(words, answer),
             "refuse_from" => {
                 self.heap.refuse_from(words.u64());
@@ -217,7 +207,7 @@ impl Subject for Memory {
             }
             "requests" => put_number(answer, self.heap.requests()),
             "has_refused" => put_flag(answer, self.heap.has_refused()),
-            word => self.make(word, words, answer),
+            _ => self.make(words, answer),
         }
     }
 }

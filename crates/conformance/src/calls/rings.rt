@@ -2,7 +2,7 @@
 
 use crate::calls::answer::{put_result, put_word, written};
 use crate::calls::chains::Chains;
-use crate::calls::subject::{Stuck, Subject};
+use crate::calls::subject::{Answered, Stuck, Subject};
 use crate::calls::words::Words;
 use chain::{Chain, Fault, Setup, Virtqueue};
 use guest_memory::GuestMemory;
@@ -39,15 +39,10 @@ impl Rings {
     }
 
     // Makes a queue.
-    fn set_up(
-        &mut self,
-        word: &str,
-        words: &mut Words<'_>,
-        answer: &mut String,
-    ) -> Result<(), Stuck> {
+    fn set_up(&mut self, words: &mut Words<'_>, answer: &mut String) -> Answered {
         let setup = read_setup(words);
         let mem = &self.below.below.mem;
-        self.queue = match word {
+        self.queue = match words.name() {
             "split" => SplitRing::new(mem, setup).map(Queue::Split),
             _ => PackedRing::new(mem, setup).map(Queue::Packed),
         };
@@ -55,17 +50,12 @@ impl Rings {
     }
 
     // One of the four calls, or a whole service.
-    fn serve(
-        &mut self,
-        word: &str,
-        words: &mut Words<'_>,
-        answer: &mut String,
-    ) -> Result<(), Stuck> {
+    fn serve(&mut self, words: &mut Words<'_>, answer: &mut String) -> Answered {
         let Some(queue) = &mut self.queue else {
             return Err(Stuck::Conditions);
         };
         let mem = &mut self.below.below.mem;
-        match word {
+        match words.name() {
             "open" => put_result(answer, open(queue, mem)?),
             "take" => put_taken(answer, take(queue, mem, &mut self.below.chain)?),
             "use" => {
@@ -149,7 +139,7 @@ fn put_service(
     queue: &mut Queue,
     mem: &mut GuestMemory,
     len: u32,
-) -> Result<(), Stuck> {
+) -> Answered {
     let used = Used {
         len,
         wrote: len > 0,
@@ -167,11 +157,11 @@ fn put_service(
     put_close(answer, close(queue, mem)?)
 }
 
-fn put_close(answer: &mut String, wanted: bool) -> Result<(), Stuck> {
+fn put_close(answer: &mut String, wanted: bool) -> Answered {
     put_word(answer, if wanted { "wanted" } else { "unwanted" })
 }
 
-fn put_used(answer: &mut String, used: Result<bool, Fault>) -> Result<(), Stuck> {
+fn put_used(answer: &mut String, used: Result<bool, Fault>) -> Answered {
     match used {
         Ok(true) => put_word(answer, "used"),
         Ok(false) => put_word(answer, "none"),
@@ -179,7 +169,7 @@ fn put_used(answer: &mut String, used: Result<bool, Fault>) -> Result<(), Stuck>
     }
 }
 
-fn put_taken(answer: &mut String, taken: Result<Option<Token>, Fault>) -> Result<(), Stuck> {
+fn put_taken(answer: &mut String, taken: Result<Option<Token>, Fault>) -> Answered {
     match taken {
         Ok(Some(token)) => put_token(answer, token),
         Ok(None) => put_word(answer, "none"),
@@ -188,7 +178,7 @@ fn put_taken(answer: &mut String, taken: Result<Option<Token>, Fault>) -> Result
 }
 
 /// The place, and of a split ring the head, of a packed one the buffer id and the number of descriptors.
-fn put_token(answer: &mut String, token: Token) -> Result<(), Stuck> {
+fn put_token(answer: &mut String, token: Token) -> Answered {
     match token {
         Token::Split(split_ring::Token { place, head }) => {
             written(write!(answer, "place {place:x} head {head:x}"))
@@ -200,13 +190,11 @@ fn put_token(answer: &mut String, token: Token) -> Result<(), Stuck> {
 }
 
 impl Subject for Rings {
-    fn call(&mut self, words: &mut Words<'_>, answer: &mut String) -> Result<(), Stuck> {
-        match words.word() {
-            word @ ("split" | "packed") => self.set_up(word, words, answer),
-            word @ ("open" | "take" | "use" | "close" | "service") => {
-                self.serve(word, words, answer)
-            }
-            word => self.below.make(word, words, answer),
+    fn call(&mut self, words: &mut Words<'_>, answer: &mut String) -> Answered {
+        match words.name() {
+            "split" | "packed" => self.set_up(words, answer),
+            "open" | "take" | "use" | "close" | "service" => self.serve(words, answer),
+            _ => self.below.make(words, answer),
         }
     }
 }

@@ -7,8 +7,11 @@ use std::fmt;
 /// Something whose calls a file has.
 pub(crate) trait Subject {
     /// Makes the call that the words say, and writes its answer behind the text.
-    fn call(&mut self, words: &mut Words<'_>, answer: &mut String) -> Result<(), Stuck>;
+    fn call(&mut self, words: &mut Words<'_>, answer: &mut String) -> Answered;
 }
+
+/// Whether a call was made and its answer written.
+pub(crate) type Answered = Result<(), Stuck>;
 
 /// Why a call can't be made.
 #[derive(Clone, Copy)]

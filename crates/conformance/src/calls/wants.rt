@@ -1,7 +1,7 @@
 //! `wants`: whether a driver wants a notification. Its area is written anew for each call.
 
 use crate::calls::answer::put_flag;
-use crate::calls::subject::{Stuck, Subject};
+use crate::calls::subject::{Answered, Stuck, Subject};
 use crate::calls::words::Words;
 use guest_memory::GuestMemory;
 use std::alloc::Global;
@@ -85,8 +85,8 @@ impl Service {
 }
 
 impl Subject for Wants {
-    fn call(&mut self, words: &mut Words<'_>, answer: &mut String) -> Result<(), Stuck> {
-        let wanted = match words.word() {
+    fn call(&mut self, words: &mut Words<'_>, answer: &mut String) -> Answered {
+        let wanted = match words.name() {
             "split" => self.split(Service::read(words)),
             "packed" => self.packed(Service::read(words)),
             _ => Err(Stuck::Words),

@@ -1,7 +1,7 @@
 //! `windows`: the registers of a device's window.
 
 use crate::calls::answer::{put_number, put_word, written};
-use crate::calls::subject::{Stuck, Subject};
+use crate::calls::subject::{Answered, Stuck, Subject};
 use crate::calls::words::Words;
 use guest_memory::GuestMemory;
 use mmio_window::{Action, CONFIGURATION_LEN, DeviceKind, Window};
@@ -35,13 +35,13 @@ impl Windows {
         kind: DeviceKind,
         words: &mut Words<'_>,
         answer: &mut String,
-    ) -> Result<(), Stuck> {
+    ) -> Answered {
         self.window = Window::new(kind, Features::from_bits_retain(words.u64()));
         put_word(answer, "ok")
     }
 
     // Sets a byte of the configuration.
-    fn configure(&mut self, words: &mut Words<'_>, answer: &mut String) -> Result<(), Stuck> {
+    fn configure(&mut self, words: &mut Words<'_>, answer: &mut String) -> Answered {
         let at = usize::from(words.u16());
         let byte = words.u8();
         if at >= CONFIGURATION_LEN {
@@ -67,7 +67,7 @@ impl Windows {
     }
 }
 
-fn put_action(answer: &mut String, action: Action) -> Result<(), Stuck> {
+fn put_action(answer: &mut String, action: Action) -> Answered {
     match action {
         Action::Notify(queue) => written(write!(answer, "notify {queue:x}")),
         Action::Reset => put_word(answer, "reset"),
@@ -81,8 +81,8 @@ fn put_action(answer: &mut String, action: Action) -> Result<(), Stuck> {
 }
 
 impl Subject for Windows {
-    fn call(&mut self, words: &mut Words<'_>, answer: &mut String) -> Result<(), Stuck> {
-        match words.word() {
+    fn call(&mut self, words: &mut Words<'_>, answer: &mut String) -> Answered {
+        match words.name() {
             "block" => self.replace(DeviceKind::Block, words, answer),
             "console" => self.replace(DeviceKind::Console, words, answer),
             "configure" => self.configure(words, answer),

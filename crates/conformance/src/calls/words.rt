@@ -2,7 +2,7 @@
 
 ghost use Rattle.std.specs.Prelude.{◌≤◌};
 
-use crate::calls::subject::Stuck;
+use crate::calls::subject::{Answered, Stuck};
 use std::alloc::Global;
 
 /// The words that are left of a call. One that is missing or wrong counts as an empty one, as 0 or as the second of two, and
@@ -10,18 +10,27 @@ use std::alloc::Global;
 #[derive(Clone, Copy)]
 pub(crate) struct Words<'a> {
     call: &'a str,
+    name: &'a str,
     left: Option<&'a str>,
     is_wrong: bool,
 }
 
 impl<'a> Words<'a> {
-    /// The words of this call.
+    /// The words of this call, of which the first is its name.
     pub(crate) fn new(call: &'a str) -> Words<'a> {
-        Words {
+        let mut words = Words {
             call,
+            name: "",
             left: Some(call),
             is_wrong: false,
-        }
+        };
+        words.name = words.word();
+        words
+    }
+
+    /// The call's name.
+    pub(crate) fn name(&self) -> &'a str {
+        self.name
     }
 
     /// The next word.
@@ -113,7 +122,7 @@ impl<'a> Words<'a> {
     }
 
     /// What came of the call of these words: `Stuck::Words` where one was wrong, or is left behind a call that was made.
-    pub(crate) fn judge(self, made: Result<(), Stuck>) -> Result<(), Stuck> {
+    pub(crate) fn judge(self, made: Answered) -> Answered {
         if self.is_wrong || made.is_ok() && self.left.is_some() {
             Err(Stuck::Words)
         } else {

@@ -6,7 +6,7 @@ ghost use Rattle.board.specs.Line.{HasInterruptWords};
 use super::Guests;
 use super::runs::run_some;
 use crate::calls::answer::{put_flag, put_number, put_word, written};
-use crate::calls::subject::Stuck;
+use crate::calls::subject::{Answered, Stuck};
 use crate::calls::words::Words;
 use board::{Board, BoardFault, Event, Image, Record, Refused, SlotSpec};
 use sector_cache::ScriptedImage;
@@ -20,25 +20,20 @@ pub(super) type Made<'h, B> = Result<Board<ScriptedImage, &'h RefusingHeap<B>>, 
 
 impl<'h, B: Allocator> Guests<'h, B> {
     /// Makes a call of a board, or another one.
-    pub(super) fn call_board(
-        &mut self,
-        word: &str,
-        words: &mut Words<'_>,
-        answer: &mut String,
-    ) -> Result<(), Stuck> {
-        match word {
+    pub(super) fn call_board(&mut self, words: &mut Words<'_>, answer: &mut String) -> Answered {
+        match words.name() {
             "boards" => self.boards(words, answer),
             "disturbed" => self.disturbed(words, answer),
             "refuse_from" => self.refuse_from(words, answer),
             "runs_alone" => self.runs(words, true, answer),
             "runs_on" => self.runs(words, false, answer),
             "record" => put_number(answer, size_of::<Record>() as u64),
-            _ => self.call_snapshots(word, words, answer),
+            _ => self.call_snapshots(words, answer),
         }
     }
 
     // From now on the nth request for memory of each event is refused, and those behind it.
-    fn refuse_from(&mut self, words: &mut Words<'_>, answer: &mut String) -> Result<(), Stuck> {
+    fn refuse_from(&mut self, words: &mut Words<'_>, answer: &mut String) -> Answered {
         self.refused = words.u64();
         put_word(answer, "ok")
     }
@@ -60,11 +55,7 @@ impl<'h, B: Allocator> Guests<'h, B> {
     }
 
     /// Makes it, while a request for memory is refused.
-    pub(super) fn make_board(
-        &mut self,
-        words: &mut Words<'_>,
-        answer: &mut String,
-    ) -> Result<(), Stuck> {
+    pub(super) fn make_board(&mut self, words: &mut Words<'_>, answer: &mut String) -> Answered {
         self.board = None;
         match self.made(words.u32())? {
             Ok(board) => {
@@ -83,7 +74,7 @@ impl<'h, B: Allocator> Guests<'h, B> {
         &mut self,
         event: Event<&'h RefusingHeap<B>>,
         answer: &mut String,
-    ) -> Result<(), Stuck> {
+    ) -> Answered {
         let mut records = Vec::with_capacity(self.heap, 1)?;
         if !self.run_one(event, &mut records)? {
             return Err(Stuck::NoMemory);
@@ -112,7 +103,7 @@ impl<'h, B: Allocator> Guests<'h, B> {
     }
 
     /// Whether a slot has met a refusal.
-    fn disturbed(&self, words: &mut Words<'_>, answer: &mut String) -> Result<(), Stuck> {
+    fn disturbed(&self, words: &mut Words<'_>, answer: &mut String) -> Answered {
         let Some(board) = &self.board else {
             return Err(Stuck::Conditions);
         };
@@ -124,7 +115,7 @@ impl<'h, B: Allocator> Guests<'h, B> {
 
     /// Makes the board with each request for memory refused, and those behind it: `ok` where each time it is refused for
     /// want of memory, the image comes back, and so does all memory; and where each slot takes some.
-    fn boards(&self, words: &mut Words<'_>, answer: &mut String) -> Result<(), Stuck> {
+    fn boards(&self, words: &mut Words<'_>, answer: &mut String) -> Answered {
         let cache = words.u32();
         let used = self.local.used();
         let (_, requests) = self.refused_at(0, cache)?;
@@ -159,11 +150,7 @@ fn board_of<I: Image, A: Allocator + Copy>(
 }
 
 // The lines of records, without the last one's end.
-fn put_records<A: Allocator>(
-    alloc: A,
-    records: &[Record<A>],
-    answer: &mut String,
-) -> Result<(), Stuck>
+fn put_records<A: Allocator>(alloc: A, records: &[Record<A>], answer: &mut String) -> Answered
     requires { All HasInterruptWords records.now }
 {
     let Ok(bytes) = print_records(alloc, records) else {

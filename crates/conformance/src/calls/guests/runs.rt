@@ -5,7 +5,7 @@ ghost use Rattle.board.specs.Line.{HasInterruptWords};
 
 use super::Guests;
 use crate::calls::answer::{put_number, written};
-use crate::calls::subject::Stuck;
+use crate::calls::subject::{Answered, Stuck};
 use crate::calls::words::Words;
 use board::{Board, Event, Image, Record, Reply};
 use std::alloc::Allocator;
@@ -24,12 +24,7 @@ impl<'h, B: Allocator> Guests<'h, B> {
     /// Runs the list over new boards, each with another request for memory refused, alone or with all behind it until the run
     /// stops, and goes on with ample memory: how often a run stops, and how often an event finds no memory. Where another
     /// record isn't that of ample memory, or what is noted of a slot is wrong: the request's number.
-    pub(super) fn runs(
-        &self,
-        words: &mut Words<'_>,
-        alone: bool,
-        answer: &mut String,
-    ) -> Result<(), Stuck> {
+    pub(super) fn runs(&self, words: &mut Words<'_>, alone: bool, answer: &mut String) -> Answered {
         let cache = words.u32();
         let ample = self.tried(cache, alone, 0)?;
         let (mut stops, mut lacks) = (0u64, 0u64);

@@ -2,7 +2,7 @@
 
 use super::Guests;
 use crate::calls::answer::{put_bytes, put_number, put_result, put_word, written};
-use crate::calls::subject::Stuck;
+use crate::calls::subject::{Answered, Stuck};
 use crate::calls::words::Words;
 use board::{Event, EventKind};
 use session::{Budget, GuestSpec, Progress, Refusal, Session, SessionFault, Typed};
@@ -14,13 +14,8 @@ const SHOWN: usize = 8;
 
 impl<'h, B: Allocator> Guests<'h, B> {
     /// Makes a call of a session, or that of an event.
-    pub(super) fn call_session(
-        &mut self,
-        word: &str,
-        words: &mut Words<'_>,
-        answer: &mut String,
-    ) -> Result<(), Stuck> {
-        match word {
+    pub(super) fn call_session(&mut self, words: &mut Words<'_>, answer: &mut String) -> Answered {
+        match words.name() {
             "budget" => self.limit(words, answer),
             "sessions" => self.sessions(words, answer),
             "go_on" => self.go_on(words, answer),
@@ -33,7 +28,7 @@ impl<'h, B: Allocator> Guests<'h, B> {
     }
 
     // Sets a limit of the budget: so many chains, or so many bytes.
-    fn limit(&mut self, words: &mut Words<'_>, answer: &mut String) -> Result<(), Stuck> {
+    fn limit(&mut self, words: &mut Words<'_>, answer: &mut String) -> Answered {
         match words.word() {
             "chains" => self.budget.chains = Some(words.u32()),
             "bytes" => self.budget.bytes = Some(words.u64()),
@@ -43,11 +38,7 @@ impl<'h, B: Allocator> Guests<'h, B> {
     }
 
     /// Makes the session that was asked for. From then on the heap refuses all.
-    pub(super) fn make_session(
-        &mut self,
-        words: &mut Words<'_>,
-        answer: &mut String,
-    ) -> Result<(), Stuck> {
+    pub(super) fn make_session(&mut self, words: &mut Words<'_>, answer: &mut String) -> Answered {
         self.session = None;
         self.heap.refuse_from(0);
         let made = self.session_of(words.u32());
@@ -67,7 +58,7 @@ impl<'h, B: Allocator> Guests<'h, B> {
 
     /// Makes it with each request for memory refused, and those behind it: `ok` where each time it is refused for want of
     /// memory, and all memory comes back; and where each guest takes some.
-    fn sessions(&mut self, words: &mut Words<'_>, answer: &mut String) -> Result<(), Stuck> {
+    fn sessions(&mut self, words: &mut Words<'_>, answer: &mut String) -> Answered {
         let cache = words.u32();
         let used = self.local.used();
         let (_, requests) = self.session_refused(0, cache);
@@ -89,7 +80,7 @@ impl<'h, B: Allocator> Guests<'h, B> {
     }
 
     /// Makes the call of an event.
-    pub(super) fn call_event(&mut self, event: &Event, answer: &mut String) -> Result<(), Stuck> {
+    pub(super) fn call_event(&mut self, event: &Event, answer: &mut String) -> Answered {
         let Some(session) = &mut self.session else {
             return Err(Stuck::Conditions);
         };
@@ -97,7 +88,7 @@ impl<'h, B: Allocator> Guests<'h, B> {
     }
 
     /// Goes on with the paused service of a slot.
-    fn go_on(&mut self, words: &mut Words<'_>, answer: &mut String) -> Result<(), Stuck> {
+    fn go_on(&mut self, words: &mut Words<'_>, answer: &mut String) -> Answered {
         let Some(session) = &mut self.session else {
             return Err(Stuck::Conditions);
         };
@@ -106,7 +97,7 @@ impl<'h, B: Allocator> Guests<'h, B> {
 
     /// Takes as much of a slot's output as finds room: how many bytes, and the front of the room, at each place of which stood
     /// a dot.
-    fn take(&mut self, words: &mut Words<'_>, answer: &mut String) -> Result<(), Stuck> {
+    fn take(&mut self, words: &mut Words<'_>, answer: &mut String) -> Answered {
         let Some(session) = &mut self.session else {
             return Err(Stuck::Conditions);
         };
@@ -120,7 +111,7 @@ impl<'h, B: Allocator> Guests<'h, B> {
     }
 
     /// What can be seen of a slot: both interrupt words, what waits of its output, and whether a service of it is paused.
-    fn see(&self, words: &mut Words<'_>, answer: &mut String) -> Result<(), Stuck> {
+    fn see(&self, words: &mut Words<'_>, answer: &mut String) -> Answered {
         let Some(session) = &self.session else {
             return Err(Stuck::Conditions);
         };
@@ -144,7 +135,7 @@ impl<'h, B: Allocator> Guests<'h, B> {
     }
 
     /// Ends the session and keeps its image: `ok` where that is as it was.
-    fn end(&mut self, answer: &mut String) -> Result<(), Stuck> {
+    fn end(&mut self, answer: &mut String) -> Answered {
         let Some(session) = self.session.take() else {
             return Err(Stuck::Conditions);
         };
@@ -155,12 +146,7 @@ impl<'h, B: Allocator> Guests<'h, B> {
 }
 
 // What waits of a slot's output, in two parts.
-fn put_waiting(
-    alloc: Global,
-    answer: &mut String,
-    first: &[u8],
-    second: &[u8],
-) -> Result<(), Stuck> {
+fn put_waiting(alloc: Global, answer: &mut String, first: &[u8], second: &[u8]) -> Answered {
     let mut bytes = first.to_vec(alloc)?;
     bytes.extend_from_slice(second)?;
     put_bytes(alloc, answer, &bytes)
@@ -191,7 +177,7 @@ fn answer_event<A: Allocator + Copy>(
     slot: u8,
     what: &EventKind,
     answer: &mut String,
-) -> Result<(), Stuck> {
+) -> Answered {
     match what {
         EventKind::Read {
             window,
@@ -231,14 +217,14 @@ fn read_memory<A: Allocator + Copy>(
     slot: u8,
     (addr, len): (u64, u32),
     answer: &mut String,
-) -> Result<(), Stuck> {
+) -> Answered {
     let mut bytes = vec![in alloc; b'.'; len as usize]?;
     let outcome = session.read_memory(slot, addr, &mut bytes);
     put_read(alloc, answer, outcome, &bytes)
 }
 
 // What a register gave, or the refusal.
-fn put_value(answer: &mut String, value: Result<u32, Refusal>) -> Result<(), Stuck> {
+fn put_value(answer: &mut String, value: Result<u32, Refusal>) -> Answered {
     match value {
         Ok(value) => put_number(answer, u64::from(value)),
         Err(why) => put_result(answer, Err(why)),
@@ -246,7 +232,7 @@ fn put_value(answer: &mut String, value: Result<u32, Refusal>) -> Result<(), Stu
 }
 
 // `ok`, or `more` where the service is paused, or the refusal.
-fn put_progress(answer: &mut String, progress: Result<Progress, Refusal>) -> Result<(), Stuck> {
+fn put_progress(answer: &mut String, progress: Result<Progress, Refusal>) -> Answered {
     match progress {
         Ok(progress) => put_word(answer, told(progress)),
         Err(why) => put_result(answer, Err(why)),
@@ -261,7 +247,7 @@ fn told(progress: Progress) -> &'static str {
 }
 
 // How many bytes were taken, and whether the service is paused.
-fn put_typed(answer: &mut String, typed: Result<Typed, Refusal>) -> Result<(), Stuck> {
+fn put_typed(answer: &mut String, typed: Result<Typed, Refusal>) -> Answered {
     match typed {
         Ok(Typed { taken, progress }) => {
             let told = told(progress);
@@ -277,7 +263,7 @@ fn put_read(
     answer: &mut String,
     outcome: Result<(), Refusal>,
     bytes: &[u8],
-) -> Result<(), Stuck> {
+) -> Answered {
     if let Err(why) = outcome {
         write!(answer, "{why:?} ")?;
     }

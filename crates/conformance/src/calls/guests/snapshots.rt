@@ -2,7 +2,7 @@
 
 use super::Guests;
 use crate::calls::answer::{put_bytes, put_result, put_word};
-use crate::calls::subject::Stuck;
+use crate::calls::subject::{Answered, Stuck};
 use crate::calls::words::Words;
 use board::{Board, Bytes, Event, EventKind, Image, RestoreFault};
 use std::alloc::{AllocError, Allocator};
@@ -11,20 +11,19 @@ impl<'h, B: Allocator> Guests<'h, B> {
     /// Makes a call of snapshots, or another one.
     pub(super) fn call_snapshots(
         &mut self,
-        word: &str,
         words: &mut Words<'_>,
         answer: &mut String,
-    ) -> Result<(), Stuck> {
-        match word {
+    ) -> Answered {
+        match words.name() {
             "save" => self.save(words, answer),
             "restore" => self.restore(words, answer),
             "restore_event" => self.restore_event(words, answer),
-            _ => self.call_session(word, words, answer),
+            _ => self.call_session(words, answer),
         }
     }
 
     // The snapshot of a slot.
-    fn save(&self, words: &mut Words<'_>, answer: &mut String) -> Result<(), Stuck> {
+    fn save(&self, words: &mut Words<'_>, answer: &mut String) -> Answered {
         let Some(board) = &self.board else {
             return Err(Stuck::Conditions);
         };
@@ -36,7 +35,7 @@ impl<'h, B: Allocator> Guests<'h, B> {
     }
 
     // A slot takes up a snapshot.
-    fn restore(&mut self, words: &mut Words<'_>, answer: &mut String) -> Result<(), Stuck> {
+    fn restore(&mut self, words: &mut Words<'_>, answer: &mut String) -> Answered {
         let slot = words.u8();
         let bytes = words.bytes(self.alloc)?;
         if let Some(session) = &mut self.session {
@@ -52,7 +51,7 @@ impl<'h, B: Allocator> Guests<'h, B> {
     }
 
     // The event of that.
-    fn restore_event(&mut self, words: &mut Words<'_>, answer: &mut String) -> Result<(), Stuck> {
+    fn restore_event(&mut self, words: &mut Words<'_>, answer: &mut String) -> Answered {
         let slot = words.u8();
         let from = words.bytes(self.alloc)?;
         if self.session.is_some() {
