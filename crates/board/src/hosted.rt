@@ -25,6 +25,7 @@ mod saved;
 mod slot;
 mod view;
 
+use crate::check::check_hosted_slots;
 use crate::event::EventKind;
 use crate::fault::BoardFault;
 pub use crate::hosted::laws::{
@@ -33,8 +34,8 @@ pub use crate::hosted::laws::{
 };
 pub use crate::hosted::reply::HostedTaken;
 use crate::hosted::slot::HostedSlot;
+use crate::lent;
 use crate::spec::SlotSpec;
-use crate::{check, lent};
 use block_device::{Operation, Verdict};
 use chain::Segment;
 use console_device::Outlet;
@@ -70,7 +71,7 @@ impl<A: Allocator + Copy> HostedBoard<A> {
         ensures exact { (fault : BoardFault) → fault ≢ BoardFault.NoMemory →
             RefusesHosted slots.now fault → IsErrAnd result (λ why. why ≡ fault) }
     {
-        check::hosted_slots(slots)?;
+        check_hosted_slots(slots)?;
         match open_all(alloc, slots) {
             Ok(slots) => Ok(HostedBoard { slots, alloc }),
             Err(AllocError) => Err(BoardFault::NoMemory),
@@ -91,7 +92,7 @@ impl<A: Allocator + Copy> HostedBoard<A> {
         ensures exact { (fault : BoardFault) → fault ≢ BoardFault.NoMemory →
             RefusesHosted slots.now fault → IsErrAnd result (λ why. why ≡ fault) }
     {
-        check::hosted_slots(slots)?;
+        check_hosted_slots(slots)?;
         match open_all_over(alloc, slots, bytes) {
             Ok(slots) => Ok(HostedBoard { slots, alloc }),
             Err(AllocError) => Err(BoardFault::NoMemory),
