@@ -26,8 +26,8 @@
  * The library is built for x86-64-v2 (SSE4.2 and POPCNT) and Linux's calling convention.
  *
  * The library keeps no pointer of the caller but those of loans (kalyubos_create_lent): a call copies what it needs. Each call answers a number. After any but
- * KALYUBOS_DONE its out parameters are unchanged, with two exceptions: `pending` is told after every answer where the
- * slot exists, and `took` after KALYUBOS_MORE too. The numbers never change; a later version only adds some.
+ * KALYUBOS_DONE its out parameters are unchanged, with three exceptions: `pending` is told after every answer where the
+ * slot exists, `took` after KALYUBOS_MORE too, and kalyubos_judge tells what its answer is about. The numbers never change; a later version only adds some.
  *
  * A struct that the host fills begins with its `size`, its sizeof in the header that the host was built with. This
  * version takes its own size alone, and answers KALYUBOS_BAD_SIZE for any other before it looks at another field. A
@@ -272,50 +272,36 @@ uint32_t kalyubos_create(struct kalyubos *board, const struct kalyubos_slot *slo
                          const uint8_t *image, size_t image_len, uint32_t cache, uint32_t chains, uint64_t bytes);
 
 /*
- * Which slot kalyubos_create gave this answer for: its place in the array; or `slots_len` where the answer is about no
- * slot, or the heap has no room for one more copy of the image. Slots are judged in their order, so it asks again with the
- * first few of them. It does so with a cache of no sectors: slots that are all good are then refused by BAD_CACHE, and no
- * board is made.
+ * Judge slots as kalyubos_create does over an image of `sectors` sectors, and as kalyubos_create_hosted does, and make no
+ * board. They answer the number that this call would answer for them, up to EXTENTS_OVERLAP, with `slot` and `region` told
+ * where it is about one: the slot's place in the array, of BAD_SIZE and BAD_OUTLET too, and the region's place in its
+ * `regions`. NO_MEMORY may come in the place of a number from NO_SLOTS on.
+ */
+uint32_t kalyubos_judge(const struct kalyubos_slot *slots, size_t slots_len, uint64_t sectors, size_t *slot, size_t *region);
+uint32_t kalyubos_judge_hosted(const struct kalyubos_slot *slots, size_t slots_len, size_t *slot, size_t *region);
+
+/*
+ * Which slot kalyubos_create gave this answer for, as kalyubos_judge tells it: its place in the array; or `slots_len` where
+ * the answer is about no slot, or the heap has no room to judge.
  */
 static inline size_t kalyubos_slot_at_fault(uint32_t answer, const struct kalyubos_slot *slots, size_t slots_len,
                                             const uint8_t *image, size_t image_len)
 {
-    struct kalyubos none = { NULL };
-    size_t good = 0, refused = slots_len; /* so many first slots are all good, and so many aren't */
-    bool is_of_a_slot = answer == KALYUBOS_BAD_SIZE || answer == KALYUBOS_BAD_OUTLET ||
-                        (answer >= KALYUBOS_BAD_MEMORY_SIZE && answer <= KALYUBOS_EXTENTS_OVERLAP) ||
-                        answer == KALYUBOS_NO_REGIONS || answer == KALYUBOS_REGIONS_NOT_APART;
-    while (is_of_a_slot && refused - good > 1) {
-        size_t count = good + (refused - good) / 2;
-        uint32_t told = kalyubos_create(&none, slots, count, image, image_len, 0, 0, 0);
-        if (told == KALYUBOS_NO_MEMORY)
-            return slots_len;
-        if (told == answer)
-            refused = count;
-        else
-            good = count;
-    }
-    return is_of_a_slot ? good : slots_len;
+    size_t slot = slots_len, region = KALYUBOS_REGIONS;
+    (void)image;
+    return kalyubos_judge(slots, slots_len, image_len / 512, &slot, &region) == answer ? slot : slots_len;
 }
 
 /*
  * Which region of the slot at fault the answer is about: its place in `regions`; or KALYUBOS_REGIONS where it is about no
- * region, or the heap has no room to ask. It asks kalyubos_create about a board of this slot with its first regions, without
- * disk and cache, so no board is made.
+ * region, or the heap has no room to judge.
  */
 static inline size_t kalyubos_region_at_fault(uint32_t answer, const struct kalyubos_slot *slot)
 {
-    bool is_of_a_region = answer == KALYUBOS_BAD_MEMORY_SIZE || answer == KALYUBOS_BAD_MEMORY_BASE ||
-                          answer == KALYUBOS_REGIONS_NOT_APART;
-    struct kalyubos none = { NULL };
-    struct kalyubos_slot asked = { 0 };
-    asked.size = slot->size;
-    for (size_t place = 0; is_of_a_region && place < KALYUBOS_REGIONS; place++) {
-        asked.regions[place] = slot->regions[place];
-        if (kalyubos_create(&none, &asked, 1, asked.identity, 0, 0, 0, 0) == answer)
-            return place;
-    }
-    return KALYUBOS_REGIONS;
+    struct kalyubos_slot asked = *slot;
+    size_t place = 0, region = KALYUBOS_REGIONS;
+    asked.outlet = 0;
+    return kalyubos_judge_hosted(&asked, 1, &place, &region) == answer ? region : (size_t)KALYUBOS_REGIONS;
 }
 
 /*
@@ -343,8 +329,8 @@ struct kalyubos_loan {
  *
  * BAD_LOAN comes after BAD_SIZE and before all other numbers. NO_MEMORY may come in the place of all but BAD_SIZE.
  *
- * Each loan is taken: null and 0 are left in its place. After HAS_BOARD and BAD_SIZE all loans are as they were, after another
- * refusal some may be. The bytes of a refused call are the host's again; it fills the array before it tries again.
+ * Each loan is taken: null and 0 are left in its place. After HAS_BOARD and BAD_SIZE all loans are as they were; after another
+ * refusal the first of them are taken, which may be none or all, and the others are as they were. The bytes of a refused call are the host's again; it fills the array before it tries again.
  *
  * Until kalyubos_destroy the bytes stay mapped where they are, and no two loans of any boards share a byte. The duty above
  * on a guest's memory in place holds of them: nobody touches them while a call for their guest runs.

@@ -1,6 +1,7 @@
 //! Why a call was refused.
 
-use crate::board::{Board, Pending};
+use crate::board::Pending;
+use crate::ffi;
 use crate::slot::Slot;
 use std::error;
 use std::fmt;
@@ -139,7 +140,7 @@ impl CreateError {
 
 impl CreateError {
     /// Which slot a [`Board::new`](crate::Board::new) of these slots over this image was refused for, where it is about a slot and
-    /// there is memory to look for it. It asks for boards of the first few slots, none of which is made.
+    /// there is memory to judge them. No board is made.
     ///
     /// ```
     /// use kalyubos::{Board, CreateError, Slot};
@@ -151,31 +152,45 @@ impl CreateError {
     /// assert_eq!(refused.slot(&guests, &disk), Some(2));
     /// ```
     pub fn slot(self, slots: &[Slot], image: &[u8]) -> Option<usize> {
-        use CreateError::*;
-        if !matches!(
-            self,
-            BadMemorySize
-                | BadMemoryBase
-                | RegionsNotApart
-                | TooManyRegions
-                | ExtentOutside
-                | ExtentsOverlap
-                | BadOutlet
-        ) {
-            return None;
+        let sectors = image.len() as u64 / 512;
+        self.place(slots, |slots, slot, region| unsafe {
+            ffi::kalyubos_judge(slots.as_ptr(), slots.len(), sectors, slot, region)
+        })
+    }
+
+    /// Which slot a [`HostedBoard::new`](crate::HostedBoard::new) of these slots was refused for, likewise.
+    ///
+    /// ```
+    /// use kalyubos::{CreateError, HostedBoard, Slot};
+    ///
+    /// let guests = [0x8000_0000, 0x8000_0001].map(|base| Slot::new(base, 0x1_0000, 0..8));
+    /// let refused = HostedBoard::new(&guests).unwrap_err();
+    /// assert_eq!(refused, CreateError::BadMemoryBase);
+    /// assert_eq!(refused.hosted_slot(&guests), Some(1));
+    /// ```
+    pub fn hosted_slot(self, slots: &[Slot]) -> Option<usize> {
+        self.place(slots, |slots, slot, region| unsafe {
+            ffi::kalyubos_judge_hosted(slots.as_ptr(), slots.len(), slot, region)
+        })
+    }
+
+    // The slot by which these are refused so: one that C can't be told of, or else the one that the library tells.
+    fn place(
+        self,
+        slots: &[Slot],
+        judge: impl FnOnce(&[ffi::Slot], &mut usize, &mut usize) -> u32,
+    ) -> Option<usize> {
+        let untold = slots
+            .iter()
+            .position(|slot| slot.in_c().err() == Some(self));
+        if untold.is_some() {
+            return untold;
         }
-        // So many first slots are all good, and so many aren't.
-        let (mut good, mut refused) = (0, slots.len());
-        while refused - good > 1 {
-            let count = good + (refused - good) / 2;
-            // No cache has no sectors: good slots are refused for that.
-            match Board::new(&slots[..count], image, 0).err()? {
-                NoMemory => return None,
-                told if told == self => refused = count,
-                _ => good = count,
-            }
-        }
-        (good < slots.len()).then_some(good)
+        let slots: Result<Vec<_>, _> = slots.iter().map(Slot::in_c).collect();
+        let slots = slots.ok()?;
+        let (mut slot, mut region) = (slots.len(), 0);
+        let number = judge(&slots, &mut slot, &mut region);
+        (CreateError::check(number) == Err(self) && slot < slots.len()).then_some(slot)
     }
 }
 

@@ -79,6 +79,19 @@ unsafe extern "C" {
         chains: u32,
         bytes: u64,
     ) -> u32;
+    pub fn kalyubos_judge(
+        slots: *const Slot,
+        slots_len: usize,
+        sectors: u64,
+        slot: *mut usize,
+        region: *mut usize,
+    ) -> u32;
+    pub fn kalyubos_judge_hosted(
+        slots: *const Slot,
+        slots_len: usize,
+        slot: *mut usize,
+        region: *mut usize,
+    ) -> u32;
     pub fn kalyubos_create_hosted(board: *mut Handle, slots: *const Slot, slots_len: usize) -> u32;
     pub fn kalyubos_create_lent(
         board: *mut Handle,

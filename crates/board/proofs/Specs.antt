@@ -7,13 +7,11 @@ use Rattle.std.proofs.lemmas.List.{get_or-take, get_or-map, length-map, map_more
 use Rattle.std.proofs.lemmas.List.Elements.{All-map}
 use Rattle.std.proofs.lemmas.Option.{slice_get-get_or}
 use Rattle.guest_memory.specs.Faults.{AreGood as AreGoodRegions}
-use Rattle.board.specs.declared.fault.BoardFault.{BoardFault}
-use Rattle.board.specs.declared.fault.BoardFault.TheVariants.{NoSlots, TooManySlots, Memory, ExtentOutside, ExtentsOverlap, Cache}
 use Rattle.board.specs.declared.spec.SlotSpec.{SlotSpec}
 use Rattle.block_device.specs.declared.extent.Extent.{Extent}
 use Rattle.block_device.specs.Extent.{IsWithin}
 use Rattle.board.specs.Extent.{IsApart, AreSound}
-use Rattle.board.specs.Fault.{IsGoodSlot, GoodBelow, AreGood, IsFaultOf, Refuses, cache_refusal}
+use Rattle.board.specs.Fault.{IsGoodSlot, GoodBelow, AreGood, Refuses, cache_refusal}
 use Rattle.board.specs.Slot.{opened}
 use Rattle.board.specs.World.{extents_of}
 use Rattle.sector_cache.specs.Fault.{RefusesCapacity}
@@ -39,16 +37,6 @@ more_at sectors slots n last good one here i spec below there (inr behind) =
 pub good_more : (sectors : ℕ) (slots : List SlotSpec) (n : ℕ) (d : SlotSpec) → n < length slots → GoodBelow sectors slots n → IsGoodSlot sectors (take n slots) (get_or slots n d) → GoodBelow sectors slots (n + 1)
 good_more sectors slots n d below good one i spec near there =
     more_at sectors slots n (get_or slots n d) good one (slice_get-get_or slots n d below) i spec near there (cases_lt i n)
-
--- a slot's fault, where those before it are good, refuses the board
-pub refused_slot : (sectors : ℕ) (slots : List SlotSpec) (n : ℕ) (spec : SlotSpec) (fault : BoardFault) → slice_get slots n ≡ Some spec → 1 ≤ length slots → length slots ≤ 64 → GoodBelow sectors slots n → IsFaultOf sectors (take n slots) spec fault → (cache : ℕ) → Refuses sectors slots cache fault
-refused_slot sectors slots n spec NoSlots there some few good is cache = absurd is
-refused_slot sectors slots n spec TooManySlots there some few good is cache = absurd is
-refused_slot sectors slots n spec (Memory fault) there some few good is cache = record { some = some; few = few; at_slot = n; spec = spec; there = there; before = good; fault_is = is }
-refused_slot sectors slots n spec ExtentOutside there some few good is cache = record { some = some; few = few; at_slot = n; spec = spec; there = there; before = good; fault_is = is }
-refused_slot sectors slots n spec ExtentsOverlap there some few good is cache = record { some = some; few = few; at_slot = n; spec = spec; there = there; before = good; fault_is = is }
-refused_slot sectors slots n spec (Cache fault) there some few good is cache = absurd is
-refused_slot sectors slots n spec BoardFault.NoMemory there some few good is cache = absurd is
 
 -- where all slots were found good, they are
 pub good_all : (sectors : ℕ) (slots : List SlotSpec) (n : ℕ) → length slots ≤ n → GoodBelow sectors slots n → GoodBelow sectors slots (length slots)

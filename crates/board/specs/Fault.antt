@@ -1,14 +1,16 @@
 -- Which boards there may be, and why others are refused.
 use Rattle.std.specs.Prelude.{◌≡◌, ℕ, Bool, true, false, ◌+◌, ◌-◌, ◌/◌, ◌^◌, ◌<◌, ◌≤◌, List, [], length, take, All, Any, Some}
 use Rattle.std.specs.List.{slice_get}
-use Rattle.guest_memory.specs.Faults.{AreGood as AreGoodRegions, IsRefused}
+use Rattle.guest_memory.specs.Faults.{AreGood as AreGoodRegions, IsRefusedAt}
 use Rattle.guest_memory.specs.declared.fault.MemoryFault.TheVariants as memory
 use Rattle.sector_cache.specs.Fault.{IsCapacity}
 use Rattle.sector_cache.specs.declared.fault.CacheFault.{CacheFault}
 use Rattle.sector_cache.specs.declared.fault.CacheFault.TheVariants.{BadCapacity}
 use Rattle.sector_cache.specs.declared.fault.CacheFault.TheVariants as cache
 use Rattle.board.specs.declared.fault.BoardFault.{BoardFault}
-use Rattle.board.specs.declared.fault.BoardFault.TheVariants.{NoSlots, TooManySlots, Memory, ExtentOutside, ExtentsOverlap, Cache, NoMemory}
+use Rattle.board.specs.declared.fault.BoardFault.TheVariants.{NoSlots, TooManySlots, Slot, Cache, NoMemory}
+use Rattle.board.specs.declared.fault.SlotFault.{SlotFault}
+use Rattle.board.specs.declared.fault.SlotFault.TheVariants.{Memory, ExtentOutside, ExtentsOverlap}
 use Rattle.board.specs.declared.spec.SlotSpec.{SlotSpec}
 use Rattle.block_device.specs.Extent.{IsWithin}
 use Rattle.board.specs.Extent.{IsApart, Overlaps}
@@ -43,30 +45,25 @@ pub record HasSharedSector (sectors : ℕ) (earlier : List SlotSpec) (spec : Slo
   pub shared : Any (λ other. Overlaps other.extent spec.extent) earlier
 
 -- a slot's fault, of which the first counts: its memory's, then its extent's end, then a sector that it shares
-abbrev pub IsFaultOf : ℕ → List SlotSpec → SlotSpec → BoardFault → Type 0
-IsFaultOf sectors earlier spec (Memory fault) = IsRefused spec.regions fault
+abbrev pub IsFaultOf : ℕ → List SlotSpec → SlotSpec → SlotFault → Type 0
+IsFaultOf sectors earlier spec (Memory region fault) = IsRefusedAt spec.regions region fault
 IsFaultOf sectors earlier spec ExtentOutside = HasExtentOutside sectors spec
 IsFaultOf sectors earlier spec ExtentsOverlap = HasSharedSector sectors earlier spec
-IsFaultOf sectors earlier spec _ = ⊥
 
--- the first slot that isn't good has this fault
-pub record HasFirstFault (sectors : ℕ) (slots : List SlotSpec) (fault : BoardFault) : Type 0 where
-  pub some : 1 ≤ length slots
+-- the slot of this number is the first that isn't good, and has this fault
+pub record HasFaultAt (sectors : ℕ) (slots : List SlotSpec) (number : ℕ) (fault : SlotFault) : Type 0 where
   pub few : length slots ≤ 64
-  pub at_slot : ℕ
   pub spec : SlotSpec
-  pub there : slice_get slots at_slot ≡ Some spec
-  pub before : GoodBelow sectors slots at_slot
-  pub fault_is : IsFaultOf sectors (take at_slot slots) spec fault
+  pub there : slice_get slots number ≡ Some spec
+  pub before : GoodBelow sectors slots number
+  pub fault_is : IsFaultOf sectors (take number slots) spec fault
 
 -- Why a board is refused, of which the first counts: the number of slots, then the slots' own faults,
 -- slot by slot, then the cache's capacity, and last want of memory, whatever it was wanted for.
 abbrev pub Refuses : ℕ → List SlotSpec → ℕ → BoardFault → Type 0
 Refuses sectors slots cache NoSlots = slots ≡ []
 Refuses sectors slots cache TooManySlots = 64 < length slots
-Refuses sectors slots cache (Memory fault) = HasFirstFault sectors slots (Memory fault)
-Refuses sectors slots cache ExtentOutside = HasFirstFault sectors slots ExtentOutside
-Refuses sectors slots cache ExtentsOverlap = HasFirstFault sectors slots ExtentsOverlap
+Refuses sectors slots cache (Slot number fault) = HasFaultAt sectors slots number fault
 Refuses sectors slots cache (Cache fault) = AreGood sectors slots × (¬ IsCapacity cache × (fault ≡ BadCapacity))
 Refuses sectors slots cache NoMemory = AreGood sectors slots × IsCapacity cache
 
@@ -83,7 +80,7 @@ cache_refusal _ = NoMemory
 -- there was no memory, whatever it was wanted for
 abbrev pub is_want_of_memory : BoardFault → Bool
 is_want_of_memory NoMemory = true
-is_want_of_memory (Memory memory.NoMemory) = true
+is_want_of_memory (Slot number (Memory region memory.NoMemory)) = true
 is_want_of_memory (Cache cache.NoMemory) = true
 is_want_of_memory _ = false
 
@@ -110,14 +107,12 @@ pub record AreGoodHosted (slots : List SlotSpec) : Type 0 where
   pub few : length slots ≤ 64
   pub each : GoodHostedBelow slots (length slots)
 
--- the first slot that isn't good has this fault
-pub record HasFirstHostedFault (slots : List SlotSpec) (fault : BoardFault) : Type 0 where
-  pub some : 1 ≤ length slots
+-- the slot of this number is the first that isn't good, and has this fault
+pub record HasHostedFaultAt (slots : List SlotSpec) (number : ℕ) (fault : SlotFault) : Type 0 where
   pub few : length slots ≤ 64
-  pub at_slot : ℕ
   pub spec : SlotSpec
-  pub there : slice_get slots at_slot ≡ Some spec
-  pub before : GoodHostedBelow slots at_slot
+  pub there : slice_get slots number ≡ Some spec
+  pub before : GoodHostedBelow slots number
   pub fault_is : IsFaultOf most_sectors [] (with_own_disk spec) fault
 
 -- Why such a board is refused, in the same order as one over an image: there is no image that an extent could pass the
@@ -125,8 +120,6 @@ pub record HasFirstHostedFault (slots : List SlotSpec) (fault : BoardFault) : Ty
 abbrev pub RefusesHosted : List SlotSpec → BoardFault → Type 0
 RefusesHosted slots NoSlots = slots ≡ []
 RefusesHosted slots TooManySlots = 64 < length slots
-RefusesHosted slots (Memory fault) = HasFirstHostedFault slots (Memory fault)
-RefusesHosted slots ExtentOutside = HasFirstHostedFault slots ExtentOutside
-RefusesHosted slots ExtentsOverlap = ⊥
+RefusesHosted slots (Slot number fault) = HasHostedFaultAt slots number fault
 RefusesHosted slots (Cache fault) = ⊥
 RefusesHosted slots NoMemory = AreGoodHosted slots

@@ -6,7 +6,7 @@ ghost use Rattle.block_device.specs.Extent.{IsWithin};
 ghost use Rattle.board.specs.Extent.{IsApart, Overlaps};
 ghost use Rattle.board.specs.Fault.{AreGoodHosted, IsGoodSlot, AreGood, IsFaultOf, Refuses, RefusesHosted, with_own_disk};
 
-use crate::fault::BoardFault;
+use crate::fault::{BoardFault, SlotFault};
 use crate::spec::SlotSpec;
 use block_device::Extent;
 use guest_memory::{RegionFault, fault_of_regions};
@@ -17,8 +17,9 @@ const MOST_SLOTS: usize = 64;
 /// How many sectors a disk may have of which no image holds the bytes: their bytes are counted in 64 bits.
 const MOST_SECTORS: u64 = u64::MAX / 512;
 
-/// Whether the slots can be had together on an image of that many sectors, or the first fault.
-pub(crate) fn slots(slots: &[SlotSpec], sectors: u64) -> Result<(), BoardFault>
+/// Whether the slots can be had together on an image of that many sectors, as `Board::new` judges them before it takes
+/// memory, or the first fault.
+pub fn check_slots(slots: &[SlotSpec], sectors: u64) -> Result<(), BoardFault>
     ensures ok { OnOk result (AreGood sectors slots.now) }
     ensures fault { IfErr result (λ fault. (cache : ℕ) → Refuses sectors slots.now cache fault) }
 {
@@ -29,13 +30,17 @@ pub(crate) fn slots(slots: &[SlotSpec], sectors: u64) -> Result<(), BoardFault>
         return Err(BoardFault::TooManySlots);
     }
     for (i, spec) in slots.iter().enumerate() {
-        slot(spec, &slots[..i], sectors)?;
+        if let Err(fault) = slot(spec, &slots[..i], sectors) {
+            let slot = i as u8;
+            return Err(BoardFault::Slot { slot, fault });
+        }
     }
     Ok(())
 }
 
-/// Whether the slots can be had together, each with a disk of its own, or the first fault.
-pub(crate) fn hosted_slots(slots: &[SlotSpec]) -> Result<(), BoardFault>
+/// Whether the slots can be had together, each with a disk of its own, as `HostedBoard::new` judges them, or the first
+/// fault.
+pub fn check_hosted_slots(slots: &[SlotSpec]) -> Result<(), BoardFault>
     ensures ok { OnOk result (AreGoodHosted slots.now) }
     ensures fault { IfErr result (λ fault. RefusesHosted slots.now fault) }
 {
@@ -45,8 +50,11 @@ pub(crate) fn hosted_slots(slots: &[SlotSpec]) -> Result<(), BoardFault>
     if slots.len() > MOST_SLOTS {
         return Err(BoardFault::TooManySlots);
     }
-    for spec in slots {
-        slot(&own_disk(spec), &[], MOST_SECTORS)?;
+    for (i, spec) in slots.iter().enumerate() {
+        if let Err(fault) = slot(&own_disk(spec), &[], MOST_SECTORS) {
+            let slot = i as u8;
+            return Err(BoardFault::Slot { slot, fault });
+        }
     }
     Ok(())
 }
@@ -65,20 +73,20 @@ pub(crate) fn own_disk(spec: &SlotSpec) -> SlotSpec
 }
 
 // Whether a slot is good beside the earlier ones, or its first fault.
-fn slot(spec: &SlotSpec, earlier: &[SlotSpec], sectors: u64) -> Result<(), BoardFault>
+fn slot(spec: &SlotSpec, earlier: &[SlotSpec], sectors: u64) -> Result<(), SlotFault>
     requires { All (λ other. IsWithin sectors other.extent) earlier.now }
     ensures ok { OnOk result (IsGoodSlot sectors earlier.now spec.now) }
     ensures fault { IfErr result (λ fault. IsFaultOf sectors earlier.now spec.now fault) }
 {
-    if let Some(RegionFault { region: _, fault }) = fault_of_regions(spec.regions.as_slice()) {
-        return Err(BoardFault::Memory(fault));
+    if let Some(RegionFault { region, fault }) = fault_of_regions(spec.regions.as_slice()) {
+        return Err(SlotFault::Memory { region, fault });
     }
     if !is_within(spec.extent, sectors) {
-        return Err(BoardFault::ExtentOutside);
+        return Err(SlotFault::ExtentOutside);
     }
     for other in earlier {
         if overlap(other.extent, spec.extent) {
-            return Err(BoardFault::ExtentsOverlap);
+            return Err(SlotFault::ExtentsOverlap);
         }
     }
     Ok(())

@@ -5,8 +5,10 @@ use block_device::Verdict;
 use chain::Counts;
 use mmio_window::Action;
 
-/// What a guest's devices did, each number modulo 2^64. A restore keeps them: they are of the slot's life on its board.
+/// What a guest's devices did, each number modulo 2^64. A restore keeps them: they are of the slot's life on its board. C has
+/// it as it is.
 #[derive(Clone, Copy, Debug, Default, PartialEq, Eq)]
+#[repr(C)]
 pub struct Counters {
     /// How many writes notified a device of a queue that it serves.
     pub notifies: u64,

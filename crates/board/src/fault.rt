@@ -7,8 +7,7 @@ use guest_memory::MemoryFault;
 use sector_cache::CacheFault;
 use thiserror::Error;
 
-/// A board that was refused. Where several hold, it is the first in this order, in which the second
-/// to the fifth are looked for slot by slot.
+/// A board that was refused. Where several hold, it is the first in this order; the slots are judged in theirs.
 #[derive(Clone, Copy, Debug, Error, PartialEq, Eq)]
 pub enum BoardFault {
     /// There is no slot.
@@ -17,21 +16,29 @@ pub enum BoardFault {
     /// There are more than sixty-four slots.
     #[error("a board has sixty-four slots at most")]
     TooManySlots,
-    /// A slot's memory can't be had.
-    #[error("a guest's memory: {0}")]
-    Memory(MemoryFault),
-    /// A slot's extent passes the end of the image.
-    #[error("an extent passes the end of the image")]
-    ExtentOutside,
-    /// A slot's extent has a sector of an earlier slot's extent. An empty extent has none.
-    #[error("two extents share a sector")]
-    ExtentsOverlap,
+    /// The first slot that can't be had, and why.
+    #[error("{fault}")]
+    Slot { slot: u8, fault: SlotFault },
     /// The cache has a bad capacity.
     #[error("the cache: {0}")]
     Cache(CacheFault),
     /// There was no memory for the slots, a guest's memory or the cache.
     #[error("no memory for the board")]
     NoMemory,
+}
+
+/// A slot that can't be had beside those before it. Where several hold, it is the first in this order.
+#[derive(Clone, Copy, Debug, Error, PartialEq, Eq)]
+pub enum SlotFault {
+    /// Its memory can't be had: the place of the region at fault, 0 where there is none, and why.
+    #[error("a guest's memory: {fault}")]
+    Memory { region: usize, fault: MemoryFault },
+    /// Its extent passes the end of the image.
+    #[error("an extent passes the end of the image")]
+    ExtentOutside,
+    /// Its extent has a sector of an earlier slot's extent. An empty extent has none.
+    #[error("two extents share a sector")]
+    ExtentsOverlap,
 }
 
 impl BoardFault {
@@ -42,7 +49,13 @@ impl BoardFault {
         matches!(
             self,
             BoardFault::NoMemory
-                | BoardFault::Memory(MemoryFault::NoMemory)
+                | BoardFault::Slot {
+                    slot: _,
+                    fault: SlotFault::Memory {
+                        region: _,
+                        fault: MemoryFault::NoMemory
+                    }
+                }
                 | BoardFault::Cache(CacheFault::NoMemory)
         )
     }

@@ -24,6 +24,7 @@ mod saved;
 mod slot;
 mod view;
 
+use crate::check::check_hosted_slots;
 use crate::event::EventKind;
 use crate::fault::BoardFault;
 pub use crate::hosted::laws::{
@@ -31,9 +32,9 @@ pub use crate::hosted::laws::{
     each_hosted_guest_is_alone, one_hosted_outcome, what_waits_changes_nothing,
 };
 use crate::hosted::slot::HostedSlot;
+use crate::lent;
 use crate::reply::Handled;
 use crate::spec::SlotSpec;
-use crate::{check, lent};
 use block_device::{Operation, Verdict};
 use chain::Segment;
 use console_device::Outlet;
@@ -69,7 +70,7 @@ impl<A: Allocator + Copy> HostedBoard<A> {
         ensures exact { (fault : BoardFault) → fault ≢ BoardFault.NoMemory →
             RefusesHosted slots.now fault → IsErrAnd result (λ why. why ≡ fault) }
     {
-        check::hosted_slots(slots)?;
+        check_hosted_slots(slots)?;
         match open_all(alloc, slots) {
             Ok(slots) => Ok(HostedBoard { slots, alloc }),
             Err(AllocError) => Err(BoardFault::NoMemory),
@@ -90,7 +91,7 @@ impl<A: Allocator + Copy> HostedBoard<A> {
         ensures exact { (fault : BoardFault) → fault ≢ BoardFault.NoMemory →
             RefusesHosted slots.now fault → IsErrAnd result (λ why. why ≡ fault) }
     {
-        check::hosted_slots(slots)?;
+        check_hosted_slots(slots)?;
         match open_all_over(alloc, slots, bytes) {
             Ok(slots) => Ok(HostedBoard { slots, alloc }),
             Err(AllocError) => Err(BoardFault::NoMemory),

@@ -31,10 +31,11 @@ pub use block_device::{Extent, Verdict};
 pub use board::{Board, Taken};
 pub use bytes::Bytes;
 pub use chain::Budget;
+pub use check::{check_hosted_slots, check_slots};
 pub use console_device::Outlet;
 pub use counters::Counters;
 pub use event::{Event, EventKind};
-pub use fault::BoardFault;
+pub use fault::{BoardFault, SlotFault};
 pub use guest_memory::{GuestMemory, MemoryFault, RegionSpec, Regions};
 pub use hosted::{
     HostedBoard, a_flight_outlasts_own_events, a_hosted_guest_alone_has_one_run,

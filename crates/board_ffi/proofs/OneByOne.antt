@@ -1,8 +1,10 @@
 -- Loans that are taken one by one.
-use Rattle.std.proofs.Common.{◌≡◌, ℕ, suc, ◌<◌, ◌+◌, List, [], ◌∷◌, ◌++◌, All, length, map, take, drop, set, get_or, sym, ap, ◌∙◌, subst, arith}
+use Rattle.std.proofs.Common.{◌≡◌, ℕ, suc, ◌<◌, ◌+◌, List, [], ◌∷◌, ◌++◌, All, length, map, take, drop, set, get_or, refl, sym, ap, ◌∙◌, subst, arith}
 use Rattle.std.proofs.lemmas.List.{drop-drop, drop-set-lt, get_or-drop, map-append}
 use Rattle.std.proofs.lemmas.List.Elements.{All-append, All-cons, All-nil}
 use Rattle.std.proofs.Math.Seq.{take-suc, take-suc-set}
+use Rattle.guest_bytes.specs.declared.loan.Loan.{Loan}
+use Rattle.board_ffi.specs.Lent.{TakesFront}
 
 -- what holds of those that are written holds of one more
 pub one_more : {X : Type 0} (P : X → Type 0) (xs : List X) (i : ℕ) (x : X) → i < length xs → All P (take i xs) → P x → All P (take (i + 1) (set xs i x))
@@ -26,3 +28,7 @@ listed f ys i x so_far few is same =
     let next : i + 1 ≡ suc i = omega arith in
     ap (λ some. some ++ (f x ∷ [])) same ∙ sym (map-append f (take i ys) (x ∷ []))
     ∙ ap (λ y. map f (take i ys ++ (y ∷ []))) is ∙ sym (ap (map f) (ap (λ n. take n ys) next ∙ take-suc ys i x few))
+
+-- none is taken
+pub none_taken : (loans : List Loan) → TakesFront loans loans
+none_taken loans = record { taken = 0; empty = All-nil (λ (loan : Loan). loan.items ≡ []); others = refl; same = refl }

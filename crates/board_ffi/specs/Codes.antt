@@ -12,6 +12,8 @@ use Rattle.session.specs.declared.response.Response.{Response}
 use Rattle.session.specs.declared.response.Response.TheVariants as response
 use Rattle.board.specs.declared.fault.BoardFault.{BoardFault}
 use Rattle.board.specs.declared.fault.BoardFault.TheVariants as board
+use Rattle.board.specs.declared.fault.SlotFault.{SlotFault}
+use Rattle.board.specs.declared.fault.SlotFault.TheVariants as slot
 use Rattle.board.specs.declared.saved.RestoreFault.{RestoreFault}
 use Rattle.board.specs.declared.saved.RestoreFault.TheVariants.{Snapshot, OtherSlot, BadBlock, BadConsole}
 use Rattle.board.specs.declared.saved.RestoreRefusal.{RestoreRefusal}
@@ -127,13 +129,17 @@ memory_code memory.BadBase = 11
 memory_code memory.NotApart = 28
 memory_code memory.NoMemory = 5
 
+-- a slot that was refused
+abbrev pub slot_fault_code : SlotFault → ℕ
+slot_fault_code (slot.Memory region why) = memory_code why
+slot_fault_code slot.ExtentOutside = 12
+slot_fault_code slot.ExtentsOverlap = 13
+
 -- a board that was refused
 abbrev pub board_code : BoardFault → ℕ
 board_code board.NoSlots = 8
 board_code board.TooManySlots = 9
-board_code (board.Memory why) = memory_code why
-board_code board.ExtentOutside = 12
-board_code board.ExtentsOverlap = 13
+board_code (board.Slot number why) = slot_fault_code why
 board_code (board.Cache BadCapacity) = 14
 board_code (board.Cache cache.NoMemory) = 5
 board_code board.NoMemory = 5

@@ -1,5 +1,5 @@
 -- What comes of making a board over memory that C lends.
-use Rattle.std.specs.Prelude.{◌≡◌, ◌⊎◌, ℕ, ◌/◌, List, Some, None, length, map}
+use Rattle.std.specs.Prelude.{◌≡◌, ◌⊎◌, ℕ, ◌/◌, List, [], All, Some, None, drop, length, map, take}
 use Rattle.chain.specs.declared.budget.Budget.{Budget}
 use Rattle.guest_bytes.specs.declared.loan.Loan.{Loan}
 use Rattle.board.specs.Fault.{AreGoodHosted, IsAccepted}
@@ -16,6 +16,13 @@ use Rattle.board_ffi.specs.Handle.{Held}
 -- the bytes of each loan
 abbrev pub lent_bytes : List Loan → List (List ℕ)
 lent_bytes loans = map (λ loan. loan.items) loans
+
+-- the first of the loans are taken, which may be none or all: they are empty, and the others as they were
+pub record TakesFront (old new : List Loan) : Type 0 where
+  pub taken : ℕ
+  pub empty : All (λ loan. loan.items ≡ []) (take taken new)
+  pub others : drop taken new ≡ drop taken old
+  pub same : length new ≡ length old
 
 -- there is a new board of these guests over the image, and over these bytes as their memories
 pub record IsMadeOver (guests : List GuestSpec) (bytes : List (List ℕ)) (image : List ℕ) (cache : ℕ) (budget : Budget) (after : Held) : Type 0 where

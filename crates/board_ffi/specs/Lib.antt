@@ -4,5 +4,6 @@ pub mod OfImage
 pub mod Hosted
 pub mod Calls
 pub mod Create
+pub mod Judging
 pub mod Lent
 pub mod Version

@@ -3,11 +3,11 @@
 ghost use Rattle.std.specs.Prelude.{◌≡◌, ◌≢◌, ◌↔◌, IfOk, IsErr, IsErrOf, IsOk, IsTrue, Ok, OnErr};
 ghost use Rattle.board.specs.declared.saved.RestoreRefusal.{RestoreRefusal};
 ghost use Rattle.board.specs.declared.saved.SaveRefusal.{SaveRefusal};
-ghost use Rattle.board_ffi.specs.Codes.{asking_code, board_code, code_by, fault_code, hosted_code, is_saving, memory_code, progress_code, refusal_code, restore_code, restore_fault_code, save_code, went_on_code};
+ghost use Rattle.board_ffi.specs.Codes.{asking_code, board_code, code_by, fault_code, hosted_code, is_saving, memory_code, progress_code, refusal_code, restore_code, restore_fault_code, save_code, slot_fault_code, went_on_code};
 
 use session::{
     BoardFault, CacheFault, HostedProgress, MemoryFault, Progress, Refusal, RestoreFault,
-    RestoreRefusal, SaveRefusal, SessionFault,
+    RestoreRefusal, SaveRefusal, SessionFault, SlotFault,
 };
 
 pub(crate) const DONE: u32 = 0;
@@ -205,7 +205,8 @@ pub(crate) fn of_fault(why: SessionFault) -> u32
 
 // The number of a guest's memory that was refused.
 fn of_memory_fault(why: MemoryFault) -> u32
-    ensures { result ≡ memory_code why }
+    ensures number { result ≡ memory_code why }
+    ensures of_board { (result ≢ 0) × (result ≢ 16) × (result ≢ 17) }
 {
     match why {
         MemoryFault::NoRegions => NO_REGIONS,
@@ -216,16 +217,27 @@ fn of_memory_fault(why: MemoryFault) -> u32
     }
 }
 
-// The number of a board that was refused.
-fn of_board_fault(why: BoardFault) -> u32
-    ensures { result ≡ board_code why }
+// The number of a slot that was refused.
+fn of_slot_fault(why: SlotFault) -> u32
+    ensures number { result ≡ slot_fault_code why }
+    ensures of_board { (result ≢ 0) × (result ≢ 16) × (result ≢ 17) }
+{
+    match why {
+        SlotFault::Memory { region: _, fault } => of_memory_fault(fault),
+        SlotFault::ExtentOutside => EXTENT_OUTSIDE,
+        SlotFault::ExtentsOverlap => EXTENTS_OVERLAP,
+    }
+}
+
+/// The number of a board that was refused.
+pub(crate) fn of_board_fault(why: BoardFault) -> u32
+    ensures number { result ≡ board_code why }
+    ensures of_board { (result ≢ 0) × (result ≢ 16) × (result ≢ 17) }
 {
     match why {
         BoardFault::NoSlots => NO_SLOTS,
         BoardFault::TooManySlots => TOO_MANY_SLOTS,
-        BoardFault::Memory(why) => of_memory_fault(why),
-        BoardFault::ExtentOutside => EXTENT_OUTSIDE,
-        BoardFault::ExtentsOverlap => EXTENTS_OVERLAP,
+        BoardFault::Slot { slot: _, fault } => of_slot_fault(fault),
         BoardFault::Cache(CacheFault::BadCapacity) => BAD_CACHE,
         // All others lack memory.
         _ => NO_MEMORY,

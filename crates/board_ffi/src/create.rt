@@ -8,7 +8,8 @@ ghost use Rattle.session.specs.declared.fault.SessionFault.{SessionFault};
 ghost use Rattle.session.specs.Refusing.{AreOutlets, IsBoardFault, IsRefusedFor};
 ghost use Rattle.session.specs.Session.{new_session, slots_of};
 ghost use Rattle.board_ffi.specs.declared.any_session.AnySession.{AnySession};
-ghost use Rattle.board_ffi.specs.Codes.{board_code};
+ghost use Rattle.board_ffi.specs.Codes.{board_code, fault_code};
+ghost use Rattle.board_ffi.specs.Judging.{first_of_large_outlet, first_of_other_size};
 ghost use Rattle.board_ffi.specs.Create.{AreSized, IsMade, IsNotMade, budget_of, guest_of};
 
 use crate::any_session::AnySession;
@@ -99,20 +100,13 @@ pub extern "C" fn kalyubos_create(
         IsBoardFault (map guest_of slots.now) image.now cache (budget_of chains bytes) fault →
         (result ≡ board_code fault) ⊎ (result ≡ 5) }
 {
-    if let Some(held) = board.take(alloc) {
-        board.put(held);
-        return HAS_BOARD;
+    if let Some(number) = judged_first(alloc, board, slots) {
+        return number;
     }
-    if !are_sized(slots) {
-        return BAD_SIZE;
-    }
-    match session(alloc, slots, image, cache, budget(chains, bytes)) {
-        Ok(session) => {
-            board.put(session);
-            DONE
-        }
-        Err(why) => of_fault(why),
-    }
+    hold(
+        board,
+        session(alloc, slots, image, cache, budget(chains, bytes)),
+    )
 }
 
 /// Ends the board, gives its memory back, and leaves the handle empty.
@@ -160,7 +154,51 @@ fn session(
         return Err(SessionFault::NoMemory);
     };
     let session = Session::new(alloc, &guests, image, cache, budget)?;
-    match Box::new(alloc, AnySession::OfImage(session)) {
+    boxed(alloc, AnySession::OfImage(session))
+}
+
+/// What is judged before all that is described: a board that the handle holds, and the slots' sizes. The number of what
+/// is wrong, where it is.
+pub(crate) fn judged_first(alloc: Global, board: &mut Handle, slots: &[Slot]) -> Option<u32>
+    ensures full { IfSome board.old.session (λ _. result ≡ Some 2) }
+    ensures bad_size { board.old.session ≡ None → ((result ≡ Some 17) ↔ ¬ AreSized slots.now) }
+    ensures others { IfSome result (λ number. (number ≡ 2) ⊎ (number ≡ 17)) }
+    ensures empty { result ≢ Some 2 → board.old.session ≡ None }
+    ensures free { board.old.session ≡ None → result ≢ Some 2 }
+    ensures sized { result ≡ None → AreSized slots.now }
+    ensures kept { board.new.session ≡ board.old.session }
+{
+    if let Some(held) = board.take(alloc) {
+        board.put(held);
+        return Some(HAS_BOARD);
+    }
+    if are_sized(slots) {
+        None
+    } else {
+        Some(BAD_SIZE)
+    }
+}
+
+/// Holds the session that was made, or tells why there is none.
+pub(crate) fn hold(board: &mut Handle, made: Result<Box<AnySession>, SessionFault>) -> u32
+    ensures made { IfOk made (λ session. (result ≡ 0) × (board.new.session ≡ Some session.value)) }
+    ensures refused { IfErr made (λ why. (result ≡ fault_code why) × (board.new.session ≡ board.old.session)) }
+{
+    match made {
+        Ok(session) => {
+            board.put(session);
+            DONE
+        }
+        Err(why) => of_fault(why),
+    }
+}
+
+/// The session in a box.
+pub(crate) fn boxed(alloc: Global, session: AnySession) -> Result<Box<AnySession>, SessionFault>
+    ensures made { IfOk result (λ made. made.value ≡ session) }
+    ensures fault { IfErr result (λ why. why ≡ SessionFault.NoMemory) }
+{
+    match Box::new(alloc, session) {
         Ok(session) => Ok(session),
         Err(_) => Err(SessionFault::NoMemory),
     }
@@ -196,6 +234,26 @@ fn no_slot_passes(slots: &[Slot], most: u32) -> bool
     ensures { IsTrue result ↔ All (λ slot. slot.outlet ≤ most) slots.now }
 {
     slots.iter().all(|slot| slot.outlet <= most)
+}
+
+/// How many slots stand before the first that says another size.
+pub(crate) fn sized(slots: &[Slot]) -> usize
+    ensures { result ≡ first_of_other_size slots.now }
+{
+    slots
+        .iter()
+        .take_while(|slot| slot.size == SLOT_SIZE)
+        .count()
+}
+
+/// How many slots stand before the first whose outlet is too large.
+pub(crate) fn with_outlets(slots: &[Slot]) -> usize
+    ensures { result ≡ first_of_large_outlet slots.now }
+{
+    slots
+        .iter()
+        .take_while(|slot| slot.outlet <= MOST_WAITING)
+        .count()
 }
 
 /// The guests of these slots.

@@ -12,8 +12,7 @@ ghost use Rattle.board_ffi.specs.Codes.{board_code};
 ghost use Rattle.board_ffi.specs.Create.{AreSized, IsHostedMade, IsHostedNotMade, guest_of};
 
 use crate::any_session::AnySession;
-use crate::codes::{BAD_SIZE, DONE, HAS_BOARD, of_fault};
-use crate::create::{Slot, are_outlets, are_sized, guests};
+use crate::create::{Slot, are_outlets, boxed, guests, hold, judged_first};
 use crate::handle::Handle;
 use session::{HostedSession, SessionFault};
 use std::alloc::Global;
@@ -40,20 +39,10 @@ pub extern "C" fn kalyubos_create_hosted(alloc: Global, board: &mut Handle, slot
     ensures bad_board { board.old.session ≡ None → AreSized slots.now → (fault : BoardFault) →
         IsHostedBoardFault (map guest_of slots.now) fault → (result ≡ board_code fault) ⊎ (result ≡ 5) }
 {
-    if let Some(held) = board.take(alloc) {
-        board.put(held);
-        return HAS_BOARD;
+    if let Some(number) = judged_first(alloc, board, slots) {
+        return number;
     }
-    if !are_sized(slots) {
-        return BAD_SIZE;
-    }
-    match session(alloc, slots) {
-        Ok(session) => {
-            board.put(session);
-            DONE
-        }
-        Err(why) => of_fault(why),
-    }
+    hold(board, session(alloc, slots))
 }
 
 // A session of these slots.
@@ -74,8 +63,5 @@ fn session(alloc: Global, slots: &[Slot]) -> Result<Box<AnySession>, SessionFaul
         return Err(SessionFault::NoMemory);
     };
     let session = HostedSession::new(alloc, &guests)?;
-    match Box::new(alloc, AnySession::Hosted(session)) {
-        Ok(session) => Ok(session),
-        Err(_) => Err(SessionFault::NoMemory),
-    }
+    boxed(alloc, AnySession::Hosted(session))
 }

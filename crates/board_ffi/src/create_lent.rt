@@ -10,11 +10,10 @@ ghost use Rattle.session.specs.Session.{new_session_over, slots_of};
 ghost use Rattle.board_ffi.specs.declared.any_session.AnySession.{AnySession};
 ghost use Rattle.board_ffi.specs.Codes.{fault_code};
 ghost use Rattle.board_ffi.specs.Create.{AreSized, budget_of, guest_of};
-ghost use Rattle.board_ffi.specs.Lent.{IsMadeOver, IsNotMadeOver, lent_bytes};
+ghost use Rattle.board_ffi.specs.Lent.{IsMadeOver, IsNotMadeOver, TakesFront, lent_bytes};
 
 use crate::any_session::AnySession;
-use crate::codes::{BAD_SIZE, DONE, HAS_BOARD, of_fault};
-use crate::create::{Slot, are_sized, budget, guests};
+use crate::create::{Slot, boxed, budget, guests, hold, judged_first};
 use crate::handle::Handle;
 use crate::loans::taken;
 use guest_bytes::Loan;
@@ -23,6 +22,7 @@ use std::alloc::Global;
 
 /// Makes a board as `kalyubos_create` does, over bytes that the host lends: a loan for each region, slot by slot. Each loan
 /// is taken, and an empty one left.
+#[tactic(auto, using(crate::proofs::OneByOne::none_taken))]
 #[unsafe(no_mangle)]
 pub extern "C" fn kalyubos_create_lent(
     alloc: Global,
@@ -53,24 +53,19 @@ pub extern "C" fn kalyubos_create_lent(
 
     ensures loans_taken { board.old.session ≡ None → result ≡ 0 → All (λ loan. loan.items ≡ []) loans.new }
     ensures loans_kept { (result ≡ 2) ⊎ (result ≡ 17) → loans.new ≡ loans.old }
+    ensures loans_left { TakesFront loans.old loans.new }
 {
-    if let Some(held) = board.take(alloc) {
-        board.put(held);
-        return HAS_BOARD;
+    if let Some(number) = judged_first(alloc, board, slots) {
+        return number;
     }
-    if !are_sized(slots) {
-        return BAD_SIZE;
-    }
-    match session(alloc, slots, loans, image, cache, budget(chains, bytes)) {
-        Ok(session) => {
-            board.put(session);
-            DONE
-        }
-        Err(why) => of_fault(why),
-    }
+    hold(
+        board,
+        session(alloc, slots, loans, image, cache, budget(chains, bytes)),
+    )
 }
 
 // A session of these slots over these loans.
+#[tactic(auto, using(crate::proofs::OneByOne::none_taken))]
 fn session(
     alloc: Global,
     slots: &[Slot],
@@ -91,6 +86,7 @@ fn session(
         IsLentRefusedFor (map guest_of slots.now) (lent_bytes loans.old) image.now cache budget why →
         IsErrAnd result (λ told. (told ≡ why) ⊎ (told ≡ SessionFault.NoMemory)) }
     ensures left { OnOk result (All (λ loan. loan.items ≡ []) loans.new) }
+    ensures front { TakesFront loans.old loans.new }
 {
     let Ok(guests) = guests(alloc, slots) else {
         return Err(SessionFault::NoMemory);
@@ -99,8 +95,5 @@ fn session(
         return Err(SessionFault::NoMemory);
     };
     let session = Session::over_lent(alloc, &guests, bytes, image, cache, budget)?;
-    match Box::new(alloc, AnySession::OfImage(session)) {
-        Ok(session) => Ok(session),
-        Err(_) => Err(SessionFault::NoMemory),
-    }
+    boxed(alloc, AnySession::OfImage(session))
 }

@@ -4,7 +4,7 @@
 //! C holds, `any_session` the session of either kind, `codes` the numbers, `pending` what waits once a call is answered,
 //! `operation` what a disk is asked for. `region` describes a guest's memory. `create` makes a board over an image and destroys
 //! any, `create_hosted` makes one whose disks the host serves, `create_lent` and `create_hosted_lent` make them over memory
-//! that the host lends (`loans`); `registers`, `disk`, `memory`, `console`, `saved`, `image` and `counters`
+//! that the host lends (`loans`), and `judge` says which slot can't be had; `registers`, `disk`, `memory`, `console`, `saved`, `image` and `counters`
 //! have the calls on one. `version` is the header's number.
 #![tactic(auto)]
 
@@ -19,6 +19,7 @@ mod create_lent;
 mod disk;
 mod handle;
 mod image;
+mod judge;
 mod loans;
 mod memory;
 mod operation;

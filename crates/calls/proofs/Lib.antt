@@ -1,2 +1,1 @@
-pub mod WhoseLemmas
 pub mod Running

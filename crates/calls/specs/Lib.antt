@@ -1,3 +1,2 @@
 pub mod Replayed
 pub mod LastLine
-pub mod Whose

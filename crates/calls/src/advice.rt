@@ -5,7 +5,7 @@ ghost use Rattle.std.specs.Prelude.{◌≡◌, Err};
 use crate::fault::Fault;
 use crate::lines::{Spelling, example_of, spelling_of};
 use crate::manual::{Manual, VERSION, Wish, wish_of};
-use crate::whose::{slot_at_fault, slot_of};
+use crate::whose::slot_of;
 use board::BoardFault;
 use replay::ReplayFault;
 use sector_cache::{BackingFile, FileCall, FileFailure, FileImage};
@@ -45,8 +45,8 @@ pub enum Advice<'a> {
     Output,
     /// A line of a trace that is refused, its text, and the trace's version.
     Line(TraceFault, &'a [u8], u8),
-    /// A board that is refused, and the slot at which.
-    Board(BoardFault, Option<usize>),
+    /// A board that is refused.
+    Board(BoardFault),
     /// A trace of version 1 with more slots than that has.
     ManySlots,
     /// How many calls of an image that was served in place failed, the first, and whose sector that was.
@@ -70,21 +70,16 @@ pub fn refuse<T, F, R: Eprint>(rt: &R, fault: F, advice: Advice<'_>) -> Result<T
     Err(fault)
 }
 
-/// Tells a person why this text's replay over so many sectors did not come to its end, where it didn't.
-pub fn told<T, A: Allocator + Copy, R: Eprint>(
+/// Tells a person why this text's replay did not come to its end, where it didn't.
+pub fn told<T, R: Eprint>(
     rt: &R,
-    alloc: A,
     text: &[u8],
-    sectors: u64,
     outcome: Result<T, ReplayFault>,
 ) -> Result<T, ReplayFault>
     ensures { result ≡ outcome }
 {
     if let Err(fault) = &outcome {
-        tell(
-            rt,
-            Advice::on_replay(*fault, text).at_slot(alloc, text, sectors),
-        );
+        tell(rt, Advice::on_replay(*fault, text));
     }
     outcome
 }
@@ -119,19 +114,9 @@ impl<'a> Advice<'a> {
             ReplayFault::Board(BoardFault::TooManySlots) if version_in(text) == VERSION_1 => {
                 Advice::ManySlots
             }
-            ReplayFault::Board(fault) => Advice::Board(fault, None),
+            ReplayFault::Board(fault) => Advice::Board(fault),
             ReplayFault::Run(_) | ReplayFault::NoMemory => Advice::Memory("the records"),
             ReplayFault::Write => Advice::Output,
-        }
-    }
-
-    // The same, with the slot at which a board is refused over an image of so many sectors.
-    fn at_slot<A: Allocator + Copy>(self, alloc: A, text: &[u8], sectors: u64) -> Advice<'a> {
-        match self {
-            Advice::Board(fault, _) => {
-                Advice::Board(fault, slot_at_fault(alloc, text, sectors, fault))
-            }
-            other => other,
         }
     }
 
@@ -176,7 +161,7 @@ impl Display for Advice<'_> {
             Advice::Unsaved(name) => write!(f, "{name:?} can't be written whole"),
             Advice::Output => write!(f, "standard output can't be written"),
             Advice::Line(fault, line, version) => write_line(f, *fault, line, *version),
-            Advice::Board(fault, slot) => write_board(f, *fault, *slot),
+            Advice::Board(fault) => write_board(f, *fault),
             Advice::ManySlots => write!(
                 f,
                 "the trace's board: in version 1 it has sixteen slots at most, in later versions sixty-four"
@@ -191,18 +176,14 @@ impl Display for Advice<'_> {
     }
 }
 
-// Why a board is refused, and the slot at which, with the line where that stands.
-fn write_board<W: fmt::Write>(
-    f: &mut Formatter<W>,
-    fault: BoardFault,
-    slot: Option<usize>,
-) -> fmt::Result {
-    match slot {
-        Some(number) => {
-            let line = number.saturating_add(3);
-            write!(f, "slot {number} (line {line}): {fault}")
+// Why a board is refused; of a slot its number too, with the line where it stands.
+fn write_board<W: fmt::Write>(f: &mut Formatter<W>, fault: BoardFault) -> fmt::Result {
+    match fault {
+        BoardFault::Slot { slot, fault } => {
+            let line = usize::from(slot) + 3;
+            write!(f, "slot {slot} (line {line}): {fault}")
         }
-        None => write!(f, "the trace's board: {fault}"),
+        fault => write!(f, "the trace's board: {fault}"),
     }
 }
 

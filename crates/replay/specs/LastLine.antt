@@ -3,6 +3,7 @@ use Rattle.std.specs.Prelude.{◌≡◌, ◌⊎◌, ℕ, List, ◌++◌, Option,
 use Rattle.std.specs.Io.KnownBytes.{Appends}
 use Rattle.board.specs.declared.fault.BoardFault.{BoardFault}
 use Rattle.board.specs.declared.fault.BoardFault.TheVariants as board
+use Rattle.board.specs.declared.fault.SlotFault.TheVariants as slot
 use Rattle.guest_memory.specs.declared.fault.MemoryFault.TheVariants as memory
 use Rattle.sector_cache.specs.declared.fault.CacheFault.TheVariants as cache
 use Rattle.trace.specs.declared.fault.FaultKind.{FaultKind}
@@ -48,13 +49,13 @@ board_refused name = ends 1 (codes "fault board " ++ name)
 abbrev pub board_ending : BoardFault → Ending
 board_ending board.NoSlots = board_refused (codes "NoSlots")
 board_ending board.TooManySlots = board_refused (codes "TooManySlots")
-board_ending (board.Memory memory.NoRegions) = board_refused (codes "NoRegions")
-board_ending (board.Memory memory.BadSize) = board_refused (codes "BadSize")
-board_ending (board.Memory memory.BadBase) = board_refused (codes "BadBase")
-board_ending (board.Memory memory.NotApart) = board_refused (codes "NotApart")
-board_ending (board.Memory memory.NoMemory) = memory_ending
-board_ending board.ExtentOutside = board_refused (codes "ExtentOutside")
-board_ending board.ExtentsOverlap = board_refused (codes "ExtentsOverlap")
+board_ending (board.Slot number (slot.Memory region memory.NoRegions)) = board_refused (codes "NoRegions")
+board_ending (board.Slot number (slot.Memory region memory.BadSize)) = board_refused (codes "BadSize")
+board_ending (board.Slot number (slot.Memory region memory.BadBase)) = board_refused (codes "BadBase")
+board_ending (board.Slot number (slot.Memory region memory.NotApart)) = board_refused (codes "NotApart")
+board_ending (board.Slot number (slot.Memory region memory.NoMemory)) = memory_ending
+board_ending (board.Slot number slot.ExtentOutside) = board_refused (codes "ExtentOutside")
+board_ending (board.Slot number slot.ExtentsOverlap) = board_refused (codes "ExtentsOverlap")
 board_ending (board.Cache cache.BadCapacity) = board_refused (codes "BadCapacity")
 board_ending (board.Cache cache.NoMemory) = memory_ending
 board_ending board.NoMemory = memory_ending

@@ -1,14 +1,15 @@
 //! How a program tells what became of a replay: by its last line and its status.
 
-ghost use Rattle.std.specs.Prelude.{◌≡◌, ◌++◌, codes, OnOk, IfErr};
+ghost use Rattle.std.specs.Prelude.{◌≡◌, ◌++◌, ℕ, codes, OnOk, IfErr};
 ghost use Rattle.std.specs.Bool.{OnTrue};
 ghost use Rattle.std.specs.Io.KnownBytes.{Appends, Keeps};
+ghost use Rattle.board.specs.declared.fault.BoardFault.{BoardFault};
 ghost use Rattle.trace.specs.Sends.{AppendsFront};
 ghost use Rattle.replay.specs.LastLine.{Ends, board_ending, ending_of, kind_name, trace_ending};
 ghost use Rattle.trace.specs.Text.{ended};
 
 use crate::fault::ReplayFault;
-use board::BoardFault;
+use board::{BoardFault, SlotFault};
 use guest_memory::MemoryFault;
 use sector_cache::CacheFault;
 use std::io::Write;
@@ -112,15 +113,27 @@ fn board_line(fault: &BoardFault) -> &'static str
     match fault {
         BoardFault::NoSlots => "fault board NoSlots\n",
         BoardFault::TooManySlots => "fault board TooManySlots\n",
-        BoardFault::Memory(MemoryFault::NoRegions) => "fault board NoRegions\n",
-        BoardFault::Memory(MemoryFault::BadSize) => "fault board BadSize\n",
-        BoardFault::Memory(MemoryFault::BadBase) => "fault board BadBase\n",
-        BoardFault::Memory(MemoryFault::NotApart) => "fault board NotApart\n",
-        BoardFault::ExtentOutside => "fault board ExtentOutside\n",
-        BoardFault::ExtentsOverlap => "fault board ExtentsOverlap\n",
+        BoardFault::Slot { slot: _, fault } => slot_line(fault),
         BoardFault::Cache(CacheFault::BadCapacity) => "fault board BadCapacity\n",
         // All others lack memory.
         _ => MEMORY,
+    }
+}
+
+// The last line for a slot's fault.
+fn slot_line(fault: &SlotFault) -> &'static str
+    ensures { (number : ℕ) → result.now ≡ (board_ending (BoardFault.Slot number fault.now)).line }
+{
+    match fault {
+        SlotFault::Memory { region: _, fault } => match fault {
+            MemoryFault::NoRegions => "fault board NoRegions\n",
+            MemoryFault::BadSize => "fault board BadSize\n",
+            MemoryFault::BadBase => "fault board BadBase\n",
+            MemoryFault::NotApart => "fault board NotApart\n",
+            MemoryFault::NoMemory => MEMORY,
+        },
+        SlotFault::ExtentOutside => "fault board ExtentOutside\n",
+        SlotFault::ExtentsOverlap => "fault board ExtentsOverlap\n",
     }
 }
 

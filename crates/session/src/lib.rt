@@ -26,7 +26,7 @@ pub use block_device::{Operation, OperationKind, Verdict};
 pub use board::{
     Board, BoardFault, Budget, CacheFault, Counters, DeviceKind, Event, EventKind, Extent,
     GuestMemory, MemoryFault, Outlet, Pause, RegionSpec, Regions, Reply, RestoreFault,
-    RestoreRefusal, SaveRefusal, Service, SlotSpec,
+    RestoreRefusal, SaveRefusal, Service, SlotFault, SlotSpec,
 };
 pub use chain::{Progress, Segment};
 pub use fault::SessionFault;

@@ -7,7 +7,7 @@ use crate::replaying::{show, try_replay};
 use crate::weave::Text;
 use calls::{Advice, refuse, told};
 use replay::ReplayFault;
-use sector_cache::{Image, MemoryImage};
+use sector_cache::MemoryImage;
 use std::alloc::Global;
 use std::io::{ErrorKind, Write};
 use std::rt::Files;
@@ -23,8 +23,7 @@ pub fn save_page<R: Eprint + Files>(
     image: MemoryImage,
     path: &str,
 ) -> Result<(), ReplayFault> {
-    let sectors = image.sectors();
-    told(rt, alloc, text, sectors, try_replay(alloc, text, &image))?;
+    told(rt, text, try_replay(alloc, text, &image))?;
     let file = match fs::create(rt, path) {
         Ok(file) => file,
         Err(error) => return refuse(rt, ReplayFault::Write, Advice::Unmade(path, error)),

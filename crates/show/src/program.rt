@@ -5,7 +5,7 @@ use crate::replaying::show;
 use crate::words::{Call, read_words};
 use calls::{Advice, Fault, Manual, end, image_in, refuse, text_in, told, zero_image};
 use replay::ReplayFault;
-use sector_cache::{Image, MemoryImage};
+use sector_cache::MemoryImage;
 use std::alloc::Global;
 use std::io;
 use std::rt::Files;
@@ -65,9 +65,8 @@ fn show_files<R: Print + Eprint + Files>(
     match call.page {
         Some(path) => save_page(rt, alloc, &text, image, path),
         None => {
-            let sectors = image.sectors();
             let (_, outcome) = show(alloc, &text, image, io::writer(rt));
-            told(rt, alloc, &text, sectors, outcome)
+            told(rt, &text, outcome)
         }
     }
 }

@@ -8,7 +8,7 @@ ghost use Rattle.vreplay.specs.Words.{saved_to};
 use crate::words::{Call, Keeping};
 use calls::{Advice, image_in, open, refuse, replayed, tell_failures, text_in, told};
 use replay::{ReplayFault, replay_text};
-use sector_cache::{BackingFile, FileImage, FileImageFault, Image, MemoryImage};
+use sector_cache::{BackingFile, FileImage, FileImageFault, MemoryImage};
 use std::alloc::Allocator;
 use std::fs;
 use std::io::Write;
@@ -61,14 +61,7 @@ fn replay_whole<A: Allocator + Copy, R: Eprint + Files, W: Write>(
 ) -> Result<MemoryImage<A>, ReplayFault> {
     let image = image_in(rt, alloc, call.image)?;
     let text = text_in(rt, alloc, call.trace)?;
-    let sectors = image.sectors();
-    told(
-        rt,
-        alloc,
-        &text,
-        sectors,
-        replayed(alloc, &text, out, image),
-    )
+    told(rt, &text, replayed(alloc, &text, out, image))
 }
 
 // Replays the trace over the image's own file. A person is told where calls of that failed.
@@ -85,8 +78,7 @@ where
     let text = text_in(rt, alloc, call.trace)?;
     let (image, outcome) = replay_text(alloc, &text, out, image);
     tell_failures(rt, alloc, &text, call.image, &image);
-    let sectors = image.sectors();
-    told(rt, alloc, &text, sectors, outcome)?;
+    told(rt, &text, outcome)?;
     Ok(image)
 }
 

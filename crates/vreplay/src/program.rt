@@ -7,7 +7,7 @@ use crate::files::replay_files;
 use crate::words::read_words;
 use calls::{Advice, Fault, Manual, end, refuse, replayed, told, zero_image};
 use replay::{ReplayFault, gather};
-use sector_cache::{BackingFile, Image};
+use sector_cache::BackingFile;
 use std::alloc::Allocator;
 use std::io;
 use std::io::Write;
@@ -99,13 +99,6 @@ fn replay_input<A: Allocator + Copy, R: Input + Eprint, W: Write>(
         Ok(text) => text,
         Err(fault) => return refuse(rt, fault, Advice::on_reading(fault, "standard input")),
     };
-    let sectors = image.sectors();
-    told(
-        rt,
-        alloc,
-        &text,
-        sectors,
-        replayed(alloc, &text, out, image),
-    )?;
+    told(rt, &text, replayed(alloc, &text, out, image))?;
     Ok(())
 }

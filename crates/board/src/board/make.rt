@@ -10,7 +10,7 @@ ghost use Rattle.board.specs.Slot.{opened};
 ghost use Rattle.board.specs.World.{extents_of};
 
 use crate::board::Board;
-use crate::check;
+use crate::check::check_slots;
 use crate::fault::BoardFault;
 use crate::slot::{self, Slot};
 use crate::spec::SlotSpec;
@@ -81,7 +81,7 @@ fn cache_before<I: Image, A: Allocator + Copy>(
         Refuses (I.disk image).sector_count slots.now cache refused.why) }
     ensures returned { IfErr result (λ refused. refused.image ≡ image) }
 {
-    if let Err(why) = check::slots(slots, image.sectors()) {
+    if let Err(why) = check_slots(slots, image.sectors()) {
         return Err(Refused { image, why });
     }
     match SectorCache::new(alloc, image, cache) {

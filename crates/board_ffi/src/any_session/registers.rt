@@ -7,8 +7,7 @@ ghost use Rattle.board_ffi.specs.Calls.{GoesOn, HasCounters, HasWords, IsMissing
 
 use crate::any_session::{AnySession, answer_at};
 use crate::codes::{BAD_SLOT, DONE, of_hosted_progress, of_served, told};
-use crate::counters::Counters;
-use session::DeviceKind;
+use session::{Counters, DeviceKind};
 
 impl AnySession {
     /// A guest's read of a register: what it gets.
@@ -128,7 +127,7 @@ fn tell_undisturbed(slot: u8, slots: usize, disturbed: &mut bool) -> u32
 }
 
 // Tells what the devices of a slot did, where it is there.
-fn tell_counters(counted: Option<session::Counters>, counters: &mut Counters) -> u32
+fn tell_counters(counted: Option<Counters>, counters: &mut Counters) -> u32
     ensures there { result ≡ 0 → IsSome counted }
     ensures missing { result ≢ 0 → ¬ IsSome counted }
     ensures bad_slot { result ≢ 0 → result ≡ 3 }
@@ -137,6 +136,6 @@ fn tell_counters(counted: Option<session::Counters>, counters: &mut Counters) ->
     let Some(counted) = counted else {
         return BAD_SLOT;
     };
-    *counters = Counters::of(counted);
+    *counters = counted;
     DONE
 }

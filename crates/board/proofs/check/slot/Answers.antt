@@ -1,14 +1,13 @@
 use Rattle.std.proofs.Common.{subst}
 use Rattle.std.specs.Prelude.{All}
 use Rattle.std.proofs.lemmas.List.{take_all}
-use Rattle.guest_memory.specs.Faults.{AreGood as AreGoodRegions, IsRefused}
+use Rattle.guest_memory.specs.Faults.{AreGood as AreGoodRegions, IsRefusedAt}
 use Rattle.board.specs.Extent.{IsApart}
 use Rattle.board.proofs.check.slot.Goals as goal
 
 pub returns-in-Some-clause-fault : goal.returns-in-Some-clause-fault
 returns-in-Some-clause-fault c =
-    subst (λ rs. IsRefused rs c.in-Some.field-0.fault) c.as_slice.ensures.same
-    (record { place = c.in-Some.field-0.region; by_it = c.in-Some.ensures.fault })
+    subst (λ rs. IsRefusedAt rs c.in-Some.field-0.region c.in-Some.field-0.fault) c.as_slice.ensures.same c.in-Some.ensures.fault
 
 pub returns-clause-ok : goal.returns-clause-ok
 returns-clause-ok c = record {

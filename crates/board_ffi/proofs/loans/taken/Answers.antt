@@ -1,4 +1,4 @@
-use Rattle.std.proofs.Common.{◌≡◌, ℕ, List, [], ◌∷◌, ◌++◌, All, map, subst, ◌∙◌, sym, ap, arith}
+use Rattle.std.proofs.Common.{◌≡◌, ℕ, List, [], ◌∷◌, ◌+◌, ◌++◌, All, map, subst, ◌∙◌, sym, ap, arith}
 use Rattle.std.specs.Vec.{vec_items}
 use Rattle.std.proofs.lemmas.List.{length-set, map-append, take_all}
 use Rattle.guest_bytes.specs.declared.loan.Loan.{Loan}
@@ -23,6 +23,27 @@ loop-place-preserved c =
       length-set loans place c.take.new.self ∙ before.2,
       one_more IsEmpty loans place c.take.new.self (omega (arith, before.2, c.loop-place-test.true)) before.3 c.take.ensures.left,
     )
+
+pub returns-in_err-push-clause-front : goal.returns-in_err-push-clause-front
+returns-in_err-push-clause-front c =
+    let old = c.args.loans.now in
+    let loans = c.loop-place.loans in
+    let place = c.loop-place.place in
+    let before = c.loop-place.invariant in
+    record {
+      taken = place + 1;
+      empty = one_more IsEmpty loans place c.take.new.self (omega (arith, before.2, c.loop-place-test.true)) before.3 c.take.ensures.left;
+      others = behind_same loans old place c.take.new.self before.1;
+      same = length-set loans place c.take.new.self ∙ before.2;
+    }
+
+pub returns-clause-front : goal.returns-clause-front
+returns-clause-front c = record {
+  taken = c.loop-place.place;
+  empty = c.loop-place.invariant.3;
+  others = c.loop-place.invariant.1;
+  same = c.loop-place.invariant.2;
+}
 
 pub returns-clause-left : goal.returns-clause-left
 returns-clause-left c =

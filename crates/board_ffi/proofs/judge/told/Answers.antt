@@ -1,0 +1,9 @@
+use Rattle.std.proofs.Common.{◌≡◌, sym, subst}
+use Rattle.board.specs.declared.fault.BoardFault.{BoardFault}
+use Rattle.board_ffi.specs.Judging.{region_told}
+use Rattle.board_ffi.proofs.judge.told.Goals as goal
+
+pub returns-in-Slot-clause-region : goal.returns-in-Slot-clause-region
+returns-in-Slot-clause-region c =
+    subst (λ (fault : BoardFault). c.tell_region.new.region ≡ region_told fault c.args.region.now) (sym c.in-Slot.is)
+    (c.tell_region.ensures c.in-Slot.at)
