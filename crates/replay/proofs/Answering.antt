@@ -25,9 +25,9 @@ use Rattle.board.proofs.Alone.{get_set}
 use Rattle.board.proofs.Seats.{extents_of-set, handles_missing, noted_none, set_same, step_there}
 use Rattle.replay.specs.Pieces.{SendsRun}
 use Rattle.trace.specs.Records.{entry_of, read_line, record_line, records_text}
-use Rattle.replay.specs.Running.{AnswersEvent, AnswersSaid, IsPart, RunsSaid, SendsOne, words_of}
-use Rattle.trace.specs.declared.read.said.Said.{Said}
-use Rattle.trace.specs.Said.{IsFineSaid}
+use Rattle.replay.specs.Running.{AnswersEvent, AnswersParsed, IsPart, RunsParsed, SendsOne, words_of}
+use Rattle.trace.specs.declared.read.parsed_event.ParsedEvent.{ParsedEvent}
+use Rattle.trace.specs.ParsedEvent.{IsFineParsed}
 use Rattle.trace.specs.Sends.{Sends}
 use Rattle.trace.specs.Text.{ended, joined}
 use Rattle.trace.proofs.Passing.{sends_same}
@@ -176,9 +176,9 @@ event_run {A} disk old new event reply out words a b s t it is sent =
       sent = sends_same a b s t _ _ (one_line entry) sent;
     }
 
-pub said_run : {A I : Type 0} (disk : I → Disk) (said : Said A) (old new : BoardState I) (reply : Reply A) (out : List ℕ) (words : ℕ × ℕ) (a b s t : Option (List ℕ)) → AnswersSaid disk said old reply out new → words ≡ words_of (slice_get new.slots said.event.slot)
-    → Sends a b s (ended (record_line (entry_of said.event.slot reply out words))) t → RunsSaid said (SendsOne disk old new a b s t)
-said_run disk said old new reply out words a b s t it is sent = record {
+pub parsed_run : {A I : Type 0} (disk : I → Disk) (parsed : ParsedEvent A) (old new : BoardState I) (reply : Reply A) (out : List ℕ) (words : ℕ × ℕ) (a b s t : Option (List ℕ)) → AnswersParsed disk parsed old reply out new → words ≡ words_of (slice_get new.slots parsed.event.slot)
+    → Sends a b s (ended (record_line (entry_of parsed.event.slot reply out words))) t → RunsParsed parsed (SendsOne disk old new a b s t)
+parsed_run disk parsed old new reply out words a b s t it is sent = record {
   event = it.event;
   fields = it.fields;
   fine = it.fine;
@@ -186,15 +186,15 @@ said_run disk said old new reply out words a b s t it is sent = record {
 }
 
 -- the same of a read of memory, whose bytes were put where they lie
-pub read_run : {A I : Type 0} (disk : I → Disk) (said : Said A) (board : BoardState I) (addr len : ℕ) (part : List ℕ) (words : ℕ × ℕ) (a b s t : Option (List ℕ)) → IsFineSaid said → said.event.what ≡ MemRead addr len → IsPart board said.event.slot addr len part
-    → words ≡ words_of (slice_get board.slots said.event.slot) → Sends a b s (ended (read_line said.event.slot part words)) t → RunsSaid said (SendsOne disk board board a b s t)
+pub read_run : {A I : Type 0} (disk : I → Disk) (parsed : ParsedEvent A) (board : BoardState I) (addr len : ℕ) (part : List ℕ) (words : ℕ × ℕ) (a b s t : Option (List ℕ)) → IsFineParsed parsed → parsed.event.what ≡ MemRead addr len → IsPart board parsed.event.slot addr len part
+    → words ≡ words_of (slice_get board.slots parsed.event.slot) → Sends a b s (ended (read_line parsed.event.slot part words)) t → RunsParsed parsed (SendsOne disk board board a b s t)
 unfolding read_line record_line
-read_run {A} disk said board addr len part words a b s t fine is it same sent =
-    let event : Event A = record { slot = said.event.slot; what = MemRead addr len } in
+read_run {A} disk parsed board addr len part words a b s t fine is it same sent =
+    let event : Event A = record { slot = parsed.event.slot; what = MemRead addr len } in
     let plain = rw is at fine.what in
     record {
       event = event;
       fields = rw is refl;
       fine = record { fits = record { slot = fine.slot; what = plain.range }; printable = tt };
-      run = event_run disk board board event (Bytes part) [] words a b s t (part_read A disk board said.event.slot addr len part it) same sent;
+      run = event_run disk board board event (Bytes part) [] words a b s t (part_read A disk board parsed.event.slot addr len part it) same sent;
     }

@@ -25,8 +25,8 @@ use Rattle.board.proofs.HostedAccess.{was_read}
 use Rattle.board.proofs.HostedSeats.{calls_missing}
 use Rattle.trace.specs.Asked.{asked_field, asked_line}
 use Rattle.trace.specs.Records.{entry_of, read_line, record_fields}
-use Rattle.trace.specs.declared.read.said.Said.{Said}
-use Rattle.trace.specs.Said.{IsFineSaid}
+use Rattle.trace.specs.declared.read.parsed_event.ParsedEvent.{ParsedEvent}
+use Rattle.trace.specs.ParsedEvent.{IsFineParsed}
 use Rattle.trace.specs.Sends.{AppendsFront, Sends}
 use Rattle.trace.specs.Text.{ended, joined, line}
 use Rattle.trace.specs.declared.disks.Disks.TheVariants.{Hosted}
@@ -35,7 +35,7 @@ use Rattle.trace.proofs.Printed.{joined_append, joined_none}
 use Rattle.trace.proofs.RecordLines.{asked_is}
 use Rattle.replay.specs.Hosted.{AreCallsOf, RecordedHosted, SendsHosted, asked_by, begins, called, flight_at, move_line, move_lines, moves_text, record_of_move, told_of_flight}
 use Rattle.replay.specs.Replay.{RecordedFront}
-use Rattle.replay.specs.Running.{HostsEvent, HostsSaid, IsHostedPart, RunsSaid, SendsOneHosted, words_at}
+use Rattle.replay.specs.Running.{HostsEvent, HostsParsed, IsHostedPart, RunsParsed, SendsOneHosted, words_at}
 
 -- ---- what is in flight
 
@@ -131,12 +131,12 @@ hosted_run {A} old new event reply out words asked a b c s t u it same begun fro
     }
 
 -- the event that was said was answered
-pub said_hosted : {A : Type 0} (said : Said A) (old new : List HostedState) (reply : Reply A) (out : List ℕ) (words : ℕ × ℕ) (next : Bool) (asked : Option (Operation × List Segment)) (a b c s t u : Option (List ℕ))
-    → HostsSaid said old reply out new → words ≡ words_at (slice_get new said.event.slot)
-    → next ≡ begins (verdict_in said.event.what) (flight_at old said.event.slot) → asked ≡ told_of_flight (if next then flight_at new said.event.slot else None)
-    → Sends a b s (line (record_fields (entry_of said.event.slot reply out words)) ++ 32 ∷ []) t → Sends b c t (asked_field asked ++ 10 ∷ []) u
-    → RunsSaid said (SendsOneHosted old new a c s u)
-said_hosted said old new reply out words next asked a b c s t u it same test begun front last =
+pub parsed_hosted : {A : Type 0} (parsed : ParsedEvent A) (old new : List HostedState) (reply : Reply A) (out : List ℕ) (words : ℕ × ℕ) (next : Bool) (asked : Option (Operation × List Segment)) (a b c s t u : Option (List ℕ))
+    → HostsParsed parsed old reply out new → words ≡ words_at (slice_get new parsed.event.slot)
+    → next ≡ begins (verdict_in parsed.event.what) (flight_at old parsed.event.slot) → asked ≡ told_of_flight (if next then flight_at new parsed.event.slot else None)
+    → Sends a b s (line (record_fields (entry_of parsed.event.slot reply out words)) ++ 32 ∷ []) t → Sends b c t (asked_field asked ++ 10 ∷ []) u
+    → RunsParsed parsed (SendsOneHosted old new a c s u)
+parsed_hosted parsed old new reply out words next asked a b c s t u it same test begun front last =
     let event = it.event in
     let asks : asked ≡ asked_by event.slot event.what old new
     = begun ∙ rw (it.slot, it.verdict, test) refl in
@@ -148,20 +148,20 @@ said_hosted said old new reply out words next asked a b c s t u it same test beg
     }
 
 -- memory that was read where it lies
-pub read_hosted : {A : Type 0} (said : Said A) (board : List HostedState) (addr len : ℕ) (part : List ℕ) (words : ℕ × ℕ) (a b c s t u : Option (List ℕ))
-    → IsFineSaid said → said.event.what ≡ MemRead addr len → IsHostedPart board said.event.slot addr len part → words ≡ words_at (slice_get board said.event.slot)
-    → Sends a b s (read_line said.event.slot part words ++ 32 ∷ []) t → Sends b c t (asked_field None ++ 10 ∷ []) u
-    → RunsSaid said (SendsOneHosted board board a c s u)
+pub read_hosted : {A : Type 0} (parsed : ParsedEvent A) (board : List HostedState) (addr len : ℕ) (part : List ℕ) (words : ℕ × ℕ) (a b c s t u : Option (List ℕ))
+    → IsFineParsed parsed → parsed.event.what ≡ MemRead addr len → IsHostedPart board parsed.event.slot addr len part → words ≡ words_at (slice_get board parsed.event.slot)
+    → Sends a b s (read_line parsed.event.slot part words ++ 32 ∷ []) t → Sends b c t (asked_field None ++ 10 ∷ []) u
+    → RunsParsed parsed (SendsOneHosted board board a c s u)
 unfolding read_line
-read_hosted {A} said board addr len part words a b c s t u fine is it same front last =
-    let event : Event A = record { slot = said.event.slot; what = MemRead addr len } in
+read_hosted {A} parsed board addr len part words a b c s t u fine is it same front last =
+    let event : Event A = record { slot = parsed.event.slot; what = MemRead addr len } in
     let plain = rw is at fine.what in
-    let quiet : TakesQuietly board said.event.slot (MemRead addr len) (Bytes part) board = was_read A board said.event.slot it.memory addr len part it.here it.inside it.is in
+    let quiet : TakesQuietly board parsed.event.slot (MemRead addr len) (Bytes part) board = was_read A board parsed.event.slot it.memory addr len part it.here it.inside it.is in
     record {
       event = event;
       fields = rw is refl;
       fine = record { fits = record { slot = fine.slot; what = plain.range }; printable = tt };
-      run = hosted_run board board event (Bytes part) [] words None a b c s t u (taken_quietly board board event (Bytes part) quiet) same (sym (nothing_begins (flight_at board said.event.slot))) front last;
+      run = hosted_run board board event (Bytes part) [] words None a b c s t u (taken_quietly board board event (Bytes part) quiet) same (sym (nothing_begins (flight_at board parsed.event.slot))) front last;
     }
 
 -- ---- one event after another

@@ -6,14 +6,14 @@ use Rattle.board.specs.declared.event.Event.{Event}
 use Rattle.trace.specs.declared.disks.Disks.TheVariants.{Cached}
 use Rattle.trace.specs.declared.fault.FaultKind.{FaultKind}
 use Rattle.trace.specs.declared.fault.FaultKind.TheVariants as kind
-use Rattle.trace.specs.declared.read.said.Said.{Said}
+use Rattle.trace.specs.declared.read.parsed_event.ParsedEvent.{ParsedEvent}
 use Rattle.trace.specs.Cuts.{fields_of, lines_of}
-use Rattle.trace.specs.Judging.{AreEventLines, AreLinesOf, HaveRoom, bytes_len, said_len}
+use Rattle.trace.specs.Validating.{AreEventLines, AreLinesOf, HaveRoom, bytes_len, parsed_len}
 use Rattle.trace.specs.Printable.{IsPrintableSlot, SlotInRange}
 use Rattle.trace.specs.Refusals.{IsFine, RefusesLine}
 use Rattle.trace.specs.Events.{BeginsWithEvent, TakesEvent}
-use Rattle.replay.specs.Running.{HasRoomFor, RunsLine, RunsSaid}
-use Rattle.trace.specs.Said.{said_fields}
+use Rattle.replay.specs.Running.{HasRoomFor, RunsLine, RunsParsed}
+use Rattle.trace.specs.ParsedEvent.{parsed_fields}
 use Rattle.trace.specs.Text.{Content, ended, event_fields, event_line, front_text, joined, text, trace_lines, word_for}
 use Rattle.trace.proofs.Entries.{cut_event, entered_event}
 use Rattle.trace.proofs.Printed.{joined_append, text_is}
@@ -90,14 +90,14 @@ begins_at (e ∷ left) rest more some =
     }
 
 -- what was taken off is the first of the events, and the others are left
-record IsNext {A : Type 0} (e : Event A) (left : List (Event A)) (said : Said A) (after : List ℕ) : Type 0 where
-  fields : event_fields e ≡ said_fields said
+record IsNext {A : Type 0} (e : Event A) (left : List (Event A)) (parsed : ParsedEvent A) (after : List ℕ) : Type 0 where
+  fields : event_fields e ≡ parsed_fields parsed
   fine : IsFine e
   more : AreLinesOf left after
 
-next_is : {A : Type 0} (e : Event A) (left : List (Event A)) (rest : List ℕ) (said : Said A) (after : List ℕ) → AreLinesOf (e ∷ left) rest → TakesEvent rest said after → IsNext e left said after
+next_is : {A : Type 0} (e : Event A) (left : List (Event A)) (rest : List ℕ) (parsed : ParsedEvent A) (after : List ℕ) → AreLinesOf (e ∷ left) rest → TakesEvent rest parsed after → IsNext e left parsed after
 unfolding joined
-next_is e left rest said after more takes =
+next_is e left rest parsed after more takes =
     let fine = more.fine 0 e (omega arith) in
     let cut = ap lines_of more.spelled ∙ first_cut (event_line e) (map event_line left) (above e fine) in
     let same : takes.line ≡ event_line e = ap (λ (ls : List (List ℕ)). get_or ls 0 []) (sym takes.lines ∙ cut) in
@@ -109,16 +109,16 @@ next_is e left rest said after more takes =
       more = record { fine = λ k d lt. more.fine (suc k) d (omega arith); spelled = ap (drop 1) (append_cancel_left (event_line e) (10 ∷ after) (10 ∷ joined (map event_line left)) whole) };
     }
 
-none_taken : {A : Type 0} (rest : List ℕ) (said : Said A) (after : List ℕ) → TakesEvent rest said after → rest ≡ [] → ⊥
-none_taken rest said after takes none = omega (arith, ap length (sym none ∙ takes.ended), length-append takes.line (10 ∷ after))
+none_taken : {A : Type 0} (rest : List ℕ) (parsed : ParsedEvent A) (after : List ℕ) → TakesEvent rest parsed after → rest ≡ [] → ⊥
+none_taken rest parsed after takes none = omega (arith, ap length (sym none ∙ takes.ended), length-append takes.line (10 ∷ after))
 
 -- there is room for its bytes
-fits_at : {A : Type 0} (left : List (Event A)) (room : ℕ) (rest : List ℕ) (said : Said A) (after : List ℕ) → AreLinesOf left rest → HaveRoom room left → TakesEvent rest said after → said_len said ≤ room
+fits_at : {A : Type 0} (left : List (Event A)) (room : ℕ) (rest : List ℕ) (parsed : ParsedEvent A) (after : List ℕ) → AreLinesOf left rest → HaveRoom room left → TakesEvent rest parsed after → parsed_len parsed ≤ room
 unfolding joined
-fits_at [] room rest said after more fit takes = absurd (none_taken rest said after takes more.spelled)
-fits_at {A} (e ∷ left) room rest said after more fit takes =
-    let next = next_is e left rest said after more takes in
-    let it = meant said takes.fine in
+fits_at [] room rest parsed after more fit takes = absurd (none_taken rest parsed after takes more.spelled)
+fits_at {A} (e ∷ left) room rest parsed after more fit takes =
+    let next = next_is e left rest parsed after more takes in
+    let it = meant parsed takes.fine in
     let same = same_event_fields it.event e it.fine next.fine (it.fields_are ∙ sym next.fields) in
     let first : bytes_len e.what ≤ room = fit 0 e (omega arith) in
     let len = it.len in
@@ -144,16 +144,16 @@ module _ (A : Type 0) (lines : List ℕ) (room : ℕ) (rest : List ℕ) (Run : L
   begins some = begins_at so.left rest so.more some
 
   pub fits : HasRoomFor A rest room
-  fits said after takes = fits_at so.left room rest said after so.more so.fit takes
+  fits parsed after takes = fits_at so.left room rest parsed after so.more so.fit takes
 
 -- one event more
-more_at : (A : Type 0) (lines : List ℕ) (room : ℕ) (rest : List ℕ) (said : Said A) (after : List ℕ) (done left : List (Event A)) (Old New : List (Event A) → Type 0) (One : Event A → Type 0)
-    → AreLinesOf (done ++ left) lines → AreLinesOf left rest → HaveRoom room left → Old done → TakesEvent rest said after → RunsSaid said One
+more_at : (A : Type 0) (lines : List ℕ) (room : ℕ) (rest : List ℕ) (parsed : ParsedEvent A) (after : List ℕ) (done left : List (Event A)) (Old New : List (Event A) → Type 0) (One : Event A → Type 0)
+    → AreLinesOf (done ++ left) lines → AreLinesOf left rest → HaveRoom room left → Old done → TakesEvent rest parsed after → RunsParsed parsed One
     → ((es : List (Event A)) (e : Event A) → Old es → One e → New (es ++ e ∷ [])) → RunSofar A lines room after New
 unfolding joined
-more_at A lines room rest said after done [] Old New One whole more fit run takes it join = absurd (none_taken rest said after takes more.spelled)
-more_at A lines room rest said after done (e ∷ left) Old New One whole more fit run takes it join =
-    let next = next_is e left rest said after more takes in
+more_at A lines room rest parsed after done [] Old New One whole more fit run takes it join = absurd (none_taken rest parsed after takes more.spelled)
+more_at A lines room rest parsed after done (e ∷ left) Old New One whole more fit run takes it join =
+    let next = next_is e left rest parsed after more takes in
     let same = same_event_fields it.event e it.fine next.fine (it.fields ∙ sym next.fields) in
     record {
       done = done ++ e ∷ [];
@@ -167,7 +167,7 @@ more_at A lines room rest said after done (e ∷ left) Old New One whole more fi
 pub run_more : (A : Type 0) (lines : List ℕ) (room : ℕ) (rest after : List ℕ) (Old New : List (Event A) → Type 0) (One : Event A → Type 0)
     → RunSofar A lines room rest Old → RunsLine A rest after One → ((es : List (Event A)) (e : Event A) → Old es → One e → New (es ++ e ∷ [])) → RunSofar A lines room after New
 run_more A lines room rest after Old New One so it join =
-    more_at A lines room rest it.said after so.done so.left Old New One so.whole so.more so.fit so.run it.taken it.ran join
+    more_at A lines room rest it.parsed after so.done so.left Old New One so.whole so.more so.fit so.run it.taken it.ran join
 
 -- no line is left
 all_at : (A : Type 0) (lines : List ℕ) (rest : List ℕ) (done left events : List (Event A)) (Run : List (Event A) → Type 0)

@@ -12,7 +12,7 @@ use Rattle.board.specs.Fault.{AreGoodHosted, IsAccepted}
 use Rattle.board.specs.Hosting.{HostedState, hosted_opened}
 use Rattle.board.specs.Slot.{opened}
 use Rattle.board.specs.World.{BoardState}
-use Rattle.trace.specs.Judging.{AreLinesOf, IsJudged, Judgement}
+use Rattle.trace.specs.Validating.{AreLinesOf, IsValidated, Validation}
 use Rattle.replay.specs.declared.fault.ReplayFault.{ReplayFault}
 use Rattle.replay.specs.declared.fault.ReplayFault.TheVariants.{Read, Trace, Board, Run, Write, NoMemory}
 use Rattle.replay.specs.Limits.{IsSmallMemory, asked_of_board}
@@ -29,9 +29,9 @@ replays disk input old new before after (Err (Run done)) plays = plays
 replays disk input old new before after (Err Write) plays = plays
 replays disk input old new before after (Err NoMemory) plays = plays
 
--- The board of the slots that were judged, and what came of the lines of their events.
-pub played : {A I : Type 0} (disk : I → Disk) (text : List ℕ) (old new : Option (List ℕ)) (before after : I) (outcome : Result (Unit {0}) ReplayFault) (j : Judgement) (disks : Disks) (slots : List SlotSpec)
-    → IsJudged A text j → j.disks ≡ disks → slots ≡ j.slots
+-- The board of the slots that were validated, and what came of the lines of their events.
+pub played : {A I : Type 0} (disk : I → Disk) (text : List ℕ) (old new : Option (List ℕ)) (before after : I) (outcome : Result (Unit {0}) ReplayFault) (j : Validation) (disks : Disks) (slots : List SlotSpec)
+    → IsValidated A text j → j.disks ≡ disks → slots ≡ j.slots
     → (¬ HasTooMany (front A j.version disks slots)) → All (IsSmallMemory j.version) slots → AcceptsBy disks (disk before).sector_count slots
     → ((events : List (Event A)) → AreLinesOf events j.events → AfterRun disks disk slots events before after old new outcome)
     → Replays A disk (Some text) old new before after outcome
@@ -54,14 +54,14 @@ played {A} {I} disk text old new before after outcome j disks slots is kind same
     })
 
 -- a trace whose disks the host serves is of version 3
-pub few_hosted : {A : Type 0} (text : List ℕ) (j : Judgement) (slots : List SlotSpec) → IsJudged A text j → j.disks ≡ Hosted → ¬ HasTooMany (front A j.version Hosted slots)
+pub few_hosted : {A : Type 0} (text : List ℕ) (j : Validation) (slots : List SlotSpec) → IsValidated A text j → j.disks ≡ Hosted → ¬ HasTooMany (front A j.version Hosted slots)
 few_hosted text j slots is kind many =
     let three : 3 ≤ is.trace.version = subst (λ (d : Disks). IsWordOf is.trace.version (disks_word d)) (is.disks ∙ kind) is.read.printable.disks in
     omega (arith, is.version, many.version)
 
 -- the same over an image
-pub played_over : {A I : Type 0} (disk : I → Disk) (text : List ℕ) (old new : Option (List ℕ)) (before after : I) (outcome : Result (Unit {0}) ReplayFault) (j : Judgement) (capacity : ℕ) (slots : List SlotSpec) (board : BoardState I)
-    → IsJudged A text j → j.disks ≡ Cached capacity → slots ≡ j.slots → board ≡ record { slots = map opened slots; image = before }
+pub played_over : {A I : Type 0} (disk : I → Disk) (text : List ℕ) (old new : Option (List ℕ)) (before after : I) (outcome : Result (Unit {0}) ReplayFault) (j : Validation) (capacity : ℕ) (slots : List SlotSpec) (board : BoardState I)
+    → IsValidated A text j → j.disks ≡ Cached capacity → slots ≡ j.slots → board ≡ record { slots = map opened slots; image = before }
     → (¬ HasTooMany (front A j.version (Cached capacity) slots)) → All (IsSmallMemory j.version) slots → IsAccepted (disk before).sector_count slots capacity
     → ((specs : List SlotSpec) (events : List (Event A)) → board.slots ≡ map opened specs → AreLinesOf events j.events → AfterRun (Cached capacity) disk specs events board.image after old new outcome)
     → Replays A disk (Some text) old new before after outcome
@@ -71,16 +71,16 @@ played_over {A} {I} disk text old new before after outcome j capacity slots boar
     (ended slots events (ap (λ (b : BoardState I). b.slots) made) are))
 
 -- and on a board whose disks the host serves
-pub played_hosted : {A I : Type 0} (disk : I → Disk) (text : List ℕ) (old new : Option (List ℕ)) (before after : I) (outcome : Result (Unit {0}) ReplayFault) (j : Judgement) (slots : List SlotSpec) (board : List HostedState)
-    → IsJudged A text j → j.disks ≡ Hosted → slots ≡ j.slots → board ≡ map hosted_opened slots → All (IsSmallMemory j.version) slots → AreGoodHosted slots
+pub played_hosted : {A I : Type 0} (disk : I → Disk) (text : List ℕ) (old new : Option (List ℕ)) (before after : I) (outcome : Result (Unit {0}) ReplayFault) (j : Validation) (slots : List SlotSpec) (board : List HostedState)
+    → IsValidated A text j → j.disks ≡ Hosted → slots ≡ j.slots → board ≡ map hosted_opened slots → All (IsSmallMemory j.version) slots → AreGoodHosted slots
     → ((specs : List SlotSpec) (events : List (Event A)) → board ≡ map hosted_opened specs → AreLinesOf events j.events → AfterRun Hosted disk specs events before after old new outcome)
     → Replays A disk (Some text) old new before after outcome
 played_hosted disk text old new before after outcome j slots board is kind same made small accepted ended =
     played disk text old new before after outcome j Hosted slots is kind same (few_hosted text j slots is kind) small accepted (λ events are. ended slots events made are)
 
--- there is no board for the slots that were judged
-pub refused_board : {A I : Type 0} (disk : I → Disk) (text : List ℕ) (old : Option (List ℕ)) (before after : I) (fault : BoardFault) (j : Judgement) (disks : Disks) (slots : List SlotSpec)
-    → IsJudged A text j → j.disks ≡ disks → slots ≡ j.slots → after ≡ before → RefusesBoardOf (disk before).sector_count (front A j.version disks slots) fault
+-- there is no board for the slots that were validated
+pub refused_board : {A I : Type 0} (disk : I → Disk) (text : List ℕ) (old : Option (List ℕ)) (before after : I) (fault : BoardFault) (j : Validation) (disks : Disks) (slots : List SlotSpec)
+    → IsValidated A text j → j.disks ≡ disks → slots ≡ j.slots → after ≡ before → RefusesBoardOf (disk before).sector_count (front A j.version disks slots) fault
     → RefusesBoard A disk (Some text) old old before after fault
 refused_board disk text old before after fault j disks slots is kind same image refused =
     let described : slots ≡ is.trace.slots = same ∙ sym is.slots in

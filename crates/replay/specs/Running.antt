@@ -1,4 +1,4 @@
--- Running the events of lines that were judged, one after another.
+-- Running the events of lines that were validated, one after another.
 use Rattle.std.specs.Prelude.{◌≡◌, ◌≤◌, ℕ, List, [], ◌∷◌, Option, None, Some, IsSomeAnd}
 use Rattle.guest_memory.specs.Memory.{Inside, Memory, part_of}
 use Rattle.std.specs.List.{slice_get}
@@ -11,13 +11,13 @@ use Rattle.board.specs.Hosting.{HostedState, verdict_in}
 use Rattle.board.specs.Image.{Tells}
 use Rattle.board.specs.Slot.{BoardSlot, interrupt_words}
 use Rattle.board.specs.World.{Answers, BoardState, extents_of, world_of}
-use Rattle.trace.specs.declared.read.said.Said.{Said}
+use Rattle.trace.specs.declared.read.parsed_event.ParsedEvent.{ParsedEvent}
 use Rattle.replay.specs.Hosted.{SendsHosted}
 use Rattle.replay.specs.Pieces.{SendsRun}
 use Rattle.trace.specs.Events.{TakesEvent}
-use Rattle.trace.specs.Judging.{said_len}
+use Rattle.trace.specs.Validating.{parsed_len}
 use Rattle.trace.specs.Refusals.{IsFine}
-use Rattle.trace.specs.Said.{said_fields}
+use Rattle.trace.specs.ParsedEvent.{parsed_fields}
 use Rattle.trace.specs.Text.{event_fields}
 
 -- these bytes lie in the memory of a slot that is there
@@ -43,17 +43,17 @@ pub record AnswersEvent {A I : Type 0} (disk : I → Disk) (old : BoardState I) 
   pub keeps : KeepsTelling disk old new
 
 -- it answered the event that was said
-pub record AnswersSaid {A I : Type 0} (disk : I → Disk) (said : Said A) (old : BoardState I) (reply : Reply A) (out : List ℕ) (new : BoardState I) : Type 0 where
+pub record AnswersParsed {A I : Type 0} (disk : I → Disk) (parsed : ParsedEvent A) (old : BoardState I) (reply : Reply A) (out : List ℕ) (new : BoardState I) : Type 0 where
   pub event : Event A
-  pub slot : event.slot ≡ said.event.slot
-  pub fields : event_fields event ≡ said_fields said
+  pub slot : event.slot ≡ parsed.event.slot
+  pub fields : event_fields event ≡ parsed_fields parsed
   pub fine : IsFine event
   pub answered : AnswersEvent disk old event reply out new
 
 -- the event that was said was run, of which this holds
-pub record RunsSaid {A : Type 0} (said : Said A) (Run : Event A → Type 0) : Type 0 where
+pub record RunsParsed {A : Type 0} (parsed : ParsedEvent A) (Run : Event A → Type 0) : Type 0 where
   pub event : Event A
-  pub fields : event_fields event ≡ said_fields said
+  pub fields : event_fields event ≡ parsed_fields parsed
   pub fine : IsFine event
   pub run : Run event
 
@@ -66,13 +66,13 @@ SendsOneHosted old new before after waiting waiting' event = SendsHosted old new
 
 -- the bytes of the event that the first of these lines says have room
 abbrev pub HasRoomFor : Type 0 → List ℕ → ℕ → Type 0
-HasRoomFor A lines room = (said : Said A) (after : List ℕ) → TakesEvent lines said after → said_len said ≤ room
+HasRoomFor A lines room = (parsed : ParsedEvent A) (after : List ℕ) → TakesEvent lines parsed after → parsed_len parsed ≤ room
 
 -- that event was taken off and run
 pub record RunsLine (A : Type 0) (lines rest : List ℕ) (Run : Event A → Type 0) : Type 0 where
-  pub said : Said A
-  pub taken : TakesEvent lines said rest
-  pub ran : RunsSaid said Run
+  pub parsed : ParsedEvent A
+  pub taken : TakesEvent lines parsed rest
+  pub ran : RunsParsed parsed Run
 
 -- ---- a board whose disks the host serves
 
@@ -95,10 +95,10 @@ pub record HostsEvent {A : Type 0} (old : List HostedState) (event : Event A) (r
   pub takes : TakesCall old event.slot event.what None reply block console [] out new
 
 -- it answered the event that was said
-pub record HostsSaid {A : Type 0} (said : Said A) (old : List HostedState) (reply : Reply A) (out : List ℕ) (new : List HostedState) : Type 0 where
+pub record HostsParsed {A : Type 0} (parsed : ParsedEvent A) (old : List HostedState) (reply : Reply A) (out : List ℕ) (new : List HostedState) : Type 0 where
   pub event : Event A
-  pub slot : event.slot ≡ said.event.slot
-  pub fields : event_fields event ≡ said_fields said
+  pub slot : event.slot ≡ parsed.event.slot
+  pub fields : event_fields event ≡ parsed_fields parsed
   pub fine : IsFine event
-  pub verdict : verdict_in event.what ≡ verdict_in said.event.what
+  pub verdict : verdict_in event.what ≡ verdict_in parsed.event.what
   pub answered : HostsEvent old event reply out new

@@ -1,4 +1,4 @@
-//! Running the events of lines that were judged on a board whose disks the host serves.
+//! Running the events of lines that were validated on a board whose disks the host serves.
 //!
 //! As `running` does it over an image; each record says besides which operation began with its event.
 
@@ -8,12 +8,12 @@ ghost use Rattle.std.specs.Option.{option_map};
 ghost use Rattle.board.specs.declared.event.Event.{Event};
 ghost use Rattle.board.specs.declared.event.EventKind.{EventKind};
 ghost use Rattle.board.specs.Hosting.{verdict_in};
-ghost use Rattle.trace.specs.Judging.{AreEventLines, AreLinesOf, said_len};
+ghost use Rattle.trace.specs.Validating.{AreEventLines, AreLinesOf, parsed_len};
 ghost use Rattle.trace.specs.Events.{BeginsWithEvent};
-ghost use Rattle.trace.specs.Said.{IsFineSaid};
+ghost use Rattle.trace.specs.ParsedEvent.{IsFineParsed};
 ghost use Rattle.trace.specs.Sends.{waiting};
 ghost use Rattle.replay.specs.Hosted.{SendsHosted, begins, flight_at, told_of_flight};
-ghost use Rattle.replay.specs.Running.{HasRoomFor, HostsEvent, HostsSaid, IsHostedPart, RunsLine, RunsSaid, SendsOneHosted, words_at};
+ghost use Rattle.replay.specs.Running.{HasRoomFor, HostsEvent, HostsParsed, IsHostedPart, RunsLine, RunsParsed, SendsOneHosted, words_at};
 
 use crate::running::bytes_in;
 use block_device::Operation;
@@ -21,7 +21,7 @@ use board::{Event, EventKind, Handled, HostedBoard, Reply, RestoreRefusal};
 use chain::Segment;
 use std::alloc::Allocator;
 use std::io::Write;
-use trace::{Buffer, Said, put_asked, put_fields, put_read, take_event};
+use trace::{Buffer, ParsedEvent, put_asked, put_fields, put_read, take_event};
 
 /// Runs the events that the lines say, and sends the text of their records.
 pub(crate) fn run_lines<W: Write, A: Allocator + Copy>(
@@ -60,8 +60,8 @@ fn run_line<'a, W: Write, A: Allocator + Copy>(
         (SendsOneHosted board.old board.new (W.contents writer.old) (W.contents writer.new) (waiting text.old) (waiting text.new)) }
     ensures empty { output.new.items ≡ [] }
 {
-    let (said, after) = take_event(alloc, lines);
-    run_event(board, &said, room, output, text, writer);
+    let (parsed, after) = take_event(alloc, lines);
+    run_event(board, &parsed, room, output, text, writer);
     after
 }
 
@@ -69,29 +69,29 @@ fn run_line<'a, W: Write, A: Allocator + Copy>(
 // is read is printed where it lies.
 fn run_event<W: Write, A: Allocator + Copy>(
     board: &mut HostedBoard<A>,
-    said: &Said<'_, A>,
+    parsed: &ParsedEvent<'_, A>,
     room: &mut [u8],
     output: &mut Vec<u8, A>,
     text: &mut Buffer<A>,
     writer: &mut W,
 )
-    requires fine { IsFineSaid said.now }
-    requires room { said_len said.now ≤ length room.old }
+    requires fine { IsFineParsed parsed.now }
+    requires room { parsed_len parsed.now ≤ length room.old }
     requires empty { output.old.items ≡ [] }
-    ensures sent { RunsSaid said.now
+    ensures sent { RunsParsed parsed.now
         (SendsOneHosted board.old board.new (W.contents writer.old) (W.contents writer.new) (waiting text.old) (waiting text.new)) }
     ensures empty { output.new.items ≡ [] }
 {
-    let slot = said.event.slot;
-    if let EventKind::MemRead { addr, len } = said.event.what {
+    let slot = parsed.event.slot;
+    if let EventKind::MemRead { addr, len } = parsed.event.what {
         if let Some(part) = part_of(board, slot, addr, len) {
             put_read(text, writer, slot, part, words(board, slot), b' ');
             put_asked(text, writer, None);
             return;
         }
     }
-    let is_next = begins_next(board, &said.event);
-    let reply = answer(board, said, room, output);
+    let is_next = begins_next(board, &parsed.event);
+    let reply = answer(board, parsed, room, output);
     let words = words(board, slot);
     put_fields(text, writer, slot, &reply, output.as_slice(), words, b' ');
     put_asked(text, writer, begun(board, slot, is_next));
@@ -146,24 +146,24 @@ fn words<A: Allocator>(board: &HostedBoard<A>, slot: u8) -> (u8, u8)
 // Handles an event.
 fn answer<A: Allocator + Copy>(
     board: &mut HostedBoard<A>,
-    said: &Said<'_, A>,
+    parsed: &ParsedEvent<'_, A>,
     room: &mut [u8],
     output: &mut Vec<u8, A>,
 ) -> Reply<A>
-    requires fine { IsFineSaid said.now }
-    requires room { said_len said.now ≤ length room.old }
+    requires fine { IsFineParsed parsed.now }
+    requires room { parsed_len parsed.now ≤ length room.old }
     requires empty { output.old.items ≡ [] }
-    ensures { HostsSaid said.now board.old result output.new.items board.new }
+    ensures { HostsParsed parsed.now board.old result output.new.items board.new }
 {
-    let slot = said.event.slot;
-    match said.event.what {
+    let slot = parsed.event.slot;
+    match parsed.event.what {
         EventKind::MemWrite { addr, .. } => {
-            write_memory(board, slot, addr, bytes_in(room, said.bytes))
+            write_memory(board, slot, addr, bytes_in(room, parsed.bytes))
         }
-        EventKind::Input { .. } => input(board, slot, bytes_in(room, said.bytes)),
-        EventKind::Restore { .. } => restore(board, slot, bytes_in(room, said.bytes)),
+        EventKind::Input { .. } => input(board, slot, bytes_in(room, parsed.bytes)),
+        EventKind::Restore { .. } => restore(board, slot, bytes_in(room, parsed.bytes)),
         _ => {
-            let Handled { reply, .. } = board.step(slot, &said.event.what, output);
+            let Handled { reply, .. } = board.step(slot, &parsed.event.what, output);
             reply
         }
     }

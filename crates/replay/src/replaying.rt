@@ -1,6 +1,6 @@
 //! Replaying a trace: from its text to the text of its records.
 //!
-//! The text goes through two passes: `judge` looks at all of it, and `run_lines`, of `running` or of
+//! The text goes through two passes: `validate` looks at all of it, and `run_lines`, of `running` or of
 //! `hosted`, then reads and runs line by line.
 
 ghost use Rattle.std.specs.Prelude.{◌≡◌, ◌≢◌, ℕ, All, List, Some, Err, IfErr, IfOk, OnOk, length, map};
@@ -11,7 +11,7 @@ ghost use Rattle.board.specs.Hosting.{hosted_opened};
 ghost use Rattle.board.specs.Slot.{opened};
 ghost use Rattle.replay.specs.declared.fault.ReplayFault.{ReplayFault};
 ghost use Rattle.trace.specs.declared.disks.Disks.{Disks};
-ghost use Rattle.trace.specs.Judging.{AreEventLines, AreLinesOf, IsJudged, judgement};
+ghost use Rattle.trace.specs.Validating.{AreEventLines, AreLinesOf, IsValidated, validation};
 ghost use Rattle.replay.specs.Limits.{IsSmallMemory, asked_of_board};
 ghost use Rattle.replay.specs.Replay.{AfterRun, EndsReading, HasTooMany, RefusesBoardOf, Replays, front};
 
@@ -23,7 +23,7 @@ use board::{Board, BoardFault, HostedBoard, SlotSpec};
 use sector_cache::{Image, Refused};
 use std::alloc::Allocator;
 use std::io::{Read, Write};
-use trace::{Buffer, Disks, FaultKind, Judged, TraceFault, VERSION_1, judge};
+use trace::{Buffer, Disks, FaultKind, TraceFault, VERSION_1, Validated, validate};
 
 /// The fault where there is no memory for the input.
 const NO_ROOM: TraceFault = TraceFault {
@@ -56,7 +56,7 @@ pub fn replay<R: Read, W: Write, I: Image, A: Allocator + Copy>(
     }
 }
 
-/// The same of a text that was gathered before. It is judged whole before the first event, of which none is kept.
+/// The same of a text that was gathered before. It is validated whole before the first event, of which none is kept.
 pub fn replay_text<W: Write, I: Image, A: Allocator + Copy>(
     alloc: A,
     text: &[u8],
@@ -67,39 +67,52 @@ pub fn replay_text<W: Write, I: Image, A: Allocator + Copy>(
     ensures read { result.1 ≢ Err ReplayFault.Read }
     ensures whole { (done : ℕ) → result.1 ≢ Err (ReplayFault.Run done) }
 {
-    let judged = match judge(alloc, text) {
-        Ok(judged) => judged,
+    let validated = match validate(alloc, text) {
+        Ok(validated) => validated,
         Err(fault) => return (image, Err(ReplayFault::Trace(fault))),
     };
-    let Ok(mut room) = vec![in alloc; 0; judged.longest] else {
-        return (image, Err(ReplayFault::Trace(judged.no_room())));
+    let Ok(mut room) = vec![in alloc; 0; validated.longest] else {
+        return (image, Err(ReplayFault::Trace(validated.no_room())));
     };
-    match judged.disks {
+    match validated.disks {
         Disks::Cached { capacity } => {
-            replay_over(alloc, judged, capacity, room.as_mut_slice(), writer, image)
+            replay_over(
+                alloc,
+                validated,
+                capacity,
+                room.as_mut_slice(),
+                writer,
+                image,
+            )
         }
-        Disks::Hosted => replay_hosted(alloc, judged, room.as_mut_slice(), writer, image),
+        Disks::Hosted => replay_hosted(alloc, validated, room.as_mut_slice(), writer, image),
     }
 }
 
-// The same of a text that was judged, whose disks are on the image.
+// The same of a text that was validated, whose disks are on the image.
 fn replay_over<W: Write, I: Image, A: Allocator + Copy>(
     alloc: A,
-    mut judged: Judged<'_, A>,
+    mut validated: Validated<'_, A>,
     capacity: u32,
     room: &mut [u8],
     writer: &mut W,
     image: I,
 ) -> (I, Result<(), ReplayFault>)
-    requires disks { judged.disks ≡ Disks.Cached capacity }
-    requires room { AreEventLines A (length room.old) judged.events.now }
-    ensures comes_to { (text : List ℕ) → IsJudged A text (judgement judged.entry) →
+    requires disks { validated.disks ≡ Disks.Cached capacity }
+    requires room { AreEventLines A (length room.old) validated.events.now }
+    ensures comes_to { (text : List ℕ) → IsValidated A text (validation validated.entry) →
         Replays A I.disk (Some text) (W.contents writer.old) (W.contents writer.new) image result.0 result.1 }
     ensures read { result.1 ≢ Err ReplayFault.Read }
     ensures whole { (done : ℕ) → result.1 ≢ Err (ReplayFault.Run done) }
 {
-    match board_of(alloc, judged.version, capacity, &mut judged.slots, image) {
-        Ok(board) => run_judged(alloc, board, judged.events, room, writer),
+    match board_of(
+        alloc,
+        validated.version,
+        capacity,
+        &mut validated.slots,
+        image,
+    ) {
+        Ok(board) => run_validated(alloc, board, validated.events, room, writer),
         Err(Refused { image, why }) => (image, Err(ReplayFault::Board(why))),
     }
 }
@@ -107,20 +120,20 @@ fn replay_over<W: Write, I: Image, A: Allocator + Copy>(
 // The same of one whose disks the host serves. The image has no part in it.
 fn replay_hosted<W: Write, I: Image, A: Allocator + Copy>(
     alloc: A,
-    mut judged: Judged<'_, A>,
+    mut validated: Validated<'_, A>,
     room: &mut [u8],
     writer: &mut W,
     image: I,
 ) -> (I, Result<(), ReplayFault>)
-    requires disks { judged.disks ≡ Disks.Hosted }
-    requires room { AreEventLines A (length room.old) judged.events.now }
-    ensures comes_to { (text : List ℕ) → IsJudged A text (judgement judged.entry) →
+    requires disks { validated.disks ≡ Disks.Hosted }
+    requires room { AreEventLines A (length room.old) validated.events.now }
+    ensures comes_to { (text : List ℕ) → IsValidated A text (validation validated.entry) →
         Replays A I.disk (Some text) (W.contents writer.old) (W.contents writer.new) image result.0 result.1 }
     ensures read { result.1 ≢ Err ReplayFault.Read }
     ensures whole { (done : ℕ) → result.1 ≢ Err (ReplayFault.Run done) }
 {
-    match hosted_board_of(alloc, judged.version, &mut judged.slots) {
-        Ok(board) => run_hosted(alloc, board, judged.events, room, writer, image),
+    match hosted_board_of(alloc, validated.version, &mut validated.slots) {
+        Ok(board) => run_hosted(alloc, board, validated.events, room, writer, image),
         Err(why) => (image, Err(ReplayFault::Board(why))),
     }
 }
@@ -164,7 +177,7 @@ fn hosted_board_of<A: Allocator + Copy>(
 }
 
 // Runs the events of the lines on their board, which is new, and writes the text of their records.
-fn run_judged<W: Write, I: Image, A: Allocator + Copy>(
+fn run_validated<W: Write, I: Image, A: Allocator + Copy>(
     alloc: A,
     mut board: Board<I, A>,
     lines: &[u8],

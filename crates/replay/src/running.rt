@@ -1,4 +1,4 @@
-//! Running the events of lines that were judged, one after another.
+//! Running the events of lines that were validated, one after another.
 //!
 //! Each line is read, its event handled and the text of its record sent before the next. Bytes that it spells are
 //! written into room that is lent.
@@ -8,10 +8,10 @@ ghost use Rattle.std.specs.List.{slice_get};
 ghost use Rattle.board.specs.declared.event.Event.{Event};
 ghost use Rattle.board.specs.declared.event.EventKind.{EventKind};
 ghost use Rattle.trace.specs.Events.{BeginsWithEvent};
-ghost use Rattle.trace.specs.Judging.{AreEventLines, AreLinesOf, said_len};
+ghost use Rattle.trace.specs.Validating.{AreEventLines, AreLinesOf, parsed_len};
 ghost use Rattle.replay.specs.Pieces.{SendsRun};
-ghost use Rattle.replay.specs.Running.{AnswersEvent, AnswersSaid, HasRoomFor, IsPart, RunsLine, RunsSaid, SendsOne, words_of};
-ghost use Rattle.trace.specs.Said.{IsFineSaid};
+ghost use Rattle.replay.specs.Running.{AnswersEvent, AnswersParsed, HasRoomFor, IsPart, RunsLine, RunsParsed, SendsOne, words_of};
+ghost use Rattle.trace.specs.ParsedEvent.{IsFineParsed};
 ghost use Rattle.trace.specs.Sends.{waiting};
 ghost use Rattle.hexadecimal.specs.Fields.{IsBytesField};
 ghost use Rattle.trace.specs.Words.{Says, Bytes as ByBytes};
@@ -20,7 +20,7 @@ use board::{Board, EventKind, Reply};
 use sector_cache::Image;
 use std::alloc::Allocator;
 use std::io::Write;
-use trace::{Buffer, Said, put_line, put_read, read_bytes, spelled_len, take_event};
+use trace::{Buffer, ParsedEvent, put_line, put_read, read_bytes, spelled_len, take_event};
 
 /// Runs the events that the lines say, and sends the text of their records. Where the writer fails the run goes on, so
 /// that what becomes of the image isn't decided by the writer.
@@ -60,8 +60,8 @@ fn run_line<'a, W: Write, I: Image, A: Allocator + Copy>(
         (SendsOne I.disk board.old board.new (W.contents writer.old) (W.contents writer.new) (waiting text.old) (waiting text.new)) }
     ensures empty { output.new.items ≡ [] }
 {
-    let (said, after) = take_event(alloc, lines);
-    run_event(board, &said, room, output, text, writer);
+    let (parsed, after) = take_event(alloc, lines);
+    run_event(board, &parsed, room, output, text, writer);
     after
 }
 
@@ -69,27 +69,27 @@ fn run_line<'a, W: Write, I: Image, A: Allocator + Copy>(
 // is read is printed where it lies.
 fn run_event<W: Write, I: Image, A: Allocator + Copy>(
     board: &mut Board<I, A>,
-    said: &Said<'_, A>,
+    parsed: &ParsedEvent<'_, A>,
     room: &mut [u8],
     output: &mut Vec<u8, A>,
     text: &mut Buffer<A>,
     writer: &mut W,
 )
-    requires fine { IsFineSaid said.now }
-    requires room { said_len said.now ≤ length room.old }
+    requires fine { IsFineParsed parsed.now }
+    requires room { parsed_len parsed.now ≤ length room.old }
     requires empty { output.old.items ≡ [] }
-    ensures sent { RunsSaid said.now
+    ensures sent { RunsParsed parsed.now
         (SendsOne I.disk board.old board.new (W.contents writer.old) (W.contents writer.new) (waiting text.old) (waiting text.new)) }
     ensures empty { output.new.items ≡ [] }
 {
-    let slot = said.event.slot;
-    if let EventKind::MemRead { addr, len } = said.event.what {
+    let slot = parsed.event.slot;
+    if let EventKind::MemRead { addr, len } = parsed.event.what {
         if let Some(part) = part_of(board, slot, addr, len) {
             put_read(text, writer, slot, part, words(board, slot), b'\n');
             return;
         }
     }
-    let reply = answer(board, said, room, output);
+    let reply = answer(board, parsed, room, output);
     let words = words(board, slot);
     put_line(text, writer, slot, &reply, output.as_slice(), words);
     output.clear();
@@ -122,23 +122,23 @@ fn words<I: Image, A: Allocator>(board: &Board<I, A>, slot: u8) -> (u8, u8)
 // Handles an event.
 fn answer<I: Image, A: Allocator + Copy>(
     board: &mut Board<I, A>,
-    said: &Said<'_, A>,
+    parsed: &ParsedEvent<'_, A>,
     room: &mut [u8],
     output: &mut Vec<u8, A>,
 ) -> Reply<A>
-    requires fine { IsFineSaid said.now }
-    requires room { said_len said.now ≤ length room.old }
+    requires fine { IsFineParsed parsed.now }
+    requires room { parsed_len parsed.now ≤ length room.old }
     requires empty { output.old.items ≡ [] }
-    ensures { AnswersSaid I.disk said.now board.old result output.new.items board.new }
+    ensures { AnswersParsed I.disk parsed.now board.old result output.new.items board.new }
 {
-    let slot = said.event.slot;
-    match said.event.what {
+    let slot = parsed.event.slot;
+    match parsed.event.what {
         EventKind::MemWrite { addr, .. } => {
-            write_memory(board, slot, addr, bytes_in(room, said.bytes))
+            write_memory(board, slot, addr, bytes_in(room, parsed.bytes))
         }
-        EventKind::Input { .. } => input(board, slot, bytes_in(room, said.bytes)),
-        EventKind::Restore { .. } => restore(board, slot, bytes_in(room, said.bytes)),
-        _ => board.step(&said.event, output),
+        EventKind::Input { .. } => input(board, slot, bytes_in(room, parsed.bytes)),
+        EventKind::Restore { .. } => restore(board, slot, bytes_in(room, parsed.bytes)),
+        _ => board.step(&parsed.event, output),
     }
 }
 

@@ -40,16 +40,16 @@ counted version l v w e is =
     let same = same_word v w (sym (first_is version l v e) ∙ is) in
     subst (λ (x : Word). AreAsMany version x (other_fields l)) same (subst (AreAsMany version v) (sym (others_are version l v e)) e.count)
 
-said : (version : ℕ) (l : List ℕ) (v w : Word) (fault : FaultKind) → Entered version l v → first_field l ≡ spelled w → AllSay fault (shapes version w (other_fields l)) (other_fields l)
-said version l v w fault e is =
+parsed : (version : ℕ) (l : List ℕ) (v w : Word) (fault : FaultKind) → Entered version l v → first_field l ≡ spelled w → AllSay fault (shapes version w (other_fields l)) (other_fields l)
+parsed version l v w fault e is =
     let same = same_word v w (sym (first_is version l v e) ∙ is) in
     subst (λ (x : Word). AllSay fault (shapes version x (other_fields l)) (other_fields l)) same (subst (λ (fs : List (List ℕ)). AllSay fault (shapes version v fs) fs) (sym (others_are version l v e)) (e.say fault))
 
 module _ (version : ℕ) (text : List ℕ) (k : ℕ) (g : Good version text k) where
-  good_said : (fault : FaultKind) → 2 ≤ k → (v : ℕ) → IsOfVersion text v → (w : Word) → first_field (line_at text k) ≡ spelled w → AllSay fault (shapes v w (other_fields (line_at text k))) (other_fields (line_at text k))
-  good_said fault le v names w is =
+  good_parsed : (fault : FaultKind) → 2 ≤ k → (v : ℕ) → IsOfVersion text v → (w : Word) → first_field (line_at text k) ≡ spelled w → AllSay fault (shapes v w (other_fields (line_at text k))) (other_fields (line_at text k))
+  good_parsed fault le v names w is =
       let e = g.entry le in
-      subst (λ (x : ℕ). AllSay fault (shapes x w (other_fields (line_at text k))) (other_fields (line_at text k))) (same_version version v text g.names names) (said version (line_at text k) e.0 w fault e.1 is)
+      subst (λ (x : ℕ). AllSay fault (shapes x w (other_fields (line_at text k))) (other_fields (line_at text k))) (same_version version v text g.names names) (parsed version (line_at text k) e.0 w fault e.1 is)
 
   good_counted : 2 ≤ k → (v : ℕ) → IsOfVersion text v → (w : Word) → first_field (line_at text k) ≡ spelled w → AreAsMany v w (other_fields (line_at text k))
   good_counted le v names w is =
@@ -62,9 +62,9 @@ module _ (version : ℕ) (text : List ℕ) (k : ℕ) (g : Good version text k) w
   good_passes kind.Word = λ end le v names. subst (λ (x : ℕ). HasWord x k (line_at text k)) (same_version version v text g.names names) (g.word le)
   good_passes kind.Order = λ end. g.order
   good_passes kind.Fields = λ end. good_counted
-  good_passes kind.Number = λ end. good_said kind.Number
-  good_passes kind.Choice = λ end. good_said kind.Choice
-  good_passes kind.Bytes = λ end. good_said kind.Bytes
+  good_passes kind.Number = λ end. good_parsed kind.Number
+  good_passes kind.Choice = λ end. good_parsed kind.Choice
+  good_passes kind.Bytes = λ end. good_parsed kind.Bytes
   good_passes kind.NoMemory = tt
 
 abbrev pub IsSlotLine : ℕ → List ℕ → Type 0

@@ -158,9 +158,9 @@ entered_disks version disks.Hosted lt of = record {
 abbrev last_field : ℕ → SlotSpec → List (List ℕ)
 last_field version s = since_version_2 version (bytes s.identity ∷ [])
 
-last_said : (has : Bool) (width : List ℕ) (s : SlotSpec) → SlotInRange s → EachSays (map (shape_of width) (if has then [] else Identity ∷ [])) (if has then [] else bytes s.identity ∷ [])
-last_said true width s h = tt
-last_said false width s h = ((s.identity, record { bytes_are = record { fits = h.identity; spelled = refl }; twenty = h.twenty }), tt)
+last_parsed : (has : Bool) (width : List ℕ) (s : SlotSpec) → SlotInRange s → EachSays (map (shape_of width) (if has then [] else Identity ∷ [])) (if has then [] else bytes s.identity ∷ [])
+last_parsed true width s h = tt
+last_parsed false width s h = ((s.identity, record { bytes_are = record { fits = h.identity; spelled = refl }; twenty = h.twenty }), tt)
 
 last_counted : (has : Bool) (width : List ℕ) (s : SlotSpec) → length (if has then [] else bytes s.identity ∷ []) ≡ length (map (shape_of width) (if has then [] else Identity ∷ []))
 last_counted false width s = refl
@@ -177,12 +177,12 @@ memory_row one = if one then field.Base ∷ field.Size ∷ [] else field.Regions
 abbrev memory_texts : Bool → List RegionSpec → List (List ℕ)
 memory_texts one regions = if one then flat_map region_fields regions else regions_text regions ∷ []
 
-memory_said : (one : Bool) (width : List ℕ) (regions : List RegionSpec) → All RegionInRange regions → length regions ≤ 8 → 1 ≤ length regions → (one ≡ true → length regions ≡ 1)
+memory_parsed : (one : Bool) (width : List ℕ) (regions : List RegionSpec) → All RegionInRange regions → length regions ≤ 8 → 1 ≤ length regions → (one ≡ true → length regions ≡ 1)
     → EachSays (map (shape_of width) (memory_row one)) (memory_texts one regions) × (length (memory_texts one regions) ≡ length (memory_row one))
-memory_said false width regions fits few some single = (((regions, record { some = some; few = few; fits = fits; spelled = refl }), tt), refl)
-memory_said true width [] fits few some single = absurd (omega (arith, some))
-memory_said true width (r ∷ []) fits few some single = let h = fits 0 r (omega arith) in ((number 64 r.base h.base, (number 64 r.len h.len, tt)), refl)
-memory_said true width (r ∷ (s ∷ rs)) fits few some single = absurd (omega (arith, single refl))
+memory_parsed false width regions fits few some single = (((regions, record { some = some; few = few; fits = fits; spelled = refl }), tt), refl)
+memory_parsed true width [] fits few some single = absurd (omega (arith, some))
+memory_parsed true width (r ∷ []) fits few some single = let h = fits 0 r (omega arith) in ((number 64 r.base h.base, (number 64 r.len h.len, tt)), refl)
+memory_parsed true width (r ∷ (s ∷ rs)) fits few some single = absurd (omega (arith, single refl))
 
 above_region : (r : RegionSpec) → Above 32 (region_text r)
 above_region r = above_append 32 (num r.base) (43 ∷ num r.len) (above_num r.base) (omega arith, above_num r.len)
@@ -220,14 +220,14 @@ slot_rest version s = memory_fields version s.regions ++ behind version s
 memory_of : (version : ℕ) (width : List ℕ) (s : SlotSpec) → IsFineSlot version s
     → EachSays (map (shape_of width) (memory_in version)) (memory_fields version s.regions) × (length (memory_fields version s.regions) ≡ length (memory_in version))
 memory_of version width s h =
-    memory_said (nat_lt version 3) width s.regions h.fits.regions h.fits.few h.printable.memory.some (λ e. h.printable.memory.one (ltb-true version 3 e))
+    memory_parsed (nat_lt version 3) width s.regions h.fits.regions h.fits.few h.printable.memory.some (λ e. h.printable.memory.one (ltb-true version 3 e))
 
-slot_said : (version : ℕ) (s : SlotSpec) → IsFineSlot version s → EachSays (shapes version Slot (slot_rest version s)) (slot_rest version s)
-slot_said version s h =
+slot_parsed : (version : ℕ) (s : SlotSpec) → IsFineSlot version s → EachSays (shapes version Slot (slot_rest version s)) (slot_rest version s)
+slot_parsed version s h =
     let width = width_among (slot_rest version s) in
     let memory = memory_of version width s h in
     say_both (shape_of width) (memory_in version) (behind_memory version) (memory_fields version s.regions) (behind version s) memory.1 memory.0
-    (number 64 s.extent.start h.fits.start, (number 64 s.extent.count h.fits.count, ((s.read_only, refl), (number 16 s.cols h.fits.cols, (number 16 s.rows h.fits.rows, last_said (version == 1) width s h.fits)))))
+    (number 64 s.extent.start h.fits.start, (number 64 s.extent.count h.fits.count, ((s.read_only, refl), (number 16 s.cols h.fits.cols, (number 16 s.rows h.fits.rows, last_parsed (version == 1) width s h.fits)))))
 
 slot_counted : (version : ℕ) (s : SlotSpec) → IsFineSlot version s → AreAsMany version Slot (slot_rest version s)
 slot_counted version s h =
@@ -251,7 +251,7 @@ slot_above version s h =
 pub entered_slot : (version : ℕ) (s : SlotSpec) → IsFineSlot version s → Entered version (slot_line version s) Slot
 unfolding slot_line
 entered_slot version s h =
-    entered version (slot_line version s) Slot (slot_rest version s) refl (slot_counted version s h) (slot_said version s h) (slot_above version s h.fits)
+    entered version (slot_line version s) Slot (slot_rest version s) refl (slot_counted version s h) (slot_parsed version s h) (slot_above version s h.fits)
 
 -- a value within a width, beside that width
 says_value : (width value : ℕ) → IsWidth width → value < 2 ^ (8 * width) → Says (Value (width_digit width)) (fixed (2 * width) value)

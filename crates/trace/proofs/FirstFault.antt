@@ -56,8 +56,8 @@ other_passes kind shape field other =
     let differ = ne_eqb (order (fault_of shape)) (order kind) (λ e. other (same_kind (fault_of shape) kind e)) in
     rw differ tt
 
-pub said_passes : (kind : FaultKind) (shape : Shape) (field : List ℕ) → Says shape field → MatchBool (order (fault_of shape) == order kind) (Says shape field) ⊤
-said_passes kind shape field said = one_way (order (fault_of shape) == order kind) (Says shape field) said
+pub parsed_passes : (kind : FaultKind) (shape : Shape) (field : List ℕ) → Says shape field → MatchBool (order (fault_of shape) == order kind) (Says shape field) ⊤
+parsed_passes kind shape field parsed = one_way (order (fault_of shape) == order kind) (Says shape field) parsed
 
 module _ (kind : FaultKind) (width : List ℕ) where
   -- at the first of the fields of a row
@@ -92,8 +92,8 @@ module _ (kind : FaultKind) (width : List ℕ) where
 module _ (kind : FaultKind) (version : ℕ) (line : List ℕ) (row : List Field) (width : List ℕ) (first : List ℕ) (fields : List (List ℕ)) (word : Word) where
   row_is : (w : Word) → first_field line ≡ spelled word → fields_of line ≡ first ∷ fields → width ≡ slice_index_or fields 3 [] → row ≡ fields_in version word → first_field line ≡ spelled w
       → (map (shape_of width) row ≡ shapes version w (other_fields line)) × (fields ≡ other_fields line)
-  row_is w is cut by table said =
-      let same : w ≡ word = same_word w word (sym said ∙ is) in
+  row_is w is cut by table parsed =
+      let same : w ≡ word = same_word w word (sym parsed ∙ is) in
       let others : fields ≡ other_fields line = sym (ap (drop 1) cut) in
       (ap (λ (x : List ℕ). map (shape_of x) row) (by ∙ ap (λ (fs : List (List ℕ)). slice_index_or fs 3 []) others) ∙ ap (λ (fs : List Field). map (shape_of (width_among (other_fields line))) fs) table ∙ ap (λ (v : Word). shapes version v (other_fields line)) (sym same), others)
 
@@ -101,8 +101,8 @@ module _ (kind : FaultKind) (version : ℕ) (line : List ℕ) (row : List Field)
       → IfSome found (λ f. IsAtFault kind (map (shape_of width) row) fields (shape_of width f.0) f.1.now)
       → IfSome found (λ f. (w : Word) → first_field line ≡ spelled w → IsAtFault kind (shapes version w (other_fields line)) (other_fields line) (shape_of (width_among (other_fields line)) f.0) f.1.now)
   some_in None is cut by table found = tt
-  some_in (Some f) is cut by table found = λ w said.
-      let same = row_is w is cut by table said in
+  some_in (Some f) is cut by table found = λ w parsed.
+      let same = row_is w is cut by table parsed in
       let wide : width ≡ width_among (other_fields line) = by ∙ ap (λ (fs : List (List ℕ)). slice_index_or fs 3 []) same.1 in
       subst (λ (x : List ℕ). IsAtFault kind (shapes version w (other_fields line)) (other_fields line) (shape_of x f.0) f.1.now) wide
       (subst (λ (fs : List (List ℕ)). IsAtFault kind (shapes version w (other_fields line)) fs (shape_of width f.0) f.1.now) same.1
@@ -110,8 +110,8 @@ module _ (kind : FaultKind) (version : ℕ) (line : List ℕ) (row : List Field)
 
   pub none_in : first_field line ≡ spelled word → fields_of line ≡ first ∷ fields → width ≡ slice_index_or fields 3 [] → row ≡ fields_in version word
       → AllSay kind (map (shape_of width) row) fields → (w : Word) → first_field line ≡ spelled w → AllSay kind (shapes version w (other_fields line)) (other_fields line)
-  none_in is cut by table say = λ w said.
-      let same = row_is w is cut by table said in
+  none_in is cut by table say = λ w parsed.
+      let same = row_is w is cut by table parsed in
       subst (λ (fs : List (List ℕ)). AllSay kind (shapes version w (other_fields line)) fs) same.1
       (subst (λ (ss : List Shape). AllSay kind ss fields) same.0 say)
 
@@ -124,8 +124,8 @@ all_after fault [] ts (f ∷ fs) gs same h = absurd (omega (arith, same))
 all_after fault (s ∷ ss) ts [] gs same h = absurd (omega (arith, same))
 all_after fault (s ∷ ss) ts (f ∷ fs) gs same h = all_after fault ss ts fs gs (omega (arith, same)) h.1
 
-said_here : (kind : FaultKind) (shape : Shape) (field : List ℕ) → fault_of shape ≡ kind → MatchBool (order (fault_of shape) == order kind) (Says shape field) ⊤ → Says shape field
-said_here kind shape field is h =
+parsed_here : (kind : FaultKind) (shape : Shape) (field : List ℕ) → fault_of shape ≡ kind → MatchBool (order (fault_of shape) == order kind) (Says shape field) ⊤ → Says shape field
+parsed_here kind shape field is h =
     let same : (order (fault_of shape) == order kind) ≡ true = eq-eqb (order (fault_of shape)) (order kind) (ap order is) in
     rw same at h
 
@@ -134,7 +134,7 @@ refuses : (kind : FaultKind) (ss : List Shape) (fs : List (List ℕ)) (shape : S
 refuses kind ss fs shape field at all =
     let split = subst (λ (xs : List (List ℕ)). AllSay kind (at.before ++ shape ∷ at.after) xs) at.fields_are (subst (λ (xs : List Shape). AllSay kind xs fs) at.shapes_are all) in
     let here = all_after kind at.before (shape ∷ at.after) at.front (field ∷ at.rest) at.as_many split in
-    at.fails (said_here kind shape field at.of_kind here.0)
+    at.fails (parsed_here kind shape field at.of_kind here.0)
 
 pub none_found : (kind : FaultKind) (ss : List Shape) (fs : List (List ℕ)) (width : List ℕ) (found : Option (Field × Bor (List ℕ))) (none : Bool) → is_some found ≡ not none → IfSome found (λ f. IsAtFault kind ss fs (shape_of width f.0) f.1.now) → (is_some found ≡ false → AllSay kind ss fs)
     → IsTrue none ↔ AllSay kind ss fs

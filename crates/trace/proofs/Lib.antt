@@ -16,7 +16,7 @@ pub mod Heads
 pub mod Refused
 pub mod Unique
 pub mod FirstFault
-pub mod Judgements
+pub mod Validations
 pub mod Printed
 pub mod RecordLines
 pub mod Sending

@@ -105,15 +105,15 @@ no_region : RegionSpec
 no_region = record { base = 0; len = 0 }
 
 module _ (field : List ℕ) (items : List RegionSpec) (rest : Option (List ℕ)) (so_far : parts 44 field ≡ map region_text items ++ parts_left 44 rest) where
-  said : (regions : List RegionSpec) → IsRegionsField field regions → map region_text regions ≡ map region_text items ++ parts_left 44 rest
-  said regions is = sym (regions_parts regions is.some) ∙ sym (ap (parts 44) is.spelled) ∙ so_far
+  parsed : (regions : List RegionSpec) → IsRegionsField field regions → map region_text regions ≡ map region_text items ++ parts_left 44 rest
+  parsed regions is = sym (regions_parts regions is.some) ∙ sym (ap (parts 44) is.spelled) ∙ so_far
 
   -- more than eight
   pub too_many : (list : List ℕ) → rest ≡ Some list → 8 ≤ length items → ¬ Says Regions field
   too_many list some full says =
       let regions = says.0 in
       let is = says.1 in
-      let parts_are : map region_text regions ≡ map region_text items ++ parts 44 list = subst (λ (r : Option (List ℕ)). map region_text regions ≡ map region_text items ++ parts_left 44 r) some (said regions is) in
+      let parts_are : map region_text regions ≡ map region_text items ++ parts 44 list = subst (λ (r : Option (List ℕ)). map region_text regions ≡ map region_text items ++ parts_left 44 r) some (parsed regions is) in
       let few = is.few in
       omega (arith, few, full, some_parts 44 list, ap length parts_are, length-append (map region_text items) (parts 44 list), length-map regions region_text, length-map items region_text)
 
@@ -122,7 +122,7 @@ module _ (field : List ℕ) (items : List RegionSpec) (rest : Option (List ℕ))
   bad_part list part others some cut none says =
       let regions = says.0 in
       let is = says.1 in
-      let parts_are : map region_text regions ≡ map region_text items ++ part ∷ others = subst (λ (r : Option (List ℕ)). map region_text regions ≡ map region_text items ++ parts_left 44 r) some (said regions is) ∙ ap (λ (xs : List (List ℕ)). map region_text items ++ xs) cut in
+      let parts_are : map region_text regions ≡ map region_text items ++ part ∷ others = subst (λ (r : Option (List ℕ)). map region_text regions ≡ map region_text items ++ parts_left 44 r) some (parsed regions is) ∙ ap (λ (xs : List (List ℕ)). map region_text items ++ xs) cut in
       let below : length items < length regions = omega (arith, ap length parts_are, length-append (map region_text items) (part ∷ others), length-map regions region_text, length-map items region_text) in
       let here : part ≡ region_text (get_or regions (length items) no_region) =
       sym (here_of (map region_text items) part others) ∙ ap (λ (n : ℕ). get_or (map region_text items ++ part ∷ others) n []) (length-map items region_text) ∙ ap (λ (xs : List (List ℕ)). get_or xs (length items) []) (sym parts_are) ∙ get_or-map region_text regions (length items) no_region [] below in
@@ -153,6 +153,6 @@ pub made_some : (field : List ℕ) (made : Option (List RegionSpec)) (items : Li
 made_some field None items is h = tt
 made_some field (Some m) items is h = subst (IsRegionsField field) (sym is) h
 
-pub made_said : (field : List ℕ) (made : Option (List RegionSpec)) (items : List RegionSpec) → IfSome made (λ m. m ≡ items) → IsRegionsField field items → OnSome made (Says Regions field)
-made_said field None items is h = tt
-made_said field (Some m) items is h = (items, h)
+pub made_parsed : (field : List ℕ) (made : Option (List RegionSpec)) (items : List RegionSpec) → IfSome made (λ m. m ≡ items) → IsRegionsField field items → OnSome made (Says Regions field)
+made_parsed field None items is h = tt
+made_parsed field (Some m) items is h = (items, h)

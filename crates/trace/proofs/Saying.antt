@@ -3,13 +3,13 @@ use Rattle.std.proofs.Common.{◌≡◌, ℕ, ◌/◌, List, ◌∷◌, ◌++◌
 use Rattle.board.specs.declared.event.Event.{Event}
 use Rattle.board.specs.declared.event.EventKind.{EventKind}
 use Rattle.board.specs.declared.event.EventKind.TheVariants as event
-use Rattle.trace.specs.declared.read.said.Said.{Said}
+use Rattle.trace.specs.declared.read.parsed_event.ParsedEvent.{ParsedEvent}
 use Rattle.trace.specs.Cuts.{fields_of, lines_of}
 use Rattle.trace.specs.Events.{TakesEvent}
-use Rattle.trace.specs.Judging.{bytes_len, said_len}
+use Rattle.trace.specs.Validating.{bytes_len, parsed_len}
 use Rattle.trace.specs.Printable.{IsPrintableKind, KindInRange}
 use Rattle.trace.specs.Refusals.{IsFine}
-use Rattle.trace.specs.Said.{IsFineSaid, IsFineWhat, IsPlain, said_fields, said_line, what_said}
+use Rattle.trace.specs.ParsedEvent.{IsFineParsed, IsFineWhat, IsPlain, parsed_fields, parsed_line, what_parsed}
 use Rattle.trace.specs.Text.{event_fields, event_line, line, what_fields, word_for}
 use Rattle.hexadecimal.proofs.ByteFields.{spelled_len}
 use Rattle.trace.specs.Words.{IsInEach, IsWordOf}
@@ -18,22 +18,22 @@ use Rattle.trace.proofs.Entries.{cut_event, entered_event}
 use Rattle.trace.proofs.Signs.{Above, lines_of-line}
 
 -- an event with these fields, and as many bytes as are still spelled
-pub record Meant {A : Type 0} (fields : List (List ℕ)) (s : Said A) : Type 0 where
+pub record Meant {A : Type 0} (fields : List (List ℕ)) (s : ParsedEvent A) : Type 0 where
   pub event : Event A
   pub fields_are : event_fields event ≡ fields
   pub word : word_for event.what ≡ word_for s.event.what
   pub fine : IsFine event
-  pub len : bytes_len event.what ≡ said_len s
+  pub len : bytes_len event.what ≡ parsed_len s
 
 record MeantWhat {A : Type 0} (slot : ℕ) (w : EventKind A) (field : List ℕ) : Type 0 where
   kind : EventKind A
   len : bytes_len kind ≡ length field / 2
-  fields_are : what_fields slot kind ≡ what_said slot w field
+  fields_are : what_fields slot kind ≡ what_parsed slot w field
   word : word_for kind ≡ word_for w
   range : KindInRange kind
   printable : IsPrintableKind kind
 
-plain : {A : Type 0} (slot : ℕ) (w : EventKind A) (field : List ℕ) → IsPlain w field → bytes_len w ≡ 0 → what_fields slot w ≡ what_said slot w field → MeantWhat slot w field
+plain : {A : Type 0} (slot : ℕ) (w : EventKind A) (field : List ℕ) → IsPlain w field → bytes_len w ≡ 0 → what_fields slot w ≡ what_parsed slot w field → MeantWhat slot w field
 plain slot w field h none same =
     record { kind = w; len = rw h.none none; fields_are = same; word = refl; range = h.range; printable = h.printable }
 
@@ -42,22 +42,22 @@ by_what slot (event.Read kind offset width) field h = plain slot (event.Read kin
 by_what slot (event.Write kind offset width value) field h = plain slot (event.Write kind offset width value) field h refl refl
 by_what slot (event.MemRead addr len) field h = plain slot (event.MemRead addr len) field h refl refl
 by_what slot (event.MemWrite addr bs) field h =
-    let spelled = h.bytes.said.0 in
-    let is = h.bytes.said.1 in
+    let spelled = h.bytes.parsed.0 in
+    let is = h.bytes.parsed.1 in
     record { kind = event.MemWrite addr spelled; fields_are = rw (← is.spelled) refl; word = refl; len = spelled_len field spelled is; range = record { from = h.from; each = is.fits }; printable = tt }
 by_what slot (event.Input bs) field h =
-    let spelled = h.said.0 in
-    let is = h.said.1 in
+    let spelled = h.parsed.0 in
+    let is = h.parsed.1 in
     record { kind = event.Input spelled; fields_are = rw (← is.spelled) refl; word = refl; len = spelled_len field spelled is; range = record { each = is.fits }; printable = tt }
 by_what slot (event.Resize cols rows) field h = plain slot (event.Resize cols rows) field h refl refl
 by_what slot (event.Complete came) field h = plain slot (event.Complete came) field h refl refl
 by_what slot (event.Restore bs) field h =
-    let spelled = h.said.0 in
-    let is = h.said.1 in
+    let spelled = h.parsed.0 in
+    let is = h.parsed.1 in
     record { kind = event.Restore spelled; fields_are = rw (← is.spelled) refl; word = refl; len = spelled_len field spelled is; range = record { each = is.fits }; printable = tt }
 
 -- what is said is an event's
-pub meant : {A : Type 0} (s : Said A) → IsFineSaid s → Meant (said_fields s) s
+pub meant : {A : Type 0} (s : ParsedEvent A) → IsFineParsed s → Meant (parsed_fields s) s
 meant s h =
     let it = by_what s.event.slot s.event.what s.bytes.now h.what in
     record {
@@ -69,27 +69,27 @@ meant s h =
     }
 
 -- the fields of a line that was made of them
-pub cut_said : {A : Type 0} (s : Said A) → IsFineSaid s → fields_of (said_line s) ≡ said_fields s
-unfolding said_line event_line
-cut_said s h =
+pub cut_parsed : {A : Type 0} (s : ParsedEvent A) → IsFineParsed s → fields_of (parsed_line s) ≡ parsed_fields s
+unfolding parsed_line event_line
+cut_parsed s h =
     let it = meant s h in
     ap (λ (fs : List (List ℕ)). fields_of (line fs)) (sym it.fields_are) ∙ cut_event it.event it.fine ∙ it.fields_are
 
 -- no line feed stands in it
-unbroken_said : {A : Type 0} (s : Said A) → IsFineSaid s → IsInEach (word_for s.event.what) → Above 10 (said_line s)
-unfolding said_line event_line
-unbroken_said s h each =
+unbroken_parsed : {A : Type 0} (s : ParsedEvent A) → IsFineParsed s → IsInEach (word_for s.event.what) → Above 10 (parsed_line s)
+unfolding parsed_line event_line
+unbroken_parsed s h each =
     let it = meant s h in
     let of : IsWordOf 3 (word_for it.event.what) = subst (λ (w : Word). IsWordOf 3 w) (sym it.word) (each 3) in
     subst (λ (fs : List (List ℕ)). Above 10 (line fs)) it.fields_are (entered_event 3 it.event it.fine of).entry.unbroken
 
 -- the line was taken off a text
-pub taken_said : {A : Type 0} (s : Said A) (text after : List ℕ) → IsFineSaid s → IsInEach (word_for s.event.what)
-    → text ≡ said_line s ++ 10 ∷ after → TakesEvent text s after
-taken_said s text after fine each is = record {
-  line = said_line s;
+pub taken_parsed : {A : Type 0} (s : ParsedEvent A) (text after : List ℕ) → IsFineParsed s → IsInEach (word_for s.event.what)
+    → text ≡ parsed_line s ++ 10 ∷ after → TakesEvent text s after
+taken_parsed s text after fine each is = record {
+  line = parsed_line s;
   ended = is;
-  lines = ap lines_of is ∙ lines_of-line (said_line s) after (unbroken_said s fine each);
-  fields = cut_said s fine;
+  lines = ap lines_of is ∙ lines_of-line (parsed_line s) after (unbroken_parsed s fine each);
+  fields = cut_parsed s fine;
   fine = fine;
 }

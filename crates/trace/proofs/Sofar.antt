@@ -9,16 +9,16 @@ use Rattle.board.specs.declared.spec.SlotSpec.{SlotSpec}
 use Rattle.trace.specs.declared.disks.Disks.{Disks}
 use Rattle.trace.specs.declared.fault.FaultKind.{FaultKind}
 use Rattle.trace.specs.declared.fault.FaultKind.TheVariants as kind
-use Rattle.trace.specs.declared.read.said.Said.{Said}
+use Rattle.trace.specs.declared.read.parsed_event.ParsedEvent.{ParsedEvent}
 use Rattle.trace.specs.declared.word.Word.{Word}
 use Rattle.trace.specs.declared.word.Word.TheVariants.{Slot}
 use Rattle.trace.specs.Cuts.{fields_of, lines_of, is_line_feed}
 use Rattle.trace.specs.Faults.{IsCleanBefore, IsEnded, IsFault, IsOfVersion, Passes, line_at}
 use Rattle.trace.specs.Printable.{DisksInRange, InRange, IsPrintable, EventInRange, IsPrintableKind, IsPrintableSlot, SlotInRange}
-use Rattle.trace.specs.Said.{said_fields}
+use Rattle.trace.specs.ParsedEvent.{parsed_fields}
 use Rattle.trace.specs.Version.{IsVersion}
 use Rattle.trace.specs.Words.{IsWordOf}
-use Rattle.trace.specs.Refusals.{AddsLine, AddsSaid, IsFine, IsFineSlot, RefusesLine, RefusesAfterWord, has_begun}
+use Rattle.trace.specs.Refusals.{AddsLine, AddsParsed, IsFine, IsFineSlot, RefusesLine, RefusesAfterWord, has_begun}
 use Rattle.trace.specs.Text.{Content, ended, header, joined, text, line, disks_fields, disks_line, disks_word, slot_fields, slot_line, event_fields, event_line, trace_lines, word_for}
 use Rattle.trace.proofs.Clean.{Good, IsSlotLine, good, good_passes, only_slots, one_event}
 use Rattle.trace.proofs.Entries.{EnteredEvent, entered_disks, entered_event, entered_slot, same_word}
@@ -225,16 +225,16 @@ none_begun c h = elim (cases_lt 0 (length c.events)) [ inl lt ↦ absurd (h (lt-
 
 pub entry_read : {A : Type 0} (text : List ℕ) (c d : Content A) (k : ℕ) (rest l after : List ℕ) → Sofar text c k rest → rest ≡ l ++ 10 ∷ after → AddsLine c l d → Sofar text d (k + 1) after
 entry_read text c d k rest l after so cut (inl adds) =
-    subst (λ x. Sofar text x (k + 1) after) (sym adds.added) (slot_read text c k rest l after adds.slot so cut adds.said.fields adds.said.fine (none_begun c adds.said.early))
+    subst (λ x. Sofar text x (k + 1) after) (sym adds.added) (slot_read text c k rest l after adds.slot so cut adds.parsed.fields adds.parsed.fine (none_begun c adds.parsed.early))
 entry_read text c d k rest l after so cut (inr adds) =
-    subst (λ x. Sofar text x (k + 1) after) (sym adds.added) (event_read text c k rest l after adds.event so cut adds.said.fields adds.said.fine adds.said.of_version)
+    subst (λ x. Sofar text x (k + 1) after) (sym adds.added) (event_read text c k rest l after adds.event so cut adds.parsed.fields adds.parsed.fine adds.parsed.of_version)
 
 -- what a line says was added
-pub said_added : {A : Type 0} (old : Content A) (l : List ℕ) (said : Said A) (events : List (Event A)) → fields_of l ≡ said_fields said → IsWordOf old.version (word_for said.event.what) → AddsSaid said old.events events → AddsLine old l (record old { events = events })
-said_added old l said events is of adds =
+pub parsed_added : {A : Type 0} (old : Content A) (l : List ℕ) (parsed : ParsedEvent A) (events : List (Event A)) → fields_of l ≡ parsed_fields parsed → IsWordOf old.version (word_for parsed.event.what) → AddsParsed parsed old.events events → AddsLine old l (record old { events = events })
+parsed_added old l parsed events is of adds =
     inr (record {
       event = adds.event;
-      said = record { fields = is ∙ sym adds.fields; fine = adds.fine; of_version = subst (λ (w : Word). IsWordOf old.version w) (sym adds.word) of };
+      parsed = record { fields = is ∙ sym adds.fields; fine = adds.fine; of_version = subst (λ (w : Word). IsWordOf old.version w) (sym adds.word) of };
       added = ap (λ es. record old { events = es }) adds.added;
     })
 

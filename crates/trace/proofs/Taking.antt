@@ -17,4 +17,4 @@ not_ended l h = some_more (fields_of l) (some_fields l) h
 
 -- a value beside its width
 pub no_value : (width bytes : List ℕ) (w : ℕ) → IsWidthField width w → ((n : ℕ) → ¬ IsFixed (2 * w) bytes n) → ¬ Says (Value width) bytes
-no_value width bytes w wide none said = let n = said w wide in none n.0 n.1
+no_value width bytes w wide none parsed = let n = parsed w wide in none n.0 n.1

@@ -7,10 +7,10 @@ pub mod Values
 pub mod Printable
 pub mod Faults
 pub mod Reading
-pub mod Said
+pub mod ParsedEvent
 pub mod Refusals
 pub mod Records
 pub mod Asked
 pub mod Sends
-pub mod Judging
+pub mod Validating
 pub mod Events

@@ -15,8 +15,8 @@ use Rattle.trace.specs.declared.read.entry.Entry.{Entry}
 use Rattle.trace.specs.declared.read.entry.Entry.TheVariants as entry
 use Rattle.trace.specs.declared.word.Word.{Word}
 use Rattle.trace.specs.declared.word.Word.TheVariants.{Slot}
-use Rattle.trace.specs.declared.read.said.Said.{Said}
-use Rattle.trace.specs.Said.{IsFineSaid, said_fields}
+use Rattle.trace.specs.declared.read.parsed_event.ParsedEvent.{ParsedEvent}
+use Rattle.trace.specs.ParsedEvent.{IsFineParsed, parsed_fields}
 use Rattle.trace.specs.Words.{IsWordOf, spelled, shapes}
 
 -- an event that its integers admit and that has a line
@@ -52,7 +52,7 @@ RefusesLine version begun line fault = RefusesAfterWord version begun line fault
 -- the fields of what was read
 abbrev pub entry_fields : {A : Type 0} → ℕ → Entry A → List (List ℕ)
 entry_fields version (entry.Slot s) = slot_fields version s
-entry_fields version (entry.Event s) = said_fields s
+entry_fields version (entry.Event s) = parsed_fields s
 
 -- a slot that its integers admit and that has a line
 pub record IsFineSlot (version : ℕ) (s : SlotSpec) : Type 0 where
@@ -62,7 +62,7 @@ pub record IsFineSlot (version : ℕ) (s : SlotSpec) : Type 0 where
 -- what was read has a line whose word is of the version, and a slot comes before every event
 abbrev pub IsFineEntry : {A : Type 0} → ℕ → Bool → Entry A → Type 0
 IsFineEntry version begun (entry.Slot s) = IsFineSlot version s × (begun ≡ true → ⊥)
-IsFineEntry version begun (entry.Event s) = IsFineSaid s × IsWordOf version (word_for s.event.what)
+IsFineEntry version begun (entry.Event s) = IsFineParsed s × IsWordOf version (word_for s.event.what)
 
 -- the first line is cut off, or isn't the header
 pub record IsOtherHead (text : List ℕ) : Type 0 where
@@ -139,21 +139,21 @@ pub record SaysEvent {A : Type 0} (version : ℕ) (line : List ℕ) (e : Event A
 -- the new trace is the old one with the slot that the line says, or with the event
 pub record AddsSlot {A : Type 0} (old : Content A) (line : List ℕ) (new : Content A) : Type 0 where
   pub slot : SlotSpec
-  pub said : SaysSlot old.version (has_begun old) line slot
+  pub parsed : SaysSlot old.version (has_begun old) line slot
   pub added : new ≡ with_slot old slot
 
 pub record AddsEvent {A : Type 0} (old : Content A) (line : List ℕ) (new : Content A) : Type 0 where
   pub event : Event A
-  pub said : SaysEvent old.version line event
+  pub parsed : SaysEvent old.version line event
   pub added : new ≡ with_event old event
 
 abbrev pub AddsLine : {A : Type 0} → Content A → List ℕ → Content A → Type 0
 AddsLine old line new = AddsSlot old line new ⊎ AddsEvent old line new
 
 -- the event that was said was added
-pub record AddsSaid {A : Type 0} (said : Said A) (old new : List (Event A)) : Type 0 where
+pub record AddsParsed {A : Type 0} (parsed : ParsedEvent A) (old new : List (Event A)) : Type 0 where
   pub event : Event A
-  pub fields : event_fields event ≡ said_fields said
-  pub word : word_for event.what ≡ word_for said.event.what
+  pub fields : event_fields event ≡ parsed_fields parsed
+  pub word : word_for event.what ≡ word_for parsed.event.what
   pub fine : IsFine event
   pub added : new ≡ old ++ event ∷ []

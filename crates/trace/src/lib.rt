@@ -29,8 +29,8 @@ pub use print::{
     write_whole,
 };
 pub use read::{
-    Judged, Said, event_of_line, field_at_fault, first_word, judge, line_of, read_bytes,
-    read_trace, spelled_len, take_event,
+    ParsedEvent, Validated, event_of_line, field_at_fault, first_word, line_of, read_bytes,
+    read_trace, spelled_len, take_event, validate,
 };
 pub use round_trip::read_back;
 pub use table::{Field, fields_after};

@@ -1,16 +1,16 @@
 //! Reading a whole trace.
 //!
 //! `cut` takes lines and fields off. `entry` and `fields` read one line, whose `values` are read over the table of its
-//! fields, and `frequent` those that come most often. `choice`, `offset`, `regions` and `identity` read one field, and `number` the front of a line. `said` is the event
-//! that a line says, with its bytes still spelled. `judging` goes over a whole text and keeps what stands before its
+//! fields, and `fast_path` those that come most often. `choice`, `offset`, `regions` and `identity` read one field, and `number` the front of a line. `parsed` is the event
+//! that a line says, with its bytes still spelled. `validating` goes over a whole text and keeps what stands before its
 //! events, `events` takes these one by one, and `at_fault` finds the fault of a line, and its field.
 
 ghost use Rattle.std.specs.Prelude.{◌≡◌, ◌≢◌, ◌≤◌, IfOk, IfErr, OnOk};
 ghost use Rattle.trace.specs.Faults.{IsFault, IsCleanBefore};
 ghost use Rattle.trace.specs.Text.{Content, content, text as text_of};
 ghost use Rattle.trace.specs.Printable.{InRange, IsPrintable};
-ghost use Rattle.trace.specs.Refusals.{RefusesHead, IsFirst, IsSecond, RefusesSecond, AddsLine, AddsSaid, RefusesLine, has_begun};
-ghost use Rattle.trace.specs.Said.{IsFineSaid};
+ghost use Rattle.trace.specs.Refusals.{RefusesHead, IsFirst, IsSecond, RefusesSecond, AddsLine, AddsParsed, RefusesLine, has_begun};
+ghost use Rattle.trace.specs.ParsedEvent.{IsFineParsed};
 ghost use Rattle.trace.specs.Version.{IsVersion};
 
 mod at_fault;
@@ -19,14 +19,14 @@ mod cut;
 mod entry;
 mod event_line;
 mod events;
+mod fast_path;
 mod fields;
-mod frequent;
 mod identity;
-mod judging;
 mod number;
 mod offset;
+mod parsed_event;
 mod regions;
-mod said;
+mod validating;
 mod values;
 
 use crate::disks::Disks;
@@ -39,8 +39,8 @@ use crate::read::entry::{Entry, entry_of};
 pub use crate::read::event_line::event_of_line;
 pub use crate::read::events::take_event;
 use crate::read::fields::disks_of;
-pub use crate::read::judging::{Judged, judge};
-pub use crate::read::said::Said;
+pub use crate::read::parsed_event::ParsedEvent;
+pub use crate::read::validating::{Validated, validate};
 use crate::trace::Trace;
 use crate::version::version_of;
 use crate::word::second_word;
@@ -140,7 +140,7 @@ fn add_line<A: Allocator + Copy>(
             Ok(()) => Ok(()),
             Err(_) => Err(FaultKind::NoMemory),
         },
-        Ok(Entry::Event(said)) => match add_event(alloc, &mut trace.events, said) {
+        Ok(Entry::Event(parsed)) => match add_event(alloc, &mut trace.events, parsed) {
             Ok(()) => Ok(()),
             Err(_) => Err(FaultKind::NoMemory),
         },
@@ -152,12 +152,12 @@ fn add_line<A: Allocator + Copy>(
 fn add_event<A: Allocator>(
     alloc: A,
     events: &mut Vec<Event<A>, A>,
-    said: Said<'_, A>,
+    parsed: ParsedEvent<'_, A>,
 ) -> Result<(), AllocError>
-    requires { IsFineSaid said }
-    ensures { OnOk result (AddsSaid said.entry events.old.items events.new.items) }
+    requires { IsFineParsed parsed }
+    ensures { OnOk result (AddsParsed parsed.entry events.old.items events.new.items) }
 {
-    let event = said.into_event(alloc)?;
+    let event = parsed.into_event(alloc)?;
     events.push(event)?;
     Ok(())
 }

@@ -9,7 +9,7 @@ use board::{DeviceKind, Verdict};
 /// The kind of device whose window a field names.
 pub(crate) fn window_of(field: &[u8]) -> Option<DeviceKind>
     ensures some { IfSome result (λ kind. field.now ≡ window kind) }
-    ensures said { OnSome result (Says Window field.now) }
+    ensures parsed { OnSome result (Says Window field.now) }
     ensures none { IfNone result (¬ Says Window field.now) }
 {
     match field {
@@ -22,7 +22,7 @@ pub(crate) fn window_of(field: &[u8]) -> Option<DeviceKind>
 /// The width of a register access, in bytes.
 pub(crate) fn width_of(field: &[u8]) -> Option<u8>
     ensures some { IfSome result (λ width. IsWidthField field.now width) }
-    ensures said { OnSome result (Says Width field.now) }
+    ensures parsed { OnSome result (Says Width field.now) }
     ensures none { IfNone result (¬ Says Width field.now) }
 {
     match field {
@@ -36,7 +36,7 @@ pub(crate) fn width_of(field: &[u8]) -> Option<u8>
 /// Whether a slot is read-only.
 pub(crate) fn mode_of(field: &[u8]) -> Option<bool>
     ensures some { IfSome result (λ read_only. field.now ≡ mode read_only) }
-    ensures said { OnSome result (Says Mode field.now) }
+    ensures parsed { OnSome result (Says Mode field.now) }
     ensures none { IfNone result (¬ Says Mode field.now) }
 {
     match field {
@@ -49,7 +49,7 @@ pub(crate) fn mode_of(field: &[u8]) -> Option<bool>
 /// How an operation came out.
 pub(crate) fn verdict_of(field: &[u8]) -> Option<Verdict>
     ensures some { IfSome result (λ came. field.now ≡ verdict came) }
-    ensures said { OnSome result (Says ByVerdict field.now) }
+    ensures parsed { OnSome result (Says ByVerdict field.now) }
     ensures none { IfNone result (¬ Says ByVerdict field.now) }
 {
     match field {

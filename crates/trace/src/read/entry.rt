@@ -11,7 +11,7 @@ use crate::fault::FaultKind;
 use crate::read::at_fault::fault_in;
 use crate::read::cut::take_field;
 use crate::read::fields::{event_of, slot_of};
-use crate::read::said::Said;
+use crate::read::parsed_event::ParsedEvent;
 use crate::word::{Word, word_in};
 use board::SlotSpec;
 use std::alloc::Allocator;
@@ -20,7 +20,7 @@ use std::alloc::Allocator;
 #[derive(Drop)]
 pub(crate) enum Entry<'a, A: Allocator> {
     Slot(SlotSpec),
-    Event(Said<'a, A>),
+    Event(ParsedEvent<'a, A>),
 }
 
 /// The slot or the event that a line is in a version, where events may have `begun` before it.
@@ -47,7 +47,7 @@ pub(crate) fn entry_of<A: Allocator>(
             None => Err(fault_in(version, word, rest)),
         },
         _ => match event_of(alloc, word, rest) {
-            Some(said) => Ok(Entry::Event(said)),
+            Some(parsed) => Ok(Entry::Event(parsed)),
             None => Err(fault_in(version, word, rest)),
         },
     }

@@ -1,4 +1,4 @@
-//! The event of one line, for a program that goes over the lines of a trace that was judged.
+//! The event of one line, for a program that goes over the lines of a trace that was validated.
 
 ghost use Rattle.std.specs.Prelude.{◌≡◌, IfOk, IfSome};
 ghost use Rattle.trace.specs.Cuts.{fields_of};
@@ -18,7 +18,7 @@ pub fn event_of_line<A: Allocator + Copy>(
     ensures { IfOk result (λ found. IfSome found (λ event. event_fields event ≡ fields_of line.now)) }
 {
     match entry_of(alloc, VERSION_3, line, true) {
-        Ok(Entry::Event(said)) => match said.into_event(alloc) {
+        Ok(Entry::Event(parsed)) => match parsed.into_event(alloc) {
             Ok(event) => Ok(Some(event)),
             Err(_) => Err(NoMemory),
         },

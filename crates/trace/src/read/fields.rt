@@ -8,7 +8,7 @@ ghost use Rattle.trace.specs.Cuts.{fields_left};
 ghost use Rattle.trace.specs.Faults.{MayStand};
 ghost use Rattle.trace.specs.Printable.{DisksInRange, IsPrintableMemory};
 ghost use Rattle.trace.specs.Refusals.{IsFineSlot};
-ghost use Rattle.trace.specs.Said.{IsFineSaid, said_fields};
+ghost use Rattle.trace.specs.ParsedEvent.{IsFineParsed, parsed_fields};
 ghost use Rattle.hexadecimal.specs.Spelling.{bytes as bytes_field};
 ghost use Rattle.trace.specs.Spelling.{value_text};
 ghost use Rattle.trace.specs.Text.{disks_fields, disks_word, memory_fields, slot_fields, word_for};
@@ -17,8 +17,8 @@ ghost use Rattle.trace.specs.Version.{IsVersion, identity_in_version_1, since_ve
 ghost use Rattle.trace.specs.Words.{AreRight, Identity as ByIdentity, Mode as ByMode, Num, RegionInRange, shapes, spelled};
 
 use crate::disks::Disks;
+use crate::read::parsed_event::ParsedEvent;
 use crate::read::regions::regions_of;
-use crate::read::said::Said;
 use crate::read::values::values_of;
 use crate::value::FieldValue::{
     self, Identity, Mode, Number, Offset, Spelled, Value, Verdict, Width, Window,
@@ -53,26 +53,30 @@ pub(crate) fn event_of<A: Allocator>(
     alloc: A,
     word: Word,
     rest: Option<&[u8]>,
-) -> Option<Said<'_, A>>
+) -> Option<ParsedEvent<'_, A>>
     requires late { MayStand 3 word }
     requires not_slot { word ≢ Word.Slot }
-    ensures fields { IfSome result (λ e. said_fields e ≡ spelled word ∷ fields_left (option_copied rest.entry)) }
+    ensures fields { IfSome result (λ e. parsed_fields e ≡ spelled word ∷ fields_left (option_copied rest.entry)) }
     ensures word { IfSome result (λ e. word_for e.event.what ≡ word) }
-    ensures fine { IfSome result IsFineSaid }
+    ensures fine { IfSome result IsFineParsed }
     ensures none { IfNone result ((version : ℕ) → ¬ AreRight version word (fields_left (option_copied rest.entry))) }
 {
     let values = values_of(VERSION_3, word, rest)?;
-    Some(said_of(alloc, word, &values))
+    Some(parsed_of(alloc, word, &values))
 }
 
 // What the values after a word say.
-fn said_of<'a, A: Allocator>(alloc: A, word: Word, values: &[FieldValue<'a>]) -> Said<'a, A>
+fn parsed_of<'a, A: Allocator>(
+    alloc: A,
+    word: Word,
+    values: &[FieldValue<'a>],
+) -> ParsedEvent<'a, A>
     requires late { MayStand 3 word }
     requires not_slot { word ≢ Word.Slot }
     requires values { AreOf (shapes 3 word (map value_text values.now)) values.now }
-    ensures fields { said_fields result ≡ spelled word ∷ map value_text values.now }
+    ensures fields { parsed_fields result ≡ spelled word ∷ map value_text values.now }
     ensures word { word_for result.event.what ≡ word }
-    ensures fine { IsFineSaid result }
+    ensures fine { IsFineParsed result }
 {
     match word {
         Word::Read => read_of(values),
@@ -82,38 +86,38 @@ fn said_of<'a, A: Allocator>(alloc: A, word: Word, values: &[FieldValue<'a>]) ->
                 unreachable!()
             };
             let len = len as u32;
-            Said::plain(slot as u8, EventKind::MemRead { addr, len })
+            ParsedEvent::plain(slot as u8, EventKind::MemRead { addr, len })
         }
         Word::MemWrite => {
             let &[Number(slot), Number(addr), Spelled(bytes)] = values else {
                 unreachable!()
             };
-            Said::mem_write(alloc, slot as u8, addr, bytes)
+            ParsedEvent::mem_write(alloc, slot as u8, addr, bytes)
         }
         Word::Input => {
             let &[Number(slot), Spelled(bytes)] = values else {
                 unreachable!()
             };
-            Said::input(alloc, slot as u8, bytes)
+            ParsedEvent::input(alloc, slot as u8, bytes)
         }
         Word::Resize => {
             let &[Number(slot), Number(cols), Number(rows)] = values else {
                 unreachable!()
             };
             let (cols, rows) = (cols as u16, rows as u16);
-            Said::plain(slot as u8, EventKind::Resize { cols, rows })
+            ParsedEvent::plain(slot as u8, EventKind::Resize { cols, rows })
         }
         Word::Restore => {
             let &[Number(slot), Spelled(bytes)] = values else {
                 unreachable!()
             };
-            Said::restore(alloc, slot as u8, bytes)
+            ParsedEvent::restore(alloc, slot as u8, bytes)
         }
         Word::Complete => {
             let &[Number(slot), Verdict(verdict)] = values else {
                 unreachable!()
             };
-            Said::plain(slot as u8, EventKind::Complete { verdict })
+            ParsedEvent::plain(slot as u8, EventKind::Complete { verdict })
         }
         Word::Cache | Word::Hosted | Word::Slot => unreachable!(),
     }
@@ -121,11 +125,11 @@ fn said_of<'a, A: Allocator>(alloc: A, word: Word, values: &[FieldValue<'a>]) ->
 
 // What those of a read of a register say.
 #[tactic(auto, using(crate::proofs::Widths::num_width))]
-fn read_of<'a, A: Allocator>(values: &[FieldValue<'a>]) -> Said<'a, A>
+fn read_of<'a, A: Allocator>(values: &[FieldValue<'a>]) -> ParsedEvent<'a, A>
     requires { AreOf (shapes 3 Word.Read (map value_text values.now)) values.now }
-    ensures fields { said_fields result ≡ spelled Word.Read ∷ map value_text values.now }
+    ensures fields { parsed_fields result ≡ spelled Word.Read ∷ map value_text values.now }
     ensures word { word_for result.event.what ≡ Word.Read }
-    ensures fine { IsFineSaid result }
+    ensures fine { IsFineParsed result }
 {
     let &[Number(slot), Window(window), Offset(offset), Width(width)] = values else {
         unreachable!()
@@ -135,15 +139,15 @@ fn read_of<'a, A: Allocator>(values: &[FieldValue<'a>]) -> Said<'a, A>
         offset,
         width,
     };
-    Said::plain(slot as u8, what)
+    ParsedEvent::plain(slot as u8, what)
 }
 
 // What those of a write say, whose value is read by the width before it.
-fn write_of<'a, A: Allocator>(values: &[FieldValue<'a>]) -> Said<'a, A>
+fn write_of<'a, A: Allocator>(values: &[FieldValue<'a>]) -> ParsedEvent<'a, A>
     requires { AreOf (shapes 3 Word.Write (map value_text values.now)) values.now }
-    ensures fields { said_fields result ≡ spelled Word.Write ∷ map value_text values.now }
+    ensures fields { parsed_fields result ≡ spelled Word.Write ∷ map value_text values.now }
     ensures word { word_for result.event.what ≡ Word.Write }
-    ensures fine { IsFineSaid result }
+    ensures fine { IsFineParsed result }
 {
     let &[
         Number(slot),
@@ -161,7 +165,7 @@ fn write_of<'a, A: Allocator>(values: &[FieldValue<'a>]) -> Said<'a, A>
         width,
         value,
     };
-    Said::plain(slot as u8, what)
+    ParsedEvent::plain(slot as u8, what)
 }
 
 /// The slot that the fields after its word say in a version. The first of them say its memory.

@@ -10,7 +10,7 @@ use hexadecimal::fixed_number;
 #[inline(always)]
 pub(crate) fn offset_of(field: &[u8]) -> Option<u16>
     ensures some { IfSome result (λ n. IsFixed 3 field.now n) }
-    ensures said { OnSome result (Says Offset field.now) }
+    ensures parsed { OnSome result (Says Offset field.now) }
     ensures none { IfNone result (¬ Says Offset field.now) }
 {
     let n = fixed_number(field, 3)?;

@@ -13,7 +13,7 @@ use hexadecimal::number;
 /// The regions that a field spells.
 pub(crate) fn regions_of(field: &[u8]) -> Option<Regions>
     ensures some { IfSome result (λ regions. IsRegionsField field.now regions) }
-    ensures said { OnSome result (Says ByRegions field.now) }
+    ensures parsed { OnSome result (Says ByRegions field.now) }
     ensures none { IfNone result (¬ Says ByRegions field.now) }
 {
     let mut regions = ArrayVec::<RegionSpec, MOST_REGIONS>::new();

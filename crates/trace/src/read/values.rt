@@ -68,7 +68,7 @@ pub(crate) fn says(field: Field, width: &[u8], bytes: &[u8]) -> bool
 // The value of the field that these bytes say. Where there is no such width, any bytes may be a value.
 fn value_of<'a>(field: Field, width: &[u8], bytes: &'a [u8]) -> Option<FieldValue<'a>>
     ensures some { IfSome result (λ value. SaysValue (shape_of width.now field) bytes.now value) }
-    ensures said { OnSome result (Says (shape_of width.now field) bytes.now) }
+    ensures parsed { OnSome result (Says (shape_of width.now field) bytes.now) }
     ensures none { IfNone result (¬ Says (shape_of width.now field) bytes.now) }
 {
     match field {
@@ -94,7 +94,7 @@ fn value_of<'a>(field: Field, width: &[u8], bytes: &'a [u8]) -> Option<FieldValu
 // The value that is written by this width.
 fn written_value<'a>(width: &[u8], bytes: &'a [u8]) -> Option<FieldValue<'a>>
     ensures some { IfSome result (λ value. SaysValue (ByWidth width.now) bytes.now value) }
-    ensures said { OnSome result (Says (ByWidth width.now) bytes.now) }
+    ensures parsed { OnSome result (Says (ByWidth width.now) bytes.now) }
     ensures none { IfNone result (¬ Says (ByWidth width.now) bytes.now) }
 {
     let Some(width) = width_of(width) else {

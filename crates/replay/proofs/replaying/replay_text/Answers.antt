@@ -1,6 +1,6 @@
 use Rattle.std.proofs.Common.{refl}
 use Rattle.std.proofs.KnownBytes.{Keeps-refl}
-use Rattle.trace.proofs.Judgements.{no_room}
+use Rattle.trace.proofs.Validations.{no_room}
 use Rattle.replay.proofs.replaying.replay_text.Goals as goal
 
 pub returns-in_default-clause-comes_to : goal.returns-in_default-clause-comes_to

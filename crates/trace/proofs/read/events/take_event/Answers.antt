@@ -1,11 +1,11 @@
 use Rattle.std.proofs.Common.{length, ap, sym, arith, ◌∙◌}
-use Rattle.trace.proofs.Saying.{taken_said}
+use Rattle.trace.proofs.Saying.{taken_parsed}
 use Rattle.trace.proofs.Sofar.{some_lines}
 use Rattle.trace.proofs.read.events.take_event.Goals as goal
 
 pub returns-in-Some : goal.returns-in-Some
 returns-in-Some g c =
-    taken_said c.in-Some.taken.0 c.args.rest.now c.in-Some.taken.1.now c.in-Some.ensures.fine c.in-Some.ensures.each c.in-Some.ensures.line
+    taken_parsed c.in-Some.taken.0 c.args.rest.now c.in-Some.taken.1.now c.in-Some.ensures.fine c.in-Some.ensures.each c.in-Some.ensures.line
 
 pub unreachable-requires : goal.unreachable-requires
 unreachable-requires g c = let more = some_lines c.requires.after in omega (arith, ap length (sym c.requires.cut ∙ c.in_default-take_line.ensures.none))

@@ -4,10 +4,10 @@ use Rattle.trace.proofs.read.identity.identity_of.Goals as goal
 use Rattle.trace.proofs.read.identity.identity_of.Goals.{then-field-via-then-field, then-field-via-else-field+then-not-are_digits}
 
 pub returns-then-field-clause-none : goal.returns-then-field-clause-none
-returns-then-field-clause-none c said =
+returns-then-field-clause-none c parsed =
     elim c.then-field.branch [
-      | then-field-via-then-field w ↦ w.if-field.true (identity_len c.args.field.now said.0 said.1)
-      | then-field-via-else-field+then-not-are_digits w ↦ false≢true (w.if-not-are_digits.ensures.1 (identity_digits c.args.field.now said.0 said.1))
+      | then-field-via-then-field w ↦ w.if-field.true (identity_len c.args.field.now parsed.0 parsed.1)
+      | then-field-via-else-field+then-not-are_digits w ↦ false≢true (w.if-not-are_digits.ensures.1 (identity_digits c.args.field.now parsed.0 parsed.1))
     ]
 
 pub returns-clause-some : goal.returns-clause-some

@@ -1,7 +1,7 @@
 use Rattle.std.proofs.Common.{◌≡◌, ap, length, arith}
 use Rattle.std.proofs.lemmas.Grind.{common_steps}
 use Rattle.std.specs.Option.{option_copied}
-use Rattle.trace.proofs.RegionFields.{all_read, bad_part, made_said, made_some, too_many}
+use Rattle.trace.proofs.RegionFields.{all_read, bad_part, made_parsed, made_some, too_many}
 use Rattle.trace.proofs.read.regions.regions_of.Goals as goal
 
 pub returns-then-is_full-clause-none : goal.returns-then-is_full-clause-none
@@ -16,5 +16,5 @@ returns-in_err-region_of-clause-none c =
 pub returns-clause-some : goal.returns-clause-some
 returns-clause-some c = made_some _ _ _ c.new.ensures.same (rw c.as_slice.ensures.value (all_read _ _ _ c.loop-rest.invariant.0 (ap option_copied c.in_default.is) c.loop-rest.invariant.1 c.loop-rest.invariant.2))
 
-pub returns-clause-said : goal.returns-clause-said
-returns-clause-said c = made_said _ _ _ c.new.ensures.same (rw c.as_slice.ensures.value (all_read _ _ _ c.loop-rest.invariant.0 (ap option_copied c.in_default.is) c.loop-rest.invariant.1 c.loop-rest.invariant.2))
+pub returns-clause-parsed : goal.returns-clause-parsed
+returns-clause-parsed c = made_parsed _ _ _ c.new.ensures.same (rw c.as_slice.ensures.value (all_read _ _ _ c.loop-rest.invariant.0 (ap option_copied c.in_default.is) c.loop-rest.invariant.1 c.loop-rest.invariant.2))

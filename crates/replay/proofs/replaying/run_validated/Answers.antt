@@ -1,7 +1,7 @@
 use Rattle.std.proofs.KnownBytes.{Keeps-refl}
 use Rattle.replay.proofs.Pieces.{all_out, flushed_whole, front_out, none_out, sends_flushed}
-use Rattle.replay.proofs.replaying.run_judged.Goals as goal
-use Rattle.replay.proofs.replaying.run_judged.Goals.{then-is_broken, else-is_broken}
+use Rattle.replay.proofs.replaying.run_validated.Goals as goal
+use Rattle.replay.proofs.replaying.run_validated.Goals.{then-is_broken, else-is_broken}
 
 pub returns-in_default-clause-ended : goal.returns-in_default-clause-ended
 returns-in_default-clause-ended g c capacity slots events new are =

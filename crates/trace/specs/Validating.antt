@@ -1,4 +1,4 @@
--- A text that was judged whole: what is kept of it is what stands before its events, and their lines.
+-- A text that was validated whole: what is kept of it is what stands before its events, and their lines.
 use Rattle.std.specs.Prelude.{◌≡◌, ◌==◌, ◌⊎◌, ℕ, ◌/◌, ◌≤◌, Bool, not, List, [], ◌∷◌, ◌++◌, All, length, map}
 use Rattle.board.specs.declared.event.Event.{Event}
 use Rattle.board.specs.declared.event.EventKind.{EventKind}
@@ -8,8 +8,8 @@ use Rattle.trace.specs.declared.disks.Disks.{Disks}
 use Rattle.trace.specs.declared.fault.FaultKind.{FaultKind}
 use Rattle.trace.specs.declared.fault.FaultKind.TheVariants as kind
 use Rattle.trace.specs.Cuts.{lines_of}
-use Rattle.trace.specs.declared.read.judging.Judged.{Judged}
-use Rattle.trace.specs.declared.read.said.Said.{Said}
+use Rattle.trace.specs.declared.read.validating.Validated.{Validated}
+use Rattle.trace.specs.declared.read.parsed_event.ParsedEvent.{ParsedEvent}
 use Rattle.trace.specs.Refusals.{IsFine, RefusesLine, SaysEvent, SaysSlot}
 use Rattle.trace.specs.Reading.{IsTraceOf}
 use Rattle.trace.specs.Text.{Content, event_line, joined}
@@ -21,8 +21,8 @@ bytes_len (event.Input bs) = length bs
 bytes_len (event.Restore bs) = length bs
 bytes_len _ = 0
 
-abbrev pub said_len : {A : Type 0} → Said A → ℕ
-said_len s = length s.bytes.now / 2
+abbrev pub parsed_len : {A : Type 0} → ParsedEvent A → ℕ
+parsed_len s = length s.bytes.now / 2
 
 -- these are the lines of the events
 pub record AreLinesOf {A : Type 0} (events : List (Event A)) (lines : List ℕ) : Type 0 where
@@ -39,8 +39,8 @@ pub record AreEventLines (A : Type 0) (room : ℕ) (lines : List ℕ) : Type 0 w
   pub lines_of : AreLinesOf events lines
   pub fit : HaveRoom room events
 
--- what was judged, without where it lies in memory
-pub record Judgement : Type 0 where
+-- what was validated, without where it lies in memory
+pub record Validation : Type 0 where
   pub version : ℕ
   pub disks : Disks
   pub slots : List SlotSpec
@@ -48,8 +48,8 @@ pub record Judgement : Type 0 where
   pub longest : ℕ
   pub longest_line : ℕ
 
-abbrev pub judgement : {A : Type 0} → Judged A → Judgement
-judgement j = record {
+abbrev pub validation : {A : Type 0} → Validated A → Validation
+validation j = record {
   version = j.version;
   disks = j.disks;
   slots = j.slots.items;
@@ -59,11 +59,11 @@ judgement j = record {
 }
 
 -- the trace without its events
-abbrev pub kept : (A : Type 0) → Judgement → Content A
+abbrev pub kept : (A : Type 0) → Validation → Content A
 kept A j = record { version = j.version; disks = j.disks; slots = j.slots; events = [] }
 
 -- the text is that of one trace, of which this is kept
-pub record IsJudged (A : Type 0) (text : List ℕ) (j : Judgement) : Type 0 where
+pub record IsValidated (A : Type 0) (text : List ℕ) (j : Validation) : Type 0 where
   pub trace : Content A
   pub read : IsTraceOf text trace
   pub version : trace.version ≡ j.version
@@ -73,36 +73,36 @@ pub record IsJudged (A : Type 0) (text : List ℕ) (j : Judgement) : Type 0 wher
   pub fit : HaveRoom j.longest trace.events
   pub numbered : 1 ≤ j.longest_line
 
--- a line was judged: it is that of a slot, before all events, which is kept, or that of an event, whose bytes are
+-- a line was validated: it is that of a slot, before all events, which is kept, or that of an event, whose bytes are
 -- counted
-pub record JudgesSlot (begun : Bool) (line after : List ℕ) (old new : Judgement) : Type 0 where
+pub record ValidatesSlot (begun : Bool) (line after : List ℕ) (old new : Validation) : Type 0 where
   pub slot : SlotSpec
-  pub said : SaysSlot old.version begun line slot
+  pub parsed : SaysSlot old.version begun line slot
   pub is : new ≡ record old { slots = old.slots ++ slot ∷ []; events = after }
 
-pub record JudgesEvent (A : Type 0) (line : List ℕ) (old new : Judgement) : Type 0 where
+pub record ValidatesEvent (A : Type 0) (line : List ℕ) (old new : Validation) : Type 0 where
   pub event : Event A
-  pub said : SaysEvent old.version line event
+  pub parsed : SaysEvent old.version line event
   pub fits : bytes_len event.what ≤ new.longest
   pub longer : old.longest ≤ new.longest
   pub numbered : 1 ≤ old.longest_line → 1 ≤ new.longest_line
   pub is : new ≡ record old { longest = new.longest; longest_line = new.longest_line }
 
-abbrev pub JudgesLine : Type 0 → Bool → List ℕ → List ℕ → Judgement → Judgement → Type 0
-JudgesLine A begun line after old new = JudgesSlot begun line after old new ⊎ JudgesEvent A line old new
+abbrev pub ValidatesLine : Type 0 → Bool → List ℕ → List ℕ → Validation → Validation → Type 0
+ValidatesLine A begun line after old new = ValidatesSlot begun line after old new ⊎ ValidatesEvent A line old new
 
 -- whether events may have begun before what is left of a text: their lines begin before it
-abbrev pub begun_before : Judgement → List ℕ → Bool
+abbrev pub begun_before : Validation → List ℕ → Bool
 begun_before j rest = not (length j.events == length rest)
 
--- the first line of what is left of a text was judged, and this follows it
-pub record JudgesFirst (A : Type 0) (rest after : List ℕ) (old new : Judgement) : Type 0 where
+-- the first line of what is left of a text was validated, and this follows it
+pub record ValidatesFirst (A : Type 0) (rest after : List ℕ) (old new : Validation) : Type 0 where
   pub line : List ℕ
   pub ended : rest ≡ line ++ 10 ∷ after
-  pub judged : JudgesLine A (begun_before old rest) line after old new
+  pub validated : ValidatesLine A (begun_before old rest) line after old new
 
 -- it is refused, or isn't ended
-pub record RefusesNext (j : Judgement) (rest : List ℕ) (fault : FaultKind) : Type 0 where
+pub record RefusesNext (j : Validation) (rest : List ℕ) (fault : FaultKind) : Type 0 where
   pub line : List ℕ
   pub after : List ℕ
   pub cut : lines_of rest ≡ line ∷ lines_of after
@@ -112,5 +112,5 @@ pub record IsCutOff (rest : List ℕ) (fault : FaultKind) : Type 0 where
   pub last : lines_of rest ≡ rest ∷ []
   pub named : fault ≡ kind.Cut
 
-abbrev pub RefusesFirst : Judgement → List ℕ → FaultKind → Type 0
+abbrev pub RefusesFirst : Validation → List ℕ → FaultKind → Type 0
 RefusesFirst j rest fault = IsCutOff rest fault ⊎ RefusesNext j rest fault

@@ -4,7 +4,7 @@
 //! and `entry` reads it field by field: it may have a fault, or be a line of another kind.
 
 ghost use Rattle.std.specs.Prelude.{◌≡◌, ◌++◌, ◌∷◌, ◌^◌, ◌<◌, IfSome};
-ghost use Rattle.trace.specs.Said.{IsFineSaid, said_line};
+ghost use Rattle.trace.specs.ParsedEvent.{IsFineParsed, parsed_line};
 ghost use Rattle.hexadecimal.specs.Spelling.{fixed, num};
 ghost use Rattle.trace.specs.Spelling.{width_digit, window};
 ghost use Rattle.trace.specs.Text.{word_for};
@@ -14,7 +14,7 @@ use crate::read::choice::{width_of, window_of};
 use crate::read::cut::take_line;
 use crate::read::number::take_number;
 use crate::read::offset::offset_of;
-use crate::read::said::Said;
+use crate::read::parsed_event::ParsedEvent;
 use crate::word::Word;
 use board::{DeviceKind, EventKind};
 use hexadecimal::{digits_len, fixed_number, number_u32, value_of};
@@ -23,9 +23,9 @@ use std::alloc::Allocator;
 /// The event of a text's first line, where that is spelled so, and what follows it. It is read into its caller, who may want a
 /// part of the event alone.
 #[inline(always)]
-pub(crate) fn take_frequent<A: Allocator>(alloc: A, text: &[u8]) -> Option<(Said<'_, A>, &[u8])>
-    ensures line { IfSome result (λ x. text.now ≡ said_line x.0 ++ 10 ∷ x.1.now) }
-    ensures fine { IfSome result (λ x. IsFineSaid x.0) }
+pub(crate) fn take_fast<A: Allocator>(alloc: A, text: &[u8]) -> Option<(ParsedEvent<'_, A>, &[u8])>
+    ensures line { IfSome result (λ x. text.now ≡ parsed_line x.0 ++ 10 ∷ x.1.now) }
+    ensures fine { IfSome result (λ x. IsFineParsed x.0) }
     ensures each { IfSome result (λ x. IsInEach (word_for x.0.event.what)) }
 {
     match text {
@@ -40,10 +40,10 @@ pub(crate) fn take_frequent<A: Allocator>(alloc: A, text: &[u8]) -> Option<(Said
 
 // The event that these bytes after its word and a space say.
 #[inline(always)]
-#[tactic(auto, unfolding(crate::specs::Said::said_line))]
-fn read_in<A: Allocator>(rest: &[u8]) -> Option<(Said<'_, A>, &[u8])>
-    ensures line { IfSome result (λ x. spelled Word.Read ++ 32 ∷ rest.now ≡ said_line x.0 ++ 10 ∷ x.1.now) }
-    ensures fine { IfSome result (λ x. IsFineSaid x.0) }
+#[tactic(auto, unfolding(crate::specs::ParsedEvent::parsed_line))]
+fn read_in<A: Allocator>(rest: &[u8]) -> Option<(ParsedEvent<'_, A>, &[u8])>
+    ensures line { IfSome result (λ x. spelled Word.Read ++ 32 ∷ rest.now ≡ parsed_line x.0 ++ 10 ∷ x.1.now) }
+    ensures fine { IfSome result (λ x. IsFineParsed x.0) }
     ensures each { IfSome result (λ x. IsInEach (word_for x.0.event.what)) }
 {
     let (slot, window, offset, width, rest) = access(rest)?;
@@ -55,14 +55,14 @@ fn read_in<A: Allocator>(rest: &[u8]) -> Option<(Said<'_, A>, &[u8])>
         offset,
         width,
     };
-    Some((Said::plain(slot, what), after))
+    Some((ParsedEvent::plain(slot, what), after))
 }
 
 #[inline(always)]
-#[tactic(auto, unfolding(crate::specs::Said::said_line))]
-fn write_in<A: Allocator>(rest: &[u8]) -> Option<(Said<'_, A>, &[u8])>
-    ensures line { IfSome result (λ x. spelled Word.Write ++ 32 ∷ rest.now ≡ said_line x.0 ++ 10 ∷ x.1.now) }
-    ensures fine { IfSome result (λ x. IsFineSaid x.0) }
+#[tactic(auto, unfolding(crate::specs::ParsedEvent::parsed_line))]
+fn write_in<A: Allocator>(rest: &[u8]) -> Option<(ParsedEvent<'_, A>, &[u8])>
+    ensures line { IfSome result (λ x. spelled Word.Write ++ 32 ∷ rest.now ≡ parsed_line x.0 ++ 10 ∷ x.1.now) }
+    ensures fine { IfSome result (λ x. IsFineParsed x.0) }
     ensures each { IfSome result (λ x. IsInEach (word_for x.0.event.what)) }
 {
     let (slot, window, offset, width, rest) = access(rest)?;
@@ -84,46 +84,49 @@ fn write_in<A: Allocator>(rest: &[u8]) -> Option<(Said<'_, A>, &[u8])>
         width,
         value,
     };
-    Some((Said::plain(slot, what), after))
+    Some((ParsedEvent::plain(slot, what), after))
 }
 
 #[inline(always)]
-#[tactic(auto, unfolding(crate::specs::Said::said_line))]
-fn mem_read_in<A: Allocator>(rest: &[u8]) -> Option<(Said<'_, A>, &[u8])>
-    ensures line { IfSome result (λ x. spelled Word.MemRead ++ 32 ∷ rest.now ≡ said_line x.0 ++ 10 ∷ x.1.now) }
-    ensures fine { IfSome result (λ x. IsFineSaid x.0) }
+#[tactic(auto, unfolding(crate::specs::ParsedEvent::parsed_line))]
+fn mem_read_in<A: Allocator>(rest: &[u8]) -> Option<(ParsedEvent<'_, A>, &[u8])>
+    ensures line { IfSome result (λ x. spelled Word.MemRead ++ 32 ∷ rest.now ≡ parsed_line x.0 ++ 10 ∷ x.1.now) }
+    ensures fine { IfSome result (λ x. IsFineParsed x.0) }
     ensures each { IfSome result (λ x. IsInEach (word_for x.0.event.what)) }
 {
     let (slot, rest) = take_slot(rest)?;
     let (addr, rest) = take_number(rest)?;
     let (len, after) = take_line(rest)?;
     let len = number_u32(len)?;
-    Some((Said::plain(slot, EventKind::MemRead { addr, len }), after))
+    Some((
+        ParsedEvent::plain(slot, EventKind::MemRead { addr, len }),
+        after,
+    ))
 }
 
 #[inline(always)]
-#[tactic(auto, unfolding(crate::specs::Said::said_line))]
-fn mem_write_in<A: Allocator>(alloc: A, rest: &[u8]) -> Option<(Said<'_, A>, &[u8])>
-    ensures line { IfSome result (λ x. spelled Word.MemWrite ++ 32 ∷ rest.now ≡ said_line x.0 ++ 10 ∷ x.1.now) }
-    ensures fine { IfSome result (λ x. IsFineSaid x.0) }
+#[tactic(auto, unfolding(crate::specs::ParsedEvent::parsed_line))]
+fn mem_write_in<A: Allocator>(alloc: A, rest: &[u8]) -> Option<(ParsedEvent<'_, A>, &[u8])>
+    ensures line { IfSome result (λ x. spelled Word.MemWrite ++ 32 ∷ rest.now ≡ parsed_line x.0 ++ 10 ∷ x.1.now) }
+    ensures fine { IfSome result (λ x. IsFineParsed x.0) }
     ensures each { IfSome result (λ x. IsInEach (word_for x.0.event.what)) }
 {
     let (slot, rest) = take_slot(rest)?;
     let (addr, rest) = take_number(rest)?;
     let (bytes, after) = take_bytes(rest)?;
-    Some((Said::mem_write(alloc, slot, addr, bytes), after))
+    Some((ParsedEvent::mem_write(alloc, slot, addr, bytes), after))
 }
 
 #[inline(always)]
-#[tactic(auto, unfolding(crate::specs::Said::said_line))]
-fn input_in<A: Allocator>(alloc: A, rest: &[u8]) -> Option<(Said<'_, A>, &[u8])>
-    ensures line { IfSome result (λ x. spelled Word.Input ++ 32 ∷ rest.now ≡ said_line x.0 ++ 10 ∷ x.1.now) }
-    ensures fine { IfSome result (λ x. IsFineSaid x.0) }
+#[tactic(auto, unfolding(crate::specs::ParsedEvent::parsed_line))]
+fn input_in<A: Allocator>(alloc: A, rest: &[u8]) -> Option<(ParsedEvent<'_, A>, &[u8])>
+    ensures line { IfSome result (λ x. spelled Word.Input ++ 32 ∷ rest.now ≡ parsed_line x.0 ++ 10 ∷ x.1.now) }
+    ensures fine { IfSome result (λ x. IsFineParsed x.0) }
     ensures each { IfSome result (λ x. IsInEach (word_for x.0.event.what)) }
 {
     let (slot, rest) = take_slot(rest)?;
     let (bytes, after) = take_bytes(rest)?;
-    Some((Said::input(alloc, slot, bytes), after))
+    Some((ParsedEvent::input(alloc, slot, bytes), after))
 }
 
 /// The slot, the window, the offset and the width of a register access, of which the last three stand in fixed

@@ -1,6 +1,6 @@
 use Rattle.std.proofs.Common.{arith}
 use Rattle.trace.proofs.Fronts.{pairs_spell}
-use Rattle.trace.proofs.read.frequent.take_bytes.Goals as goal
+use Rattle.trace.proofs.read.fast_path.take_bytes.Goals as goal
 
 pub returns-in-10-clause-says : goal.returns-in-10-clause-says
 returns-in-10-clause-says c =

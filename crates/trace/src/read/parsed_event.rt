@@ -4,9 +4,9 @@
 
 ghost use Rattle.std.specs.Prelude.{◌≡◌, ◌/◌, [], IfOk};
 ghost use Rattle.board.specs.declared.event.EventKind.{EventKind};
-ghost use Rattle.trace.specs.Judging.{said_len};
+ghost use Rattle.trace.specs.Validating.{parsed_len};
 ghost use Rattle.trace.specs.Refusals.{IsFine};
-ghost use Rattle.trace.specs.Said.{IsFineSaid, said_fields};
+ghost use Rattle.trace.specs.ParsedEvent.{IsFineParsed, parsed_fields};
 ghost use Rattle.trace.specs.Text.{event_fields, word_for};
 ghost use Rattle.hexadecimal.specs.Fields.{IsBytesField};
 ghost use Rattle.trace.specs.Words.{Says, Bytes as ByBytes};
@@ -17,27 +17,27 @@ use std::alloc::{AllocError, Allocator, Global};
 
 /// What a line after the slots says.
 #[derive(Drop)]
-pub struct Said<'a, A: Allocator = Global> {
+pub struct ParsedEvent<'a, A: Allocator = Global> {
     /// The event, with none of its bytes.
     pub event: Event<A>,
     /// The field that spells them, empty where an event has no bytes.
     pub bytes: &'a [u8],
 }
 
-impl<'a, A: Allocator> Said<'a, A> {
+impl<'a, A: Allocator> ParsedEvent<'a, A> {
     /// An event without bytes.
-    pub(crate) fn plain(slot: u8, what: EventKind<A>) -> Said<'a, A>
+    pub(crate) fn plain(slot: u8, what: EventKind<A>) -> ParsedEvent<'a, A>
         ensures event { result.event ≡ record { slot = slot; what = what } }
         ensures bytes { result.bytes.now ≡ [] }
     {
-        Said {
+        ParsedEvent {
             event: Event { slot, what },
             bytes: &[],
         }
     }
 
     /// A write to memory of the bytes that a field spells.
-    pub(crate) fn mem_write(alloc: A, slot: u8, addr: u64, bytes: &'a [u8]) -> Said<'a, A>
+    pub(crate) fn mem_write(alloc: A, slot: u8, addr: u64, bytes: &'a [u8]) -> ParsedEvent<'a, A>
         ensures event { result.event ≡ record { slot = slot; what = EventKind.MemWrite addr [] } }
         ensures bytes { result.bytes.now ≡ bytes.now }
     {
@@ -45,35 +45,35 @@ impl<'a, A: Allocator> Said<'a, A> {
             addr,
             bytes: Bytes::new(alloc),
         };
-        Said {
+        ParsedEvent {
             event: Event { slot, what },
             bytes,
         }
     }
 
     /// Console input of the bytes that a field spells.
-    pub(crate) fn input(alloc: A, slot: u8, bytes: &'a [u8]) -> Said<'a, A>
+    pub(crate) fn input(alloc: A, slot: u8, bytes: &'a [u8]) -> ParsedEvent<'a, A>
         ensures event { result.event ≡ record { slot = slot; what = EventKind.Input [] } }
         ensures bytes { result.bytes.now ≡ bytes.now }
     {
         let what = EventKind::Input {
             bytes: Bytes::new(alloc),
         };
-        Said {
+        ParsedEvent {
             event: Event { slot, what },
             bytes,
         }
     }
 
     /// A restore from the snapshot that a field spells.
-    pub(crate) fn restore(alloc: A, slot: u8, bytes: &'a [u8]) -> Said<'a, A>
+    pub(crate) fn restore(alloc: A, slot: u8, bytes: &'a [u8]) -> ParsedEvent<'a, A>
         ensures event { result.event ≡ record { slot = slot; what = EventKind.Restore [] } }
         ensures bytes { result.bytes.now ≡ bytes.now }
     {
         let what = EventKind::Restore {
             bytes: Bytes::new(alloc),
         };
-        Said {
+        ParsedEvent {
             event: Event { slot, what },
             bytes,
         }
@@ -81,15 +81,15 @@ impl<'a, A: Allocator> Said<'a, A> {
 
     /// How many bytes it spells.
     pub fn spelled_len(&self) -> usize
-        ensures { result ≡ said_len self.now }
+        ensures { result ≡ parsed_len self.now }
     {
         spelled_len(self.bytes)
     }
 
     /// The event, which owns its bytes.
     pub fn into_event(self, alloc: A) -> Result<Event<A>, AllocError>
-        requires { IsFineSaid self }
-        ensures fields { IfOk result (λ e. event_fields e ≡ said_fields self.entry) }
+        requires { IsFineParsed self }
+        ensures fields { IfOk result (λ e. event_fields e ≡ parsed_fields self.entry) }
         ensures word { IfOk result (λ e. word_for e.what ≡ word_for self.entry.event.what) }
         ensures fine { IfOk result IsFine }
     {

@@ -1,7 +1,7 @@
-//! Judging a whole text, line after line. No event is kept.
+//! Validating a whole text, line after line. No event is kept.
 
 ghost use Rattle.std.specs.Prelude.{◌≡◌, ◌≢◌, ◌≤◌, nat_lt, if◌then◌else◌, IfOk, IfErr, OnOk};
-ghost use Rattle.trace.specs.Judging.{IsJudged, JudgesFirst, JudgesLine, RefusesFirst, judgement};
+ghost use Rattle.trace.specs.Validating.{IsValidated, ValidatesFirst, ValidatesLine, RefusesFirst, validation};
 ghost use Rattle.trace.specs.Refusals.{RefusesLine};
 ghost use Rattle.trace.specs.Reading.{IsTraceFault};
 ghost use Rattle.trace.specs.Version.{IsVersion};
@@ -10,14 +10,14 @@ use crate::disks::Disks;
 use crate::fault::{FaultKind, TraceFault};
 use crate::read::cut::take_line;
 use crate::read::entry::{Entry, entry_of};
-use crate::read::frequent::take_frequent;
+use crate::read::fast_path::take_fast;
 use crate::read::{after_disks, after_header};
 use board::SlotSpec;
 use std::alloc::{Allocator, Global};
 
 /// What is kept of a text that is a trace's.
 #[derive(Drop)]
-pub struct Judged<'a, A: Allocator = Global> {
+pub struct Validated<'a, A: Allocator = Global> {
     pub version: u8,
     pub disks: Disks,
     pub slots: Vec<SlotSpec, A>,
@@ -28,9 +28,9 @@ pub struct Judged<'a, A: Allocator = Global> {
     pub longest_line: u64,
 }
 
-/// Judges a text: it is a trace's, or has this fault. A `line` beside a fault is numbered from 1.
-pub fn judge<A: Allocator + Copy>(alloc: A, text: &[u8]) -> Result<Judged<'_, A>, TraceFault>
-    ensures ok { IfOk result (λ j. IsJudged A text.now (judgement j)) }
+/// Validates a text: it is a trace's, or has this fault. A `line` beside a fault is numbered from 1.
+pub fn validate<A: Allocator + Copy>(alloc: A, text: &[u8]) -> Result<Validated<'_, A>, TraceFault>
+    ensures ok { IfOk result (λ j. IsValidated A text.now (validation j)) }
     ensures fault { IfErr result (λ e. IsTraceFault A text.now e) }
 {
     let (version, rest) = match after_header(text) {
@@ -41,7 +41,7 @@ pub fn judge<A: Allocator + Copy>(alloc: A, text: &[u8]) -> Result<Judged<'_, A>
         Ok(found) => found,
         Err(kind) => return Err(TraceFault { line: 2, kind }),
     };
-    let mut judged = Judged {
+    let mut validated = Validated {
         version,
         disks,
         slots: Vec::new(alloc),
@@ -51,16 +51,16 @@ pub fn judge<A: Allocator + Copy>(alloc: A, text: &[u8]) -> Result<Judged<'_, A>
     };
     let mut line = 3;
     while !rest.is_empty() {
-        match judged.judge_first(alloc, line, rest) {
+        match validated.validate_first(alloc, line, rest) {
             Ok(after) => rest = after,
             Err(kind) => return Err(TraceFault { line, kind }),
         }
         line += 1;
     }
-    Ok(judged)
+    Ok(validated)
 }
 
-impl<'a, A: Allocator + Copy> Judged<'a, A> {
+impl<'a, A: Allocator + Copy> Validated<'a, A> {
     /// The fault where there is no room for the bytes of a line.
     pub fn no_room(&self) -> TraceFault
         ensures line { result.line ≡ self.now.longest_line }
@@ -72,28 +72,28 @@ impl<'a, A: Allocator + Copy> Judged<'a, A> {
         }
     }
 
-    // Judges the first line of what is left of the text, and answers what follows it.
-    fn judge_first(&mut self, alloc: A, line: u64, text: &'a [u8]) -> Result<&'a [u8], FaultKind>
+    // Validates the first line of what is left of the text, and answers what follows it.
+    fn validate_first(&mut self, alloc: A, line: u64, text: &'a [u8]) -> Result<&'a [u8], FaultKind>
         requires version { IsVersion self.old.version }
         requires numbered { 1 ≤ line }
-        ensures ok { IfOk result (λ after. JudgesFirst A text.now after.now (judgement self.old) (judgement self.new)) }
-        ensures err { IfErr result (λ fault. fault ≢ FaultKind.NoMemory → RefusesFirst (judgement self.old) text.now fault) }
+        ensures ok { IfOk result (λ after. ValidatesFirst A text.now after.now (validation self.old) (validation self.new)) }
+        ensures err { IfErr result (λ fault. fault ≢ FaultKind.NoMemory → RefusesFirst (validation self.old) text.now fault) }
     {
-        if let Some((said, after)) = take_frequent(alloc, text) {
-            self.count(line, said.spelled_len());
+        if let Some((parsed, after)) = take_fast(alloc, text) {
+            self.count(line, parsed.spelled_len());
             return Ok(after);
         }
         let Some((this, after)) = take_line(text) else {
             return Err(FaultKind::Cut);
         };
         let begun = self.events.len() != text.len();
-        self.judge_line(alloc, line, begun, this, after)?;
+        self.validate_line(alloc, line, begun, this, after)?;
         Ok(after)
     }
 
-    // Judges a line, where events may have `begun` before it and this stands after it. After an error nothing has
+    // Validates a line, where events may have `begun` before it and this stands after it. After an error nothing has
     // changed.
-    fn judge_line(
+    fn validate_line(
         &mut self,
         alloc: A,
         line: u64,
@@ -103,7 +103,7 @@ impl<'a, A: Allocator + Copy> Judged<'a, A> {
     ) -> Result<(), FaultKind>
         requires version { IsVersion self.old.version }
         requires numbered { 1 ≤ line }
-        ensures ok { OnOk result (JudgesLine A begun this.now after.now (judgement self.old) (judgement self.new)) }
+        ensures ok { OnOk result (ValidatesLine A begun this.now after.now (validation self.old) (validation self.new)) }
         ensures err { IfErr result (λ fault. fault ≢ FaultKind.NoMemory →
             RefusesLine self.old.version begun this.now fault) }
     {
@@ -115,8 +115,8 @@ impl<'a, A: Allocator + Copy> Judged<'a, A> {
                 self.events = after;
                 Ok(())
             }
-            Ok(Entry::Event(said)) => {
-                self.count(line, said.spelled_len());
+            Ok(Entry::Event(parsed)) => {
+                self.count(line, parsed.spelled_len());
                 Ok(())
             }
             Err(fault) => Err(fault),
@@ -125,7 +125,7 @@ impl<'a, A: Allocator + Copy> Judged<'a, A> {
 
     // Counts the bytes that a line spells.
     fn count(&mut self, line: u64, len: usize)
-        ensures { judgement self.new ≡ (if nat_lt (judgement self.old).longest len then record (judgement self.old) { longest = len; longest_line = line } else judgement self.old) }
+        ensures { validation self.new ≡ (if nat_lt (validation self.old).longest len then record (validation self.old) { longest = len; longest_line = line } else validation self.old) }
     {
         if len > self.longest {
             self.longest = len;

@@ -2,7 +2,7 @@
 use Rattle.std.specs.Prelude.{◌≡◌, ℕ, ◌^◌, ◌<◌, List, [], ◌∷◌}
 use Rattle.board.specs.declared.event.EventKind.{EventKind}
 use Rattle.board.specs.declared.event.EventKind.TheVariants as what
-use Rattle.trace.specs.declared.read.said.Said.{Said}
+use Rattle.trace.specs.declared.read.parsed_event.ParsedEvent.{ParsedEvent}
 use Rattle.trace.specs.declared.word.Word.TheVariants.{MemWrite, Input, Restore}
 use Rattle.trace.specs.Printable.{IsPrintableKind, KindInRange}
 use Rattle.hexadecimal.specs.Spelling.{num}
@@ -10,22 +10,22 @@ use Rattle.trace.specs.Text.{line, what_fields}
 use Rattle.trace.specs.Words.{Bytes, Says, spelled}
 
 -- the fields of what a slot is said to do; where it has bytes, this field spells them
-abbrev pub what_said : {A : Type 0} → ℕ → EventKind A → List ℕ → List (List ℕ)
-what_said slot (what.MemWrite addr bs) field = spelled MemWrite ∷ num slot ∷ num addr ∷ field ∷ []
-what_said slot (what.Input bs) field = spelled Input ∷ num slot ∷ field ∷ []
-what_said slot (what.Restore bs) field = spelled Restore ∷ num slot ∷ field ∷ []
-what_said slot w field = what_fields slot w
+abbrev pub what_parsed : {A : Type 0} → ℕ → EventKind A → List ℕ → List (List ℕ)
+what_parsed slot (what.MemWrite addr bs) field = spelled MemWrite ∷ num slot ∷ num addr ∷ field ∷ []
+what_parsed slot (what.Input bs) field = spelled Input ∷ num slot ∷ field ∷ []
+what_parsed slot (what.Restore bs) field = spelled Restore ∷ num slot ∷ field ∷ []
+what_parsed slot w field = what_fields slot w
 
-abbrev pub said_fields : {A : Type 0} → Said A → List (List ℕ)
-said_fields s = what_said s.event.slot s.event.what s.bytes.now
+abbrev pub parsed_fields : {A : Type 0} → ParsedEvent A → List (List ℕ)
+parsed_fields s = what_parsed s.event.slot s.event.what s.bytes.now
 
-unfoldable pub said_line : {A : Type 0} → Said A → List ℕ
-said_line s = line (said_fields s)
+unfoldable pub parsed_line : {A : Type 0} → ParsedEvent A → List ℕ
+parsed_line s = line (parsed_fields s)
 
 -- bytes that are still spelled, by this field
 pub record AreSpelled (bs field : List ℕ) : Type 0 where
   pub none : bs ≡ []
-  pub said : Says Bytes field
+  pub parsed : Says Bytes field
 
 -- the same of bytes for an address
 pub record AreSpelledAt (addr : ℕ) (bs field : List ℕ) : Type 0 where
@@ -44,6 +44,6 @@ IsFineWhat (what.Input bs) field = AreSpelled bs field
 IsFineWhat (what.Restore bs) field = AreSpelled bs field
 IsFineWhat w field = IsPlain w field
 
-pub record IsFineSaid {A : Type 0} (s : Said A) : Type 0 where
+pub record IsFineParsed {A : Type 0} (s : ParsedEvent A) : Type 0 where
   pub slot : s.event.slot < 2 ^ 8
   pub what : IsFineWhat s.event.what s.bytes.now

@@ -1,6 +1,6 @@
 use Rattle.std.proofs.Common.{arith}
 use Rattle.trace.proofs.Fronts.{slot_one, slot_two}
-use Rattle.trace.proofs.read.frequent.take_slot.Goals as goal
+use Rattle.trace.proofs.read.fast_path.take_slot.Goals as goal
 
 pub returns-in-32 : goal.returns-in-32
 returns-in-32 c =

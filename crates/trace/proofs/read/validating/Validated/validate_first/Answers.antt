@@ -1,10 +1,10 @@
 use Rattle.std.proofs.Common.{refl, inl, inr}
-use Rattle.trace.proofs.Judgements.{first_event_judged}
-use Rattle.trace.proofs.read.judging.Judged.judge_first.Goals as goal
+use Rattle.trace.proofs.Validations.{first_event_validated}
+use Rattle.trace.proofs.read.validating.Validated.validate_first.Goals as goal
 
 pub returns-in-Some-clause-ok : goal.returns-in-Some-clause-ok
 returns-in-Some-clause-ok g c =
-    first_event_judged c.args.text.now c.in-Some.after.now c.args.line c.in-Some.said _ _ c.in-Some.ensures.line c.in-Some.ensures.fine c.in-Some.ensures.each c.requires.numbered
+    first_event_validated c.args.text.now c.in-Some.after.now c.args.line c.in-Some.parsed _ _ c.in-Some.ensures.line c.in-Some.ensures.fine c.in-Some.ensures.each c.requires.numbered
     (rw c.spelled_len.ensures at c.count.ensures)
 
 pub returns-in_default-take_line-clause-err : goal.returns-in_default-take_line-clause-err

@@ -1,4 +1,4 @@
--- What was judged of a text so far, and one line more.
+-- What was validated of a text so far, and one line more.
 use Rattle.std.proofs.Common.{◌≡◌, ◌≢◌, ℕ, ◌+◌, ◌<◌, ◌≤◌, ◌==◌, Bool, true, false, not, nat_lt, if◌then◌else◌, List, [], ◌∷◌, ◌++◌, length, map, refl, sym, ap, subst, ◌∙◌, arith, inl, inr}
 use Rattle.std.proofs.lemmas.Bool.{cases_Bool, cases_lt, eq-eqb, eqb-true, ltb-false, ltb-true}
 use Rattle.std.proofs.lemmas.List.{append-nil, length-append, length-map, map_push, nil_from_length}
@@ -9,30 +9,30 @@ use Rattle.trace.specs.declared.disks.Disks.{Disks}
 use Rattle.trace.specs.declared.fault.FaultKind.{FaultKind}
 use Rattle.trace.specs.declared.fault.FaultKind.TheVariants as kind
 use Rattle.trace.specs.declared.fault.TraceFault.{TraceFault}
-use Rattle.trace.specs.declared.read.said.Said.{Said}
+use Rattle.trace.specs.declared.read.parsed_event.ParsedEvent.{ParsedEvent}
 use Rattle.trace.specs.declared.word.Word.{Word}
 use Rattle.trace.specs.Cuts.{fields_of, lines_of}
 use Rattle.trace.specs.Faults.{IsFault, IsCleanBefore}
-use Rattle.trace.specs.Judging.{HaveRoom, IsJudged, JudgesFirst, JudgesLine, Judgement, RefusesFirst, begun_before, bytes_len, said_len}
+use Rattle.trace.specs.Validating.{HaveRoom, IsValidated, ValidatesFirst, ValidatesLine, Validation, RefusesFirst, begun_before, bytes_len, parsed_len}
 use Rattle.trace.specs.Refusals.{IsFineSlot, RefusesLine, SaysEvent, SaysSlot, with_event, with_slot}
 use Rattle.trace.specs.Reading.{IsTraceFault}
-use Rattle.trace.specs.Said.{IsFineSaid, said_fields, said_line}
+use Rattle.trace.specs.ParsedEvent.{IsFineParsed, parsed_fields, parsed_line}
 use Rattle.trace.specs.Text.{Content, event_fields, event_line, joined, slot_fields, word_for}
 use Rattle.trace.specs.Words.{IsInEach, IsWordOf}
-use Rattle.trace.proofs.Saying.{cut_said, meant}
+use Rattle.trace.proofs.Saying.{cut_parsed, meant}
 use Rattle.trace.proofs.Signs.{line-fields_of}
 use Rattle.trace.proofs.Sofar.{Sofar, all_read, clean, event_read, is_cut, is_refused, length_joined, slot_read, taken}
 use Rattle.trace.proofs.Unique.{no_fault, one_trace, text_clean}
 
--- a line that says an event was judged, and this is kept of how many bytes it spells
-counted_as : (A : Type 0) (begun : Bool) (line after : List ℕ) (longest longest_line : ℕ) (s : Said A) (old new : Judgement) → fields_of line ≡ said_fields s → IsFineSaid s → IsWordOf old.version (word_for s.event.what)
-    → said_len s ≤ longest → old.longest ≤ longest → (1 ≤ old.longest_line → 1 ≤ longest_line) → new ≡ record old { longest = longest; longest_line = longest_line } → JudgesLine A begun line after old new
+-- a line that says an event was validated, and this is kept of how many bytes it spells
+counted_as : (A : Type 0) (begun : Bool) (line after : List ℕ) (longest longest_line : ℕ) (s : ParsedEvent A) (old new : Validation) → fields_of line ≡ parsed_fields s → IsFineParsed s → IsWordOf old.version (word_for s.event.what)
+    → parsed_len s ≤ longest → old.longest ≤ longest → (1 ≤ old.longest_line → 1 ≤ longest_line) → new ≡ record old { longest = longest; longest_line = longest_line } → ValidatesLine A begun line after old new
 counted_as A begun line after longest longest_line s old new is fine of fits longer numbered e =
     let it = meant s fine in
     let len = it.len in
     inr (record {
       event = it.event;
-      said = record { fields = is ∙ sym it.fields_are; fine = it.fine; of_version = subst (λ (w : Word). IsWordOf old.version w) (sym it.word) of };
+      parsed = record { fields = is ∙ sym it.fields_are; fine = it.fine; of_version = subst (λ (w : Word). IsWordOf old.version w) (sym it.word) of };
       fits = rw e (omega arith);
       longer = rw e longer;
       numbered = rw e numbered;
@@ -40,30 +40,30 @@ counted_as A begun line after longest longest_line s old new is fine of fits lon
     })
 
 -- the same, by whether it spells the most so far
-pub event_judged : (A : Type 0) (begun : Bool) (line after : List ℕ) (n : ℕ) (s : Said A) (old new : Judgement) → fields_of line ≡ said_fields s → IsFineSaid s → IsWordOf old.version (word_for s.event.what) → 1 ≤ n
-    → new ≡ (if nat_lt old.longest (said_len s) then record old { longest = said_len s; longest_line = n } else old) → JudgesLine A begun line after old new
-event_judged A begun line after n s old new is fine of numbered counted =
-    elim (cases_Bool (nat_lt old.longest (said_len s))) [
+pub event_validated : (A : Type 0) (begun : Bool) (line after : List ℕ) (n : ℕ) (s : ParsedEvent A) (old new : Validation) → fields_of line ≡ parsed_fields s → IsFineParsed s → IsWordOf old.version (word_for s.event.what) → 1 ≤ n
+    → new ≡ (if nat_lt old.longest (parsed_len s) then record old { longest = parsed_len s; longest_line = n } else old) → ValidatesLine A begun line after old new
+event_validated A begun line after n s old new is fine of numbered counted =
+    elim (cases_Bool (nat_lt old.longest (parsed_len s))) [
       | inl more ↦
-          let lt = ltb-true old.longest (said_len s) more in
-          counted_as A begun line after (said_len s) n s old new is fine of (omega arith) (omega arith) (λ _. numbered) (rw more at counted)
+          let lt = ltb-true old.longest (parsed_len s) more in
+          counted_as A begun line after (parsed_len s) n s old new is fine of (omega arith) (omega arith) (λ _. numbered) (rw more at counted)
       | inr same ↦
-          let le = ltb-false old.longest (said_len s) same in
+          let le = ltb-false old.longest (parsed_len s) same in
           counted_as A begun line after old.longest old.longest_line s old new is fine of le (omega arith) (λ h. h) (rw same at counted)
     ]
 
 -- the same of the first line of what is left, which says an event in each version
-pub first_event_judged : {A : Type 0} (rest after : List ℕ) (n : ℕ) (s : Said A) (old new : Judgement) → rest ≡ said_line s ++ 10 ∷ after → IsFineSaid s
-    → IsInEach (word_for s.event.what) → 1 ≤ n → new ≡ (if nat_lt old.longest (said_len s) then record old { longest = said_len s; longest_line = n } else old)
-    → JudgesFirst A rest after old new
-first_event_judged {A = A} rest after n s old new ended fine each numbered counted = record {
-  line = said_line s;
+pub first_event_validated : {A : Type 0} (rest after : List ℕ) (n : ℕ) (s : ParsedEvent A) (old new : Validation) → rest ≡ parsed_line s ++ 10 ∷ after → IsFineParsed s
+    → IsInEach (word_for s.event.what) → 1 ≤ n → new ≡ (if nat_lt old.longest (parsed_len s) then record old { longest = parsed_len s; longest_line = n } else old)
+    → ValidatesFirst A rest after old new
+first_event_validated {A = A} rest after n s old new ended fine each numbered counted = record {
+  line = parsed_line s;
   ended = ended;
-  judged = event_judged A (begun_before old rest) (said_line s) after n s old new (cut_said s fine) fine (each old.version) numbered counted;
+  validated = event_validated A (begun_before old rest) (parsed_line s) after n s old new (cut_parsed s fine) fine (each old.version) numbered counted;
 }
 
 -- the lines so far are those of a trace, of which this is kept
-pub record JudgedSofar (A : Type 0) (whole : List ℕ) (j : Judgement) (k : ℕ) (rest : List ℕ) : Type 0 where
+pub record ValidatedSofar (A : Type 0) (whole : List ℕ) (j : Validation) (k : ℕ) (rest : List ℕ) : Type 0 where
   pub trace : Content A
   pub so : Sofar whole trace k rest
   pub version : trace.version ≡ j.version
@@ -74,10 +74,10 @@ pub record JudgedSofar (A : Type 0) (whole : List ℕ) (j : Judgement) (k : ℕ)
   pub numbered : 1 ≤ j.longest_line
 
 -- the first two lines
-pub judged_first : (A : Type 0) (whole : List ℕ) (version : ℕ) (disks : Disks) (rest : List ℕ) → Sofar {A = A} whole (record { version = version; disks = disks; slots = []; events = [] }) 3 rest
-    → JudgedSofar A whole (record { version = version; disks = disks; slots = []; events = rest; longest = 0; longest_line = 1 }) 3 rest
+pub validated_first : (A : Type 0) (whole : List ℕ) (version : ℕ) (disks : Disks) (rest : List ℕ) → Sofar {A = A} whole (record { version = version; disks = disks; slots = []; events = [] }) 3 rest
+    → ValidatedSofar A whole (record { version = version; disks = disks; slots = []; events = rest; longest = 0; longest_line = 1 }) 3 rest
 unfolding joined
-judged_first A whole version disks rest so = record {
+validated_first A whole version disks rest so = record {
   trace = record { version = version; disks = disks; slots = []; events = [] };
   so = so;
   version = refl;
@@ -94,7 +94,7 @@ unfolding joined
 no_lines [] rest none = refl
 no_lines (e ∷ es) rest none = absurd (omega arith)
 
-module _ (A : Type 0) (whole : List ℕ) (j : Judgement) (k : ℕ) (rest : List ℕ) (s : JudgedSofar A whole j k rest) where
+module _ (A : Type 0) (whole : List ℕ) (j : Validation) (k : ℕ) (rest : List ℕ) (s : ValidatedSofar A whole j k rest) where
   -- events have begun where their lines begin before the rest
   pub some_events : length j.events ≢ length rest → 0 < length s.trace.events
   some_events other =
@@ -108,13 +108,13 @@ module _ (A : Type 0) (whole : List ℕ) (j : Judgement) (k : ℕ) (rest : List 
       omega (arith, ap length s.lines, length-append (joined (map event_line s.trace.events)) rest, length_joined (map event_line s.trace.events), length-map s.trace.events event_line)
 
 -- one line more
-slot_more : (A : Type 0) (whole : List ℕ) (j : Judgement) (k : ℕ) (rest l after : List ℕ) (begun : Bool) (slot : SlotSpec) → JudgedSofar A whole j k rest → rest ≡ l ++ 10 ∷ after
-    → begun ≡ not (length j.events == length rest) → SaysSlot j.version begun l slot → JudgedSofar A whole (record j { slots = j.slots ++ slot ∷ []; events = after }) (k + 1) after
-slot_more A whole j k rest l after begun slot s cut test said =
-    let same : (length j.events == length rest) ≡ true = elim (cases_Bool (length j.events == length rest)) [ inl same ↦ same | inr other ↦ absurd (said.early (test ∙ ap not other)) ] in
+slot_more : (A : Type 0) (whole : List ℕ) (j : Validation) (k : ℕ) (rest l after : List ℕ) (begun : Bool) (slot : SlotSpec) → ValidatedSofar A whole j k rest → rest ≡ l ++ 10 ∷ after
+    → begun ≡ not (length j.events == length rest) → SaysSlot j.version begun l slot → ValidatedSofar A whole (record j { slots = j.slots ++ slot ∷ []; events = after }) (k + 1) after
+slot_more A whole j k rest l after begun slot s cut test parsed =
+    let same : (length j.events == length rest) ≡ true = elim (cases_Bool (length j.events == length rest)) [ inl same ↦ same | inr other ↦ absurd (parsed.early (test ∙ ap not other)) ] in
     let none = no_events A whole j k rest s (eqb-true (length j.events) (length rest) same) in
-    let is = subst (λ (v : ℕ). fields_of l ≡ slot_fields v slot) (sym s.version) said.fields in
-    let fine = subst (λ (v : ℕ). IsFineSlot v slot) (sym s.version) said.fine in
+    let is = subst (λ (v : ℕ). fields_of l ≡ slot_fields v slot) (sym s.version) parsed.fields in
+    let fine = subst (λ (v : ℕ). IsFineSlot v slot) (sym s.version) parsed.fine in
     record {
       trace = with_slot s.trace slot;
       so = slot_read whole s.trace k rest l after slot s.so cut is fine none;
@@ -126,35 +126,35 @@ slot_more A whole j k rest l after begun slot s cut test said =
       numbered = s.numbered;
     }
 
-event_more : (A : Type 0) (whole : List ℕ) (j : Judgement) (k longest longest_line : ℕ) (rest l after : List ℕ) (event : Event A) → JudgedSofar A whole j k rest → rest ≡ l ++ 10 ∷ after
-    → SaysEvent j.version l event → bytes_len event.what ≤ longest → j.longest ≤ longest → 1 ≤ longest_line → JudgedSofar A whole (record j { longest = longest; longest_line = longest_line }) (k + 1) after
+event_more : (A : Type 0) (whole : List ℕ) (j : Validation) (k longest longest_line : ℕ) (rest l after : List ℕ) (event : Event A) → ValidatedSofar A whole j k rest → rest ≡ l ++ 10 ∷ after
+    → SaysEvent j.version l event → bytes_len event.what ≤ longest → j.longest ≤ longest → 1 ≤ longest_line → ValidatedSofar A whole (record j { longest = longest; longest_line = longest_line }) (k + 1) after
 unfolding event_line
-event_more A whole j k longest longest_line rest l after event s cut said fits longer numbered =
+event_more A whole j k longest longest_line rest l after event s cut parsed fits longer numbered =
     let es = s.trace.events in
     record {
       trace = with_event s.trace event;
-      so = event_read whole s.trace k rest l after event s.so cut said.fields said.fine (subst (λ (v : ℕ). IsWordOf v (word_for event.what)) (sym s.version) said.of_version);
+      so = event_read whole s.trace k rest l after event s.so cut parsed.fields parsed.fine (subst (λ (v : ℕ). IsWordOf v (word_for event.what)) (sym s.version) parsed.of_version);
       version = s.version;
       disks = s.disks;
       slots = s.slots;
       lines = taken j.events (map event_line es) (map event_line (es ++ event ∷ [])) rest l after s.lines cut
-          (map_push event_line es event ∙ ap (λ (x : List ℕ). map event_line es ++ x ∷ []) (sym (line-fields_of l (event_fields event) said.fields)));
+          (map_push event_line es event ∙ ap (λ (x : List ℕ). map event_line es ++ x ∷ []) (sym (line-fields_of l (event_fields event) parsed.fields)));
       fit = All-push (λ (e : Event A). bytes_len e.what ≤ longest) es event
           (All-weaker (λ (e : Event A). bytes_len e.what ≤ j.longest) (λ (e : Event A). bytes_len e.what ≤ longest) (λ e h. omega arith) es s.fit) fits;
       numbered = numbered;
     }
 
-pub judged_more : (A : Type 0) (whole : List ℕ) (j new : Judgement) (k : ℕ) (rest l after : List ℕ) (begun : Bool) → JudgedSofar A whole j k rest → rest ≡ l ++ 10 ∷ after
-    → begun ≡ not (length j.events == length rest) → JudgesLine A begun l after j new → JudgedSofar A whole new (k + 1) after
-judged_more A whole j new k rest l after begun s cut test (inl judges) =
-    subst (λ (n : Judgement). JudgedSofar A whole n (k + 1) after) (sym judges.is) (slot_more A whole j k rest l after begun judges.slot s cut test judges.said)
-judged_more A whole j new k rest l after begun s cut test (inr judges) =
-    subst (λ (n : Judgement). JudgedSofar A whole n (k + 1) after) (sym judges.is)
-    (event_more A whole j k new.longest new.longest_line rest l after judges.event s cut judges.said judges.fits judges.longer (judges.numbered s.numbered))
+pub validated_more : (A : Type 0) (whole : List ℕ) (j new : Validation) (k : ℕ) (rest l after : List ℕ) (begun : Bool) → ValidatedSofar A whole j k rest → rest ≡ l ++ 10 ∷ after
+    → begun ≡ not (length j.events == length rest) → ValidatesLine A begun l after j new → ValidatedSofar A whole new (k + 1) after
+validated_more A whole j new k rest l after begun s cut test (inl validates) =
+    subst (λ (n : Validation). ValidatedSofar A whole n (k + 1) after) (sym validates.is) (slot_more A whole j k rest l after begun validates.slot s cut test validates.parsed)
+validated_more A whole j new k rest l after begun s cut test (inr validates) =
+    subst (λ (n : Validation). ValidatedSofar A whole n (k + 1) after) (sym validates.is)
+    (event_more A whole j k new.longest new.longest_line rest l after validates.event s cut validates.parsed validates.fits validates.longer (validates.numbered s.numbered))
 
-pub first_more : (A : Type 0) (whole : List ℕ) (j new : Judgement) (k : ℕ) (rest after : List ℕ) → JudgedSofar A whole j k rest → JudgesFirst A rest after j new
-    → JudgedSofar A whole new (k + 1) after
-first_more A whole j new k rest after s h = judged_more A whole j new k rest h.line after (begun_before j rest) s h.ended refl h.judged
+pub first_more : (A : Type 0) (whole : List ℕ) (j new : Validation) (k : ℕ) (rest after : List ℕ) → ValidatedSofar A whole j k rest → ValidatesFirst A rest after j new
+    → ValidatedSofar A whole new (k + 1) after
+first_more A whole j new k rest after s h = validated_more A whole j new k rest h.line after (begun_before j rest) s h.ended refl h.validated
 
 -- ---- what is answered
 
@@ -168,13 +168,13 @@ is_fault A whole fault named numbered clean' = record {
 }
 
 -- the fault of a line after the second
-pub fault_later : (A : Type 0) (whole : List ℕ) (j : Judgement) (k : ℕ) (rest : List ℕ) (fault : TraceFault) → JudgedSofar A whole j k rest → fault.line ≡ k → (fault.kind ≢ kind.NoMemory → IsFault whole k fault.kind) → IsTraceFault A whole fault
+pub fault_later : (A : Type 0) (whole : List ℕ) (j : Validation) (k : ℕ) (rest : List ℕ) (fault : TraceFault) → ValidatedSofar A whole j k rest → fault.line ≡ k → (fault.kind ≢ kind.NoMemory → IsFault whole k fault.kind) → IsTraceFault A whole fault
 fault_later A whole j k rest fault s here named =
     let count = s.so.count in
     is_fault A whole fault (rw here named) (omega arith) (rw here (clean whole s.trace k rest s.so))
 
 -- the next line isn't ended
-pub is_cut_off : (A : Type 0) (whole : List ℕ) (j : Judgement) (k : ℕ) (rest : List ℕ) → JudgedSofar A whole j k rest → lines_of rest ≡ rest ∷ [] → length rest ≢ 0 → IsFault whole k kind.Cut
+pub is_cut_off : (A : Type 0) (whole : List ℕ) (j : Validation) (k : ℕ) (rest : List ℕ) → ValidatedSofar A whole j k rest → lines_of rest ≡ rest ∷ [] → length rest ≢ 0 → IsFault whole k kind.Cut
 is_cut_off A whole j k rest s last some = is_cut whole s.trace k rest s.so last (λ e. some (ap length e))
 
 true_not_false : true ≡ false → ⊥
@@ -185,7 +185,7 @@ not_false true e = refl
 not_false false e = absurd cc
 
 -- the next line is refused
-pub is_refused_now : (A : Type 0) (whole : List ℕ) (j : Judgement) (k : ℕ) (rest l after : List ℕ) (begun : Bool) (fault : FaultKind) → JudgedSofar A whole j k rest → lines_of rest ≡ l ∷ lines_of after
+pub is_refused_now : (A : Type 0) (whole : List ℕ) (j : Validation) (k : ℕ) (rest l after : List ℕ) (begun : Bool) (fault : FaultKind) → ValidatedSofar A whole j k rest → lines_of rest ≡ l ∷ lines_of after
     → begun ≡ not (length j.events == length rest) → RefusesLine j.version begun l fault → fault ≢ kind.NoMemory → IsFault whole k fault
 is_refused_now A whole j k rest l after begun fault s cut test h known =
     is_refused whole s.trace k rest s.so begun l after fault cut
@@ -194,7 +194,7 @@ is_refused_now A whole j k rest l after begun fault s cut test h known =
     (subst (λ (v : ℕ). RefusesLine v begun l fault) (sym s.version) h) known
 
 -- the same, or it isn't ended
-pub first_refused : (A : Type 0) (whole : List ℕ) (j : Judgement) (k : ℕ) (rest : List ℕ) (fault : FaultKind) → JudgedSofar A whole j k rest
+pub first_refused : (A : Type 0) (whole : List ℕ) (j : Validation) (k : ℕ) (rest : List ℕ) (fault : FaultKind) → ValidatedSofar A whole j k rest
     → length rest ≢ 0 → RefusesFirst j rest fault → fault ≢ kind.NoMemory → IsFault whole k fault
 first_refused A whole j k rest fault s some (inl cut) known =
     subst (λ (f : FaultKind). IsFault whole k f) (sym cut.named) (is_cut_off A whole j k rest s cut.last some)
@@ -202,8 +202,8 @@ first_refused A whole j k rest fault s some (inr next) known =
     is_refused_now A whole j k rest next.line next.after (begun_before j rest) fault s next.cut refl next.refused known
 
 -- nothing is left
-pub judged_whole : (A : Type 0) (whole : List ℕ) (j : Judgement) (k : ℕ) (rest : List ℕ) → JudgedSofar A whole j k rest → length rest ≡ 0 → IsJudged A whole j
-judged_whole A whole j k rest s none =
+pub validated_whole : (A : Type 0) (whole : List ℕ) (j : Validation) (k : ℕ) (rest : List ℕ) → ValidatedSofar A whole j k rest → length rest ≡ 0 → IsValidated A whole j
+validated_whole A whole j k rest s none =
     let t = s.trace in
     let found = all_read whole t k rest s.so none in
     record {
@@ -226,8 +226,8 @@ judged_whole A whole j k rest s none =
     }
 
 -- there is no memory for the bytes of a line of a trace
-pub no_room : (A : Type 0) (whole : List ℕ) (j : Judgement) (fault : TraceFault) → IsJudged A whole j → fault.line ≡ j.longest_line → fault.kind ≡ kind.NoMemory → IsTraceFault A whole fault
-no_room A whole j fault judged here want =
-    let numbered = judged.numbered in
+pub no_room : (A : Type 0) (whole : List ℕ) (j : Validation) (fault : TraceFault) → IsValidated A whole j → fault.line ≡ j.longest_line → fault.kind ≡ kind.NoMemory → IsTraceFault A whole fault
+no_room A whole j fault validated here want =
+    let numbered = validated.numbered in
     is_fault A whole fault (λ known. absurd (known want)) (omega (arith, here))
-    (subst (λ (text' : List ℕ). IsCleanBefore text' fault.line) (sym judged.read.found) (text_clean judged.trace fault.line (record { range = judged.read.range; printable = judged.read.printable })))
+    (subst (λ (text' : List ℕ). IsCleanBefore text' fault.line) (sym validated.read.found) (text_clean validated.trace fault.line (record { range = validated.read.range; printable = validated.read.printable })))

@@ -1,7 +1,0 @@
-use Rattle.trace.proofs.Judgements.{event_judged}
-use Rattle.trace.proofs.read.judging.Judged.judge_line.Goals as goal
-
-pub returns-in-Ok-Event-clause-ok : goal.returns-in-Ok-Event-clause-ok
-returns-in-Ok-Event-clause-ok g c =
-    event_judged _ c.args.begun c.args.this.now c.args.after.now c.args.line c.in-Ok-Event.said _ _ (rw c.in-Ok-Event.field-0-is at c.in-Ok-Event.ensures.ok) (rw c.in-Ok-Event.field-0-is at c.in-Ok-Event.ensures.fine).0 (rw c.in-Ok-Event.field-0-is at c.in-Ok-Event.ensures.fine).1 c.requires.numbered
-    (rw c.spelled_len.ensures at c.count.ensures)
