@@ -27,7 +27,8 @@
  *
  * The library keeps no pointer of the caller but those of loans (kalyubos_create_lent): a call copies what it needs. Each call answers a number. After any but
  * KALYUBOS_DONE its out parameters are unchanged, with three exceptions: `pending` is told after every answer where the
- * slot exists, `took` after KALYUBOS_MORE too, and kalyubos_judge tells what its answer is about. The numbers never change; a later version only adds some.
+ * slot exists, `took` after KALYUBOS_MORE too, and kalyubos_judge tells what its answer is about. The numbers never
+ * change; a later version only adds some.
  *
  * A struct that the host fills begins with its `size`, its sizeof in the header that the host was built with. This
  * version takes its own size alone, and answers KALYUBOS_BAD_SIZE for any other before it looks at another field. A
@@ -273,9 +274,9 @@ uint32_t kalyubos_create(struct kalyubos *board, const struct kalyubos_slot *slo
 
 /*
  * Judge slots as kalyubos_create does over an image of `sectors` sectors, and as kalyubos_create_hosted does, and make no
- * board. They answer the number that this call would answer for them, up to EXTENTS_OVERLAP, with `slot` and `region` told
- * where it is about one: the slot's place in the array, of BAD_SIZE and BAD_OUTLET too, and the region's place in its
- * `regions`. NO_MEMORY may come in the place of a number from NO_SLOTS on.
+ * board. They answer what that call would answer for the slots, up to EXTENTS_OVERLAP. `slot` is told where the answer is
+ * about one: its place in the array, of BAD_SIZE and BAD_OUTLET too. So is `region`: its place in the slot's `regions`.
+ * NO_MEMORY may come in the place of a number from NO_SLOTS on.
  */
 uint32_t kalyubos_judge(const struct kalyubos_slot *slots, size_t slots_len, uint64_t sectors, size_t *slot, size_t *region);
 uint32_t kalyubos_judge_hosted(const struct kalyubos_slot *slots, size_t slots_len, size_t *slot, size_t *region);
@@ -330,7 +331,8 @@ struct kalyubos_loan {
  * BAD_LOAN comes after BAD_SIZE and before all other numbers. NO_MEMORY may come in the place of all but BAD_SIZE.
  *
  * Each loan is taken: null and 0 are left in its place. After HAS_BOARD and BAD_SIZE all loans are as they were; after another
- * refusal the first of them are taken, which may be none or all, and the others are as they were. The bytes of a refused call are the host's again; it fills the array before it tries again.
+ * refusal the first of them are taken, which may be none or all, and the others are as they were. The bytes of a refused
+ * call are the host's again; it fills the array before it tries again.
  *
  * Until kalyubos_destroy the bytes stay mapped where they are, and no two loans of any boards share a byte. The duty above
  * on a guest's memory in place holds of them: nobody touches them while a call for their guest runs.
