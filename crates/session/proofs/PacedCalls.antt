@@ -175,7 +175,7 @@ module _ {A I : Type 0} (disk : I → Disk) (limit : Option ℕ) (old : PacedSta
               begun disk old board slot t block console out out' (response_to t)
               (record { slot = slot; what = what.now }) noted refl is
               (taken.takes tells fits) refl refl;
-          image = taken.stays.told;
+          image = taken.stays.tells;
           budget = refl;
           busy = λ busy. absurd (never_busy t busy);
           idle = λ idle. absurd (never_idle t idle);
@@ -201,7 +201,7 @@ module _ {A I : Type 0} (disk : I → Disk) (limit : Option ℕ) (old : PacedSta
           responds = λ tells.
               went_on disk old board slot t block console out out' (response_to t) pause noted is
               (taken.takes tells fits) refl refl;
-          image = taken.stays.told;
+          image = taken.stays.tells;
           budget = refl;
           busy = λ busy. absurd (never_busy t busy);
           idle = λ idle. absurd (never_idle t idle);
